@@ -1,0 +1,6 @@
+pub mod Variant
+pub mod Enum
+pub mod Interface
+pub mod Bits
+pub mod Capability
+pub mod Examples

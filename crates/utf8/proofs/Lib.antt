@@ -1,0 +1,5 @@
+pub mod Rules
+pub mod Grammar
+pub mod Laws
+mod Scan
+mod Examples

@@ -1,0 +1,2 @@
+pub mod Rfc3629
+pub mod Lead

@@ -1,0 +1,4 @@
+pub mod Bytes
+pub mod Splices
+pub mod Records
+pub mod Trials
