@@ -1,0 +1,83 @@
+-- The n-th timed request that `next_request` gives for a device is the n-th taken on it, and while the device stands the rest is queued or pending.
+-- From call to call go on the sum of Order, with what the papers call taken, and the owners of interfaces that the answers tell. Assumes nothing.
+use Prim.Native.Nat.{ℕ}
+use mathlib.Core.Path.{_≡_, refl, subst, sym}
+use mathlib.Core.Bool.{true}
+use mathlib.Core.List.{List, [], _∷_, _++_, map, append-nil, append-assoc}
+use mathlib.Core.Option.{Option}
+use lib.ListN.{List·getD-append}
+use Rattle.model.specs.Call.{Input, Load, Call, Turn, sight, mapCall, loadOf, split}
+use Rattle.model.specs.Session.{Item, Session, fresh, view}
+use Rattle.model.specs.Plan.{Outcome}
+use Rattle.model.specs.Decide.{decide}
+use Rattle.model.specs.Step.{Step, refuses, source, unchanged, step, run}
+use Rattle.model.specs.Demand3.{Made, made, takenOf, takenFrom, taken, itemsOf, given, trail, In-order, Nth}
+use Rattle.model.specs.Reachable.{sessionAfter}
+use Rattle.model.specs.Kept.{Nothing-lost}
+use Rattle.model.proofs.Plans.{decide-formed}
+use Rattle.model.proofs.Within.{Comes, within, beyond, comes, limit-refuses}
+use Rattle.model.proofs.Order.{Keeps, edits-keep, fresh-keeps, keeps-left, keeps-all}
+use Rattle.model.proofs.Owners.{Owned, nothing-made, plan-owned, fresh-owned}
+use Rattle.model.proofs.Taken.{turn-took}
+
+-- a refused call takes nothing
+refused-taken : (d : ℕ) (ms : List Made) (s : Session Load) (o : Outcome) (c : Call Input) → refuses o ≡ true → takenOf d ms (view s) o c ≡ []
+unfolding takenOf
+refused-taken d ms s o (Call.timed i ver a) h = rw h
+refused-taken d ms s o (Call.plain c) h = refl
+
+module _ (d : ℕ) where
+  module _ (t : Turn) (ms : List Made) (s : Session Load) (T G : List (Item Load)) (k : Keeps d s T G) (w : Owned d s ms) where
+    -- what is to hold after the call, if it comes to `r`
+    abbrev Next : Step Load → Type 0
+    Next r =
+        Keeps d (r .session) (T ++ takenOf d ms (view s) (r .outcome) (t .call)) (G ++ itemsOf d (r .gave))
+        × Owned d (r .session) (ms ++ made (r .outcome) (r .events))
+
+    source-next : Next (source (split t) s)
+    unfolding source split
+    source-next = (
+      rw (← turn-took d (t .now) (t .call) s ms w) (edits-keep d (decide (view s) (t .now) (mapCall sight (t .call)) .edits) (loadOf (t .call)) s T G k),
+      plan-owned d (decide (view s) (t .now) (mapCall sight (t .call))) (loadOf (t .call)) s ms (decide-formed (view s) (t .now) (mapCall sight (t .call))) w,
+    )
+
+    unchanged-next : (o : Outcome) → refuses o ≡ true → Next (unchanged s o)
+    unfolding unchanged itemsOf
+    unchanged-next o h = (rw (refused-taken d ms s o (t .call) h, append-nil T, append-nil G) k, rw (nothing-made o, append-nil ms) w)
+
+    step-next : (r : Step Load) → Comes (split t) s r → Next r
+    step-next r (within e) = subst (λ x. Next x) (sym e) source-next
+    step-next r (beyond o h e) = subst (λ x. Next x) (sym e) (unchanged-next o (limit-refuses o h))
+
+  run-keeps : (ts : List Turn) (ms : List Made) (s : Session Load) (T G : List (Item Load)) → Keeps d s T G → Owned d s ms →
+      Keeps d (sessionAfter (map split ts) s) (T ++ takenFrom d ms s ts) (G ++ given d (run (map split ts) s))
+  unfolding takenFrom run given sessionAfter
+  run-keeps [] ms s T G k w = rw (append-nil T, append-nil G) k
+  run-keeps (t ∷ ts) ms s T G k w =
+      let r = step (split t) s in
+      let n = step-next t ms s T G k w r (comes (split t) s) in
+      let ms′ = ms ++ made (r .outcome) (r .events) in
+      rw (
+        ← append-assoc T (takenOf d ms (view s) (r .outcome) (t .call)) (takenFrom d ms′ (r .session) ts),
+        ← append-assoc G (itemsOf d (r .gave)) (given d (run (map split ts) (r .session))),
+      )
+      (run-keeps ts ms′ (r .session) _ _ (n .0) (n .1))
+
+trail-keeps : (c s n : ℕ) (vs : List (Option ℕ)) (ts : List Turn) (d : ℕ) →
+    Keeps d (sessionAfter (map split ts) (fresh c s n vs)) (taken c s n vs d ts) (given d (trail c s n vs ts))
+unfolding taken trail
+trail-keeps c s n vs ts d = run-keeps d ts [] (fresh c s n vs) [] [] (fresh-keeps d c s n vs) (fresh-owned d c s n vs)
+
+pub in-order : In-order
+unfolding In-order
+in-order c s n vs ts d = keeps-left d _ _ _ (trail-keeps c s n vs ts d)
+
+pub nth : Nth
+unfolding Nth In-order
+nth c s n vs ts d i x h =
+    let r = in-order c s n vs ts d in
+    sym (rw (r .1) (List·getD-append (given d (trail c s n vs ts)) (r .0) x i h))
+
+pub nothing-lost : Nothing-lost
+unfolding Nothing-lost
+nothing-lost c s n vs ts d h = keeps-all d _ _ _ (trail-keeps c s n vs ts d) h

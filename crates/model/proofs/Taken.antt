@@ -1,0 +1,181 @@
+-- What a plan takes is what the papers call taken: a timed request that is neither refused nor ignored, on the device that was told of its interface;
+-- any other call takes nothing. Assumes nothing.
+use Prim.Native.Nat.{ℕ, zero, suc}
+use mathlib.Core.Path.{_≡_, refl, ap, sym, _∙_}
+use mathlib.Core.Logic.{_⊎_, inl, inr}
+use mathlib.Core.Bool.{Bool, true, false, _&&_, _||_, not, cond, false≢true}
+use mathlib.Core.List.{List, [], _∷_, _++_, map, append-nil}
+use mathlib.Core.Option.{Option, none, some}
+use lib.Dec.{leb, ltb, eqb}
+use lib.ListN.{length}
+use borrow.Author.Tests.{eqb-true}
+use Rattle.eiproto.specs.Capability.{capabilityIndex}
+use Rattle.eiproto.specs.Interface.{eiTouchscreen}
+use Rattle.model.specs.Call.{Sight, Input, Load, Call, sight, load, mapCall, loadOf}
+use Rattle.model.specs.Session.{Item, Interface, Device, Session, view, mapDevice, blank}
+use Rattle.model.specs.Edit.{Amend, Edit, amended, item, at, enact}
+use Rattle.model.specs.Plan.{Outcome, Plan, answer, ignore}
+use Rattle.model.specs.Decide.{Found, later, find, linksIn, deviceForInterface, Rule, handler, member, onFound, pendAfter, ifHeld, handle, handleTimed, decidePlain, decide}
+use Rattle.model.specs.Step.{refuses}
+use Rattle.model.specs.Demand3.{Made, madeFor, wantsHeld, ignoredOn, ignored, takenOf}
+use Rattle.model.proofs.Plans.{allows, allowsAll, allows-cons, Formed, answers, acts, adds, plain-formed}
+use Rattle.model.proofs.OneDevice.{takenAt, took, tookAll, amended-keeps}
+use Rattle.model.proofs.All.{All}
+use Rattle.model.proofs.Owners.{Told, Stands, Owned}
+
+-- a test of an interface that passes: its id's test passes, or another's
+either : (linked capability id others : Bool) → (linked && (capability && id) || others) ≡ true → (id ≡ true) ⊎ (others ≡ true)
+either l c true o h = inl refl
+either true true false o h = inr h
+either true false false o h = inr h
+either false c false o h = inr h
+
+module _ (d : ℕ) (ms : List Made) (next cap object : ℕ) where
+  -- the device that links an interface is the one that it was told for
+  links-owner : (e : ℕ) {is : List Interface} → All (Told d next ms e) is → linksIn cap object is ≡ true → madeFor object d ms ≡ eqb e d
+  unfolding linksIn
+  links-owner e All.none h = absurd (false≢true h)
+  links-owner e (All.more {x = i} {xs = is} w a) h =
+      go (either (i .linked) (eqb (i .capability) cap) (eqb (i .id) object) (linksIn cap object is) h) (links-owner e a)
+    where
+      go : (eqb (i .id) object ≡ true) ⊎ (linksIn cap object is ≡ true) →
+          (linksIn cap object is ≡ true → madeFor object d ms ≡ eqb e d) → madeFor object d ms ≡ eqb e d
+      go (inl q) k = ap (λ j. madeFor j d ms) (sym (eqb-true (i .id) object q)) ∙ w .owner
+      go (inr q) k = k q
+
+module _ {P : Type 0} (d : ℕ) where
+  -- ---- a call that is no timed request
+
+  quiet-took : (e : Edit) (p : P) (s : Session P) → allows false e ≡ true → took d e p s ≡ []
+  unfolding allows took
+  quiet-took (Edit.raise n) p s h = refl
+  quiet-took (Edit.addSeat caps) p s h = refl
+  quiet-took (Edit.removeSeat seat) p s h = refl
+  quiet-took (Edit.addDevice seat caps) p s h = refl
+  quiet-took (Edit.removeDevice k) p s h = refl
+  quiet-took (Edit.removeDevicesOf seat) p s h = refl
+  quiet-took (Edit.amend k a) p s h = refl
+  quiet-took (Edit.pend k x) p s h = absurd (false≢true h)
+  quiet-took (Edit.frame k serial time) p s h = refl
+  quiet-took (Edit.queue r) p s h = refl
+  quiet-took Edit.deliver p s h = refl
+
+  quiet-tookAll : (es : List Edit) (p : P) (s : Session P) → allowsAll false es ≡ true → tookAll d es p s ≡ []
+  unfolding tookAll
+  quiet-tookAll [] p s h = refl
+  quiet-tookAll (e ∷ es) p s h =
+      let a = allows-cons false e es h in
+      rw (quiet-took e p s (a .0)) (quiet-tookAll es p (enact e p s) (a .1))
+
+  plain-took : {next : ℕ} (plan : Plan) (p : P) (s : Session P) → Formed false next plan → tookAll d (plan .edits) p s ≡ []
+  unfolding tookAll
+  plain-took plan p s (answers o) = refl
+  plain-took plan p s (acts o events edits r m a) = quiet-tookAll edits p s a
+  plain-took plan p s (adds events seat caps m) = refl
+
+  -- ---- the device found for an interface is the one that it was told for
+
+  module _ (ms : List Made) (next cap object : ℕ) (i : Item P) where
+    abbrev Takes : List (Device P) → Option Found → Type 0
+    Takes ds none = Unit {0}
+    Takes ds (some f) = takenAt d i (f .slot) ds ≡ cond (madeFor object d ms) (i ∷ []) []
+
+    later-takes : (x : Device P) (ds : List (Device P)) (w : Option Found) → Takes ds w → Takes (x ∷ ds) (later w)
+    unfolding later takenAt
+    later-takes x ds none h = tt
+    later-takes x ds (some f) h = h
+
+    cond-takes : (b : Bool) (ds : List (Device P)) (v w : Option Found) → (b ≡ true → Takes ds v) → Takes ds w → Takes ds (cond b v w)
+    cond-takes true ds v w h k = h refl
+    cond-takes false ds v w h k = k
+
+    find-takes : (ds : List (Device P)) → All (Stands d next ms) ds → Takes ds (find (λ x. linksIn cap object (x .interfaces)) (map (mapDevice blank) ds))
+    unfolding find takenAt mapDevice
+    find-takes [] All.none = tt
+    find-takes (x ∷ ds) (All.more w a) =
+        cond-takes (linksIn cap object (x .interfaces)) (x ∷ ds) _ _ (λ h. ap (λ b. cond b (i ∷ []) []) (sym (links-owner d ms next cap object (x .id) w h)))
+        (later-takes x ds (find (λ x. linksIn cap object (x .interfaces)) (map (mapDevice blank) ds)) (find-takes ds a))
+
+  -- ---- a timed request
+
+  amended-taken : (i : Item P) (a : Amend) (j k : ℕ) (ds : List (Device P)) → takenAt d i k (at (amended a) j ds) ≡ takenAt d i k ds
+  unfolding takenAt at
+  amended-taken i a j k [] = refl
+  amended-taken i a zero zero (x ∷ ds) = rw (amended-keeps a x .0)
+  amended-taken i a zero (suc k) (x ∷ ds) = refl
+  amended-taken i a (suc j) zero (x ∷ ds) = refl
+  amended-taken i a (suc j) (suc k) (x ∷ ds) = amended-taken i a j k ds
+
+  pend-took : (k : ℕ) (x : Sight) (p : P) (amends : List Amend) (s : Session P) →
+      tookAll d (map (λ a. Edit.amend k a) amends ++ (Edit.pend k x ∷ [])) p s ≡ takenAt d (item x p) k (s .devices)
+  unfolding tookAll
+  pend-took k x p [] s = append-nil _
+  pend-took k x p (a ∷ more) s = pend-took k x p more (enact (Edit.amend k a) p s) ∙ amended-taken (item x p) a k k (s .devices)
+
+  module _ (p : P) (s : Session P) (x : Sight) (owner : Bool) where
+    -- a plan takes the request for d where it is neither refused nor ignored, and its interface was told for d
+    record Fits (ignored : Bool) (plan : Plan) : Type 0 where
+      fits : tookAll d (plan .edits) p s ≡ cond (not (refuses (plan .outcome)) && (not ignored && owner)) (item x p ∷ []) []
+
+    refuse-fits : {b : Bool} (o : Outcome) → refuses o ≡ true → Fits b (answer o)
+    unfolding answer tookAll
+    refuse-fits o h = record { fits = rw h }
+
+    cond-fits : {b : Bool} (c : Bool) {v w : Plan} → Fits b v → Fits b w → Fits b (cond c v w)
+    cond-fits true h k = h
+    cond-fits false h k = k
+
+    ignore-fits : Fits true ignore
+    unfolding ignore refuses tookAll
+    ignore-fits = record { fits = refl }
+
+    -- f is the device found
+    module _ (f : Found) (h : takenAt d (item x p) (f .slot) (s .devices) ≡ cond owner (item x p ∷ []) []) where
+      pend-fits : (amends : List Amend) → Fits false (pendAfter amends f x)
+      unfolding pendAfter refuses
+      pend-fits amends = record { fits = pend-took (f .slot) x p amends s ∙ h }
+
+      held-fits : (amends : List Amend) → Fits (not (member (x .touch) (f .device .downTouchIds))) (ifHeld f x amends)
+      unfolding ifHeld
+      held-fits amends = go (member (x .touch) (f .device .downTouchIds))
+        where
+          go : (b : Bool) → Fits (not b) (cond b (pendAfter amends f x) ignore)
+          go true = pend-fits amends
+          go false = ignore-fits
+
+      handle-fits : (r : Rule) (ver : ℕ) → Fits (wantsHeld r && not (member (x .touch) (f .device .downTouchIds))) (handle r ver f x)
+      unfolding handle wantsHeld refuses
+      handle-fits Rule.queued ver = pend-fits []
+      handle-fits Rule.down ver =
+          cond-fits (leb 16 (length (f .device .downTouchIds))) (refuse-fits (Outcome.refused 4) refl)
+          (cond-fits (member (x .touch) (f .device .downTouchIds)) (refuse-fits (Outcome.refused 5) refl) (pend-fits (Amend.touchDown (x .touch) ∷ [])))
+      handle-fits Rule.motion ver = held-fits []
+      handle-fits Rule.up ver = held-fits (Amend.touchUp (x .touch) ∷ [])
+      handle-fits Rule.cancel ver = cond-fits (ltb ver 2) (refuse-fits (Outcome.refusedVersion eiTouchscreen ver) refl) (held-fits (Amend.touchUp (x .touch) ∷ []))
+      handle-fits Rule.utf8 ver =
+          cond-fits (eqb (x .size) 0) (refuse-fits (Outcome.refused 6) refl)
+          (cond-fits (ltb 254 (x .size)) (refuse-fits (Outcome.refused 6) refl) (pend-fits []))
+
+  timed-fits : (p : P) (s : Session P) (ms : List Made) (i ver : ℕ) (x : Sight) → Owned d s ms →
+      Fits p s x (madeFor i d ms) (ignored (view s) i x) (handleTimed (view s) i ver x)
+  unfolding handleTimed ignored view refuses
+  timed-fits p s ms i ver x o =
+      cond-fits p s x (madeFor i d ms) (x .valid)
+      (go (deviceForInterface cap i (view s)) (find-takes ms (s .connection .nextId) cap i (item x p) (s .devices) (o .told)))
+      (refuse-fits p s x (madeFor i d ms) (Outcome.refused 10) refl)
+    where
+      cap : ℕ
+      cap = capabilityIndex (handler (x .kind) .capability)
+
+      go : (w : Option Found) → Takes ms (s .connection .nextId) cap i (item x p) (s .devices) w →
+          Fits p s x (madeFor i d ms) (ignoredOn w x) (onFound w ignore (λ f. handle (handler (x .kind) .rule) ver f x))
+      go none h = ignore-fits p s x (madeFor i d ms)
+      go (some f) h = handle-fits p s x (madeFor i d ms) f h (handler (x .kind) .rule) ver
+
+-- ---- every call
+
+pub turn-took : (d : ℕ) (now : ℕ) (c : Call Input) (s : Session Load) (ms : List Made) → Owned d s ms →
+    tookAll d (decide (view s) now (mapCall sight c) .edits) (loadOf c) s ≡ takenOf d ms (view s) (decide (view s) now (mapCall sight c) .outcome) c
+unfolding decide mapCall loadOf takenOf
+turn-took d now (Call.timed i ver a) s ms o = timed-fits d (load a) s ms i ver (sight a) o .fits
+turn-took d now (Call.plain c) s ms o = plain-took d (decidePlain (view s) now c) Load.None s (plain-formed (view s) now c)

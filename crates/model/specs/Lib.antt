@@ -1,0 +1,12 @@
+pub mod Call
+pub mod Session
+pub mod Edit
+pub mod Plan
+pub mod Decide
+pub mod Step
+pub mod Demand3
+pub mod Payload
+pub mod Within
+pub mod Reachable
+pub mod Kept
+pub mod Trials

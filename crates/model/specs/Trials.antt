@@ -1,0 +1,158 @@
+-- Document 01's trial lines in one table, the starred ones first: the calls, and what they are to answer. (proofs/Trials.antt has the one proof.) Assumes nothing.
+use Prim.Native.Nat.{ℕ, zero, suc}
+use mathlib.Core.List.{List, [], _∷_, _++_, map}
+use mathlib.Core.Option.{Option, none, some}
+use lib.ListN.{length, drop, replicate}
+use Rattle.eiproto.specs.declared.eiproto_enum.DeviceType.{DeviceType}
+use Rattle.eiproto.specs.declared.eiproto_enum.KeyState.{KeyState}
+use lib.Ieee.{nan}
+use Rattle.model.specs.Call.{Kind, Input, Load, Plain, Call, Turn}
+use Rattle.model.specs.Session.{Item, Untimed, Request}
+use Rattle.model.specs.Plan.{Outcome, records}
+use Rattle.model.specs.Step.{Step}
+use Rattle.model.specs.Demand3.{trail}
+
+-- what a call answered, the event bytes that it wrote, the request that it gave
+pub record Answer : Type 0 where
+  pub outcome : Outcome
+  pub bytes : List ℕ
+  pub given : List (Request Load)
+
+-- a trial: the session's first serial, calls that lead up to it, the calls in question and what they are to answer
+pub record Trial : Type 0 where
+  pub serial : ℕ
+  pub before : List Turn
+  pub calls : List Turn
+  pub answers : List Answer
+
+-- ---- the words of the table
+
+-- the clock stands at 70, the lent buffers have room enough
+abbrev pub now70 : Call Input → Turn
+now70 c = record { call = c; now = 70; room = 4096 }
+
+abbrev pub a : Plain → Turn
+a c = now70 (Call.plain c)
+
+-- the ids that follow a seat with all capabilities and a device with all seven interfaces
+abbrev pub seat : ℕ
+seat = 0xff00_0000_0000_0001
+
+abbrev pub device : ℕ
+device = 0xff00_0000_0000_0002
+
+abbrev pub keyboard : ℕ
+keyboard = 0xff00_0000_0000_0005
+
+abbrev pub touchscreen : ℕ
+touchscreen = 0xff00_0000_0000_0006
+
+abbrev pub text : ℕ
+text = 0xff00_0000_0000_0009
+
+abbrev pub opening : List Turn
+opening = a (Plain.addSeat none 127) ∷ a (Plain.addDevice seat none DeviceType.Virtual 127) ∷ []
+
+abbrev pub key : Turn
+key = now70 (Call.timed keyboard 1 (Input.Key 30 KeyState.Press))
+
+abbrev pub down : ℕ → Turn
+down t = now70 (Call.timed touchscreen 2 (Input.Down t nan nan))
+
+abbrev pub utf8 : ℕ → Turn
+utf8 n = now70 (Call.timed text 1 (Input.Utf8 (replicate n 97)))
+
+abbrev pub frame : ℕ → Turn
+frame time = a (Plain.deviceFrame device 3 time)
+
+abbrev pub next : Turn
+next = a Plain.nextRequest
+
+-- touch ids 1 to n down
+abbrev pub downs : ℕ → List Turn
+downs zero = []
+downs (suc n) = downs n ++ (down (suc n) ∷ [])
+
+abbrev pub says : Outcome → Answer
+says o = record { outcome = o; bytes = []; given = [] }
+
+abbrev pub gives : Request Load → Answer
+gives r = record { outcome = Outcome.given; bytes = []; given = r ∷ [] }
+
+abbrev pub keyAt : ℕ → Request Load
+keyAt time = Request.timed device time (record { kind = Kind.KeyboardKey; touch = 0; size = 0; load = Load.KeyPress 30 KeyState.Press })
+
+abbrev pub frameAt : (lastSerial time : ℕ) → Request Load
+frameAt s t = Request.untimed (Untimed.Frame device s t)
+
+abbrev pub trial : List Turn → List Turn → List Answer → Trial
+trial before calls answers = record { serial = 7; before = opening ++ before; calls = calls; answers = answers }
+
+-- n keys wait in the queue, with the frames that sent them there
+abbrev pub queued : (keys : ℕ) → List Turn
+queued keys = replicate keys key ++ (frame 1 ∷ [])
+
+-- ---- the table
+
+abbrev pub starred : List Trial
+starred =
+    -- ★ Frame, nothing pending: queue unchanged.
+    trial [] (frame 500 ∷ next ∷ []) (says Outcome.accepted ∷ says Outcome.none ∷ [])
+    -- ★ Key, Frame at 500: KeyboardKey at 500, Frame at 500.
+    ∷ trial [] (key ∷ frame 500 ∷ next ∷ next ∷ next ∷ []) (says Outcome.accepted ∷ says Outcome.accepted ∷ gives (keyAt 500) ∷ gives (frameAt 3 500) ∷ says Outcome.none ∷ [])
+    -- ★ Key, Ready, `now` 70: Key 70, Frame 70, Ready.
+    ∷ trial (key ∷ []) (a (Plain.deviceReady device) ∷ next ∷ next ∷ next ∷ next ∷ [])
+    (says Outcome.accepted ∷ gives (keyAt 70) ∷ gives (frameAt 7 70) ∷ gives (Request.untimed (Untimed.Ready device)) ∷ says Outcome.none ∷ [])
+    -- ★ Key, Disconnect: Disconnect only; Key still pending.
+    ∷ trial (key ∷ []) (a Plain.disconnect ∷ next ∷ next ∷ frame 9 ∷ next ∷ [])
+    (says Outcome.accepted ∷ gives (Request.untimed Untimed.Disconnect) ∷ says Outcome.none ∷ says Outcome.accepted ∷ gives (keyAt 9) ∷ [])
+    -- ★ 16 held, Down of a held id: 4. ★ 15 held, same: 5.
+    ∷ trial (downs 16) (down 1 ∷ []) (says (Outcome.refused 4) ∷ [])
+    ∷ trial (downs 15) (down 1 ∷ []) (says (Outcome.refused 5) ∷ [])
+    -- ★ Text of 254 bytes taken; ★ 255: 6; ★ 0: 6.
+    ∷ trial [] (utf8 254 ∷ frame 5 ∷ next ∷ [])
+    (says Outcome.accepted ∷ says Outcome.accepted
+    ∷ gives (Request.timed device 5 (record { kind = Kind.TextUtf8; touch = 0; size = 254; load = Load.Text (replicate 254 97) })) ∷ [])
+    ∷ trial [] (utf8 255 ∷ []) (says (Outcome.refused 6) ∷ [])
+    ∷ trial [] (utf8 0 ∷ []) (says (Outcome.refused 6) ∷ [])
+    -- ★ Last serial 4294967295, `resumed`: serial 0.
+    ∷ record {
+      serial = 4294967295;
+      before = opening;
+      calls = a (Plain.resumed device) ∷ a Plain.lastSerial ∷ [];
+      answers = record { outcome = Outcome.accepted; bytes = 0x48 ∷ 0x0e ∷ 0xff ∷ 0 ∷ 0 ∷ 0 ∷ 0 ∷ 0 ∷ 0 ∷ 2 ∷ 0 ∷ 0 ∷ 0 ∷ 0 ∷ []; given = [] } ∷ says (Outcome.value 0) ∷ [];
+    }
+    -- ★ Destroyed, object ff00000000000001 hex, serial 8: `28 0e ff 00 00 00 00 00 00 01 00 00 00 08`.
+    ∷ trial [] (a (Plain.seatRelease seat) ∷ [])
+    (record { outcome = Outcome.accepted; bytes = 0x28 ∷ 0x0e ∷ 0xff ∷ 0 ∷ 0 ∷ 0 ∷ 0 ∷ 0 ∷ 0 ∷ 1 ∷ 0 ∷ 0 ∷ 0 ∷ 8 ∷ []; given = [] } ∷ [])
+    -- ★ Bind 0: taken; ★ Bind 128: 3.
+    ∷ trial [] (a (Plain.bind seat 0) ∷ next ∷ []) (says Outcome.accepted ∷ gives (Request.untimed (Untimed.Bind seat 0)) ∷ [])
+    ∷ trial [] (a (Plain.bind seat 128) ∷ []) (says (Outcome.refused 3) ∷ [])
+    ∷ []
+
+abbrev pub unstarred : List Trial
+unstarred =
+    -- 64 pending and a key: 16.
+    trial (replicate 64 key) (key ∷ []) (says (Outcome.refused 16) ∷ [])
+    -- Queue 192 long, 64 pending, Frame: 17 (257 needed). Queue 191: taken.
+    ∷ trial (queued 63 ++ (queued 63 ++ (queued 63 ++ replicate 64 key))) (frame 2 ∷ []) (says (Outcome.refused 17) ∷ [])
+    ∷ trial (queued 63 ++ (queued 63 ++ (queued 62 ++ replicate 64 key))) (frame 2 ∷ []) (says Outcome.accepted ∷ [])
+    ∷ []
+
+-- ---- what the definitions compute
+
+unfoldable pub answerOf : Step Load → Answer
+unfolding records
+answerOf r = record { outcome = r .outcome; bytes = records (r .events); given = r .gave }
+
+-- every interface negotiated at the server's version
+unfoldable pub versions : List (Option ℕ)
+versions = map some (1 ∷ 1 ∷ 1 ∷ 2 ∷ 3 ∷ 1 ∷ 1 ∷ 1 ∷ 1 ∷ 1 ∷ 2 ∷ 1 ∷ [])
+
+unfoldable pub computed : Trial → List Answer
+unfolding trail answerOf versions
+computed t =
+    map answerOf (drop (length (t .before)) (trail 0xff00_0000_0000_0000 (t .serial) 0xff00_0000_0000_0001 versions (t .before ++ t .calls)))
+
+unfoldable pub expected : Trial → List Answer
+expected t = t .answers

@@ -1,0 +1,14 @@
+pub mod TouchInsert
+pub mod BindFlush
+pub mod DisconnectedSerial
+pub mod TextSlot
+pub mod Release
+pub mod RemovalOrder
+pub mod Precedence
+pub mod FullSeatsDevices
+pub mod ShortOut
+pub mod TextBuffer
+pub mod NotNegotiated
+pub mod Fields
+pub mod PausedRemoved
+pub mod CancelVersion

@@ -1,0 +1,65 @@
+-- Interface Release unlinks, the device still lists it; a released seat stays in the table.
+-- Made by tests/equations.py from a call script and the oracle's trail of it. Assumes nothing.
+use mathlib.Core.Path.{_≡_, refl}
+use mathlib.Core.Bool.{true, false}
+use mathlib.Core.List.{List, [], _∷_}
+use mathlib.Core.Option.{Option, none, some}
+use lib.IntN.{pos, negsuc}
+use lib.Ieee.{nan}
+use Rattle.eiproto.specs.declared.eiproto_enum.ButtonState.{ButtonState}
+use Rattle.eiproto.specs.declared.eiproto_enum.DeviceType.{DeviceType}
+use Rattle.eiproto.specs.declared.eiproto_enum.DisconnectReason.{DisconnectReason}
+use Rattle.eiproto.specs.declared.eiproto_enum.KeyState.{KeyState}
+use Rattle.eiproto.specs.declared.event.DeviceCapability.{DeviceCapability}
+use Rattle.model.specs.Call.{Kind, Input, Load, HandshakeRequest, handshake, interfaceRelease, Plain, timed, plain, Turn}
+use Rattle.model.specs.Session.{Untimed, Request}
+use Rattle.model.specs.Plan.{Outcome, accepted, refused, refusedVersion, value, truth}
+use Rattle.model_cases.specs.Line.{Line, line, f32, an, turn, computed}
+
+abbrev calls1 : List Turn
+calls1 =
+    turn (plain (Plain.addSeat none 127)) 0 4096 ∷
+    turn (plain (Plain.addDevice 0xff00000000000001 none DeviceType.Virtual 127)) 0 4096 ∷
+    turn (timed 0xff00000000000005 1 (Input.Key 30 KeyState.Press)) 0 4096 ∷
+    turn (plain (interfaceRelease DeviceCapability.Keyboard 0xff00000000000005)) 0 4096 ∷
+    turn (plain (interfaceRelease DeviceCapability.Keyboard 0xff00000000000005)) 0 4096 ∷
+    turn (timed 0xff00000000000005 1 (Input.Key 30 KeyState.Press)) 0 4096 ∷
+    turn (plain (Plain.hasCapability 0xff00000000000002 DeviceCapability.Keyboard)) 0 4096 ∷
+    turn (plain (interfaceRelease DeviceCapability.Pointer 0xff00000000000005)) 0 4096 ∷
+    turn (plain (Plain.deviceFrame 0xff00000000000002 8 3)) 0 4096 ∷
+    turn (plain (Plain.nextRequest)) 0 254 ∷
+    turn (plain (Plain.seatRelease 0xff00000000000001)) 0 4096 ∷
+    turn (plain (Plain.seatRelease 0xff00000000000001)) 0 4096 ∷
+    turn (plain (Plain.seatRelease 0x0000000000000005)) 0 4096 ∷
+    turn (plain (Plain.seatRelease 0xff00000000000002)) 0 4096 ∷
+    turn (plain (Plain.bind 0xff00000000000001 0)) 0 4096 ∷
+    turn (plain (Plain.addDevice 0xff00000000000001 none DeviceType.Physical 4)) 0 4096 ∷
+    turn (plain (Plain.removeDevice 0xff00000000000002)) 0 4096 ∷
+    turn (plain (Plain.hasCapability 0xff00000000000002 DeviceCapability.Keyboard)) 0 4096 ∷
+    turn (plain (Plain.removeSeat 0xff00000000000001)) 0 4096 ∷ []
+
+abbrev trail1 : List Line
+trail1 =
+    line (Outcome.seat 0xff00000000000001) 0x10816ff00000000000000ff00000000000001000000021813ff000000000000010000000000000001061813ff000000000000010000000000000002071813ff0000000000000100000000000000040a1813ff0000000000000100000000000000080b1813ff000000000000010000000000000010081813ff000000000000010000000000000020091813ff0000000000000100000000000000400c200aff00000000000001 [] ∷
+    line (Outcome.device 0xff00000000000002) 0x13016ff00000000000001ff0000000000000200000003380eff00000000000002000000014017ff00000000000002ff0000000000000306000000014017ff00000000000002ff0000000000000407000000014017ff00000000000002ff000000000000050a000000014017ff00000000000002ff000000000000060b000000024017ff00000000000002ff0000000000000708000000014017ff00000000000002ff0000000000000809000000014017ff00000000000002ff000000000000090c00000001200aff00000000000002 [] ∷
+    line (accepted) 0x1 [] ∷
+    line (accepted) 0x1280eff0000000000000500000008 [] ∷
+    line (accepted) 0x1 [] ∷
+    line (accepted) 0x1 [] ∷
+    line (truth true) 0x1 [] ∷
+    line (accepted) 0x1 [] ∷
+    line (accepted) 0x1 [] ∷
+    line (Outcome.given) 0x1 (Request.timed 0xff00000000000002 3 (an Kind.KeyboardKey 0 0 (Load.KeyPress 30 KeyState.Press)) ∷ []) ∷
+    line (accepted) 0x1280eff0000000000000100000009 [] ∷
+    line (accepted) 0x1280eff000000000000010000000a [] ∷
+    line (accepted) 0x1280e00000000000000050000000b [] ∷
+    line (accepted) 0x1280eff000000000000020000000c [] ∷
+    line (accepted) 0x1 [] ∷
+    line (Outcome.device 0xff0000000000000a) 0x13016ff00000000000001ff0000000000000a00000003380eff0000000000000a000000024017ff0000000000000aff0000000000000b0a00000001200aff0000000000000a [] ∷
+    line (accepted) 0x1280eff000000000000030000000d280eff000000000000040000000e280eff000000000000050000000f280eff0000000000000600000010280eff0000000000000700000011280eff0000000000000800000012280eff0000000000000900000013280eff0000000000000200000014 [] ∷
+    line (refused 12) 0x1 [] ∷
+    line (accepted) 0x1280eff0000000000000b00000015280eff0000000000000a00000016280eff0000000000000100000017 [] ∷ []
+
+pub agrees1 : computed 0xff00000000000000 7 0xff00000000000001 ((some 1) ∷ (some 1) ∷ (some 1) ∷ (some 2) ∷ (some 3) ∷ (some 1) ∷ (some 1) ∷ (some 1) ∷ (some 1) ∷ (some 1) ∷ (some 2) ∷ (some 1) ∷ []) calls1 ≡ trail1
+unfolding computed
+agrees1 = refl

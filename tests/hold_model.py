@@ -1,0 +1,65 @@
+#!/usr/bin/env python3
+"""Holds the definitions of the crate `model` to the oracle on random call scripts.
+
+usage: hold_model.py ORACLE FIRST LAST [N]     run at the repository's root
+
+ORACLE is the oracle's folder (gen.py and target/release/oracle in it). For the seeds FIRST to LAST and every profile of gen.py a script of about N
+calls (300) is made and run through the oracle; equations.py turns script and trail into closed equations, and antt checks these in a copy of the
+crates. It prints what was compared, and stops with 1 at the first batch that does not agree.
+"""
+import os
+import shutil
+import subprocess
+import sys
+import tempfile
+
+HERE = os.path.dirname(os.path.abspath(__file__))
+sys.path.insert(0, HERE)
+import equations  # noqa: E402
+
+PROFILES = ["mixed", "limits", "touch", "text", "removal", "frames"]
+BATCH = 30
+
+
+def script_and_trail(oracle, seed, profile, calls):
+    made = subprocess.run([os.path.join(oracle, "gen.py"), str(seed), str(calls), "--profile", profile], capture_output=True, text=True, check=True)
+    ran = subprocess.run([os.path.join(oracle, "target/release/oracle")], input=made.stdout, capture_output=True, text=True, check=True)
+    return made.stdout.split("\n"), ran.stdout.split("\n")
+
+
+def main():
+    if len(sys.argv) not in (4, 5):
+        sys.exit(__doc__)
+    oracle, first, last = sys.argv[1], int(sys.argv[2]), int(sys.argv[3])
+    calls = sys.argv[4] if len(sys.argv) == 5 else "300"
+    work = [(seed, profile) for seed in range(first, last + 1) for profile in PROFILES]
+    scripts = sessions = turns = 0
+    with tempfile.TemporaryDirectory() as copy:
+        for name in ("crates", "crates.txt", "target"):
+            if os.path.isdir(name):
+                shutil.copytree(name, os.path.join(copy, name))
+            elif os.path.exists(name):
+                shutil.copy(name, copy)
+        proofs = os.path.join(copy, "crates/model_cases/proofs")
+        for at in range(0, len(work), BATCH):
+            for old in os.listdir(proofs):
+                os.remove(os.path.join(proofs, old))
+            modules = []
+            for seed, profile in work[at:at + BATCH]:
+                script, trail = script_and_trail(oracle, seed, profile, calls)
+                found = equations.sessions(script, trail)
+                scripts, sessions, turns = scripts + 1, sessions + len(found), turns + sum(len(s["turns"]) for s in found)
+                modules.append(f"{profile.capitalize()}{seed}")
+                with open(os.path.join(proofs, modules[-1] + ".antt"), "w") as f:
+                    f.write(equations.module(f"Seed {seed}, profile {profile}.", script, trail))
+            with open(os.path.join(proofs, "Lib.antt"), "w") as f:
+                f.write("".join(f"pub mod {m}\n" for m in modules))
+            done = subprocess.run(["rt", "check", "model_cases"], cwd=copy, capture_output=True, text=True)
+            if done.returncode != 0:
+                print("\n".join(line[:600] for line in (done.stdout + done.stderr).split("\n") if "error" in line or "differ" in line))
+                sys.exit(f"not all of {modules[0]} to {modules[-1]} agree")
+            print(f"agree: {scripts} scripts, {sessions} sessions, {turns} calls", flush=True)
+
+
+if __name__ == "__main__":
+    main()
