@@ -145,7 +145,7 @@ module _ {next : ℕ} where
   unfolding handle
   handle-formed Rule.queued v f s = pendAfter-formed [] f s
   handle-formed Rule.down v f s =
-      cond-formed (leb 16 (length (f .device .downTouchIds))) (refuse-formed 4)
+      cond-formed (leb _ (length (f .device .downTouchIds))) (refuse-formed 4)
       (cond-formed (member (s .touch) (f .device .downTouchIds)) (refuse-formed 5) (pendAfter-formed (Amend.touchDown (s .touch) ∷ []) f s))
   handle-formed Rule.motion v f s = ifHeld-formed f s []
   handle-formed Rule.up v f s = ifHeld-formed f s (Amend.touchUp (s .touch) ∷ [])

@@ -259,7 +259,7 @@ module _ {P : Type 0} (s : Session P) (p : P) where
   plain-fits now (Plain.deviceRelease d) = device-fits now d (Untimed.DeviceClosed d)
   plain-fits now (Plain.deviceStartEmulating d n q) = device-fits now d (Untimed.DeviceStartEmulating d n q)
   plain-fits now (Plain.deviceStopEmulating d n) = device-fits now d (Untimed.DeviceStopEmulating d n)
-  plain-fits now (Plain.deviceFrame d n t) = onFound-fits (deviceOf d (view s)) ignore-fits λ f. edit-fits (Edit.frame (f .slot) n t ∷ []) refl
+  plain-fits now (Plain.deviceFrame d n t) = onFound-fits (deviceOf d (view s)) ignore-fits λ f. edit-fits _ refl
   plain-fits now (Plain.deviceReady d) = device-fits now d (Untimed.Ready d)
   plain-fits now (Plain.interfaceRelease cap i) =
       onFound-fits (deviceForInterface (capabilityIndex cap) i (view s)) ignore-fits λ f. send-fits _ (Edit.raise 1 ∷ Edit.amend (f .slot) (Amend.unlink i) ∷ []) refl

@@ -147,7 +147,7 @@ module _ {P : Type 0} (d : ℕ) where
       unfolding handle wantsHeld refuses
       handle-fits Rule.queued ver = pend-fits []
       handle-fits Rule.down ver =
-          cond-fits (leb 16 (length (f .device .downTouchIds))) (refuse-fits (Outcome.refused 4) refl)
+          cond-fits (leb _ (length (f .device .downTouchIds))) (refuse-fits (Outcome.refused 4) refl)
           (cond-fits (member (x .touch) (f .device .downTouchIds)) (refuse-fits (Outcome.refused 5) refl) (pend-fits (Amend.touchDown (x .touch) ∷ [])))
       handle-fits Rule.motion ver = held-fits []
       handle-fits Rule.up ver = held-fits (Amend.touchUp (x .touch) ∷ [])
