@@ -12,11 +12,12 @@ use Rattle.eiproto.specs.Capability.{capabilityIndex, unknownBits}
 use Rattle.eiproto.specs.Interface.{eiCallback, eiTouchscreen}
 use Rattle.utf8.specs.Rfc3629.{isUtf8}
 use Rattle.wire.specs.declared.event.Event.{Event}
+use Rattle.touches.specs.Touches.{member}
 use Rattle.model.specs.Call.{Sight, HandshakeRequest, Plain, Call}
 use Rattle.model.specs.Session.{Untimed, Request, Interface, Seat, Connection, View}
 use Rattle.model.specs.Edit.{Amend, Edit, newInterfaces}
 use Rattle.model.specs.Plan.{Sent, on, Outcome, Plan, answer, refuse, ignore, edit, send}
-use Rattle.model.specs.Decide.{Found, Rule, handler, deviceForInterface, deviceOf, seatOf, checkUtf8, checkName, checkOptional, checkCapabilities, onFound, sendNext, member, pendAfter, ifHeld, handle, handleTimed, handleHandshake, handleSync, handleSeat, handleDevice, handleFrame, handleRelease, nextOf, nameEvents, interfaceEvents, addSeat, addDevice, objectsOf, seatObjects, sendDestroyed, removeDevice, removeSeat, removeSeats, disconnected, notify, decidePlain, decide}
+use Rattle.model.specs.Decide.{Found, Rule, handler, deviceForInterface, deviceOf, seatOf, checkUtf8, checkName, checkOptional, checkCapabilities, onFound, sendNext, pendAfter, ifHeld, handle, handleTimed, handleHandshake, handleSync, handleSeat, handleDevice, handleFrame, handleRelease, nextOf, nameEvents, interfaceEvents, addSeat, addDevice, objectsOf, seatObjects, sendDestroyed, removeDevice, removeSeat, removeSeats, disconnected, notify, decidePlain, decide}
 use Rattle.model.specs.Step.{refuses}
 use Rattle.model.specs.Demand3.{Made, madeOn, made}
 

@@ -7,8 +7,9 @@ use native.Mathlib.Omega.{arith}
 use lib.Dec.{eqb}
 use lib.ListN.{length, length-append}
 use borrow.Author.Tests.{le-leb}
+use Rattle.touches.specs.Touches.{without}
 use Rattle.model.specs.Session.{Device, Session}
-use Rattle.model.specs.Edit.{Amend, Edit, without, amended, item, pended, emptied, newDevice, at, enact, enactAll}
+use Rattle.model.specs.Edit.{Amend, Edit, amended, item, pended, emptied, newDevice, at, enact, enactAll}
 use Rattle.model.specs.Reachable.{heldWithin}
 use Rattle.model.proofs.Removals.{withoutSlot-sub, withoutSeat-sub}
 

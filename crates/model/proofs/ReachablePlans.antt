@@ -16,11 +16,12 @@ use Rattle.eiproto.specs.Capability.{capabilityIndex, unknownBits}
 use Rattle.eiproto.specs.Interface.{lookup}
 use Rattle.utf8.specs.Rfc3629.{isUtf8}
 use Rattle.wire.specs.declared.event.Event.{Event}
+use Rattle.touches.specs.Touches.{member}
 use Rattle.model.specs.Call.{Sight, HandshakeRequest, Plain, Call}
 use Rattle.model.specs.Session.{Untimed, Request, Interface, Seat, Device, Connection, Session, mapDevice, blank, view}
 use Rattle.model.specs.Edit.{Amend, Edit, newInterfaces, enact, enactAll}
 use Rattle.model.specs.Plan.{Sent, on, Outcome, Plan, answer, refuse, ignore, edit, send}
-use Rattle.model.specs.Decide.{Found, Rule, later, find, linksIn, onFound, checkUtf8, checkName, checkOptional, checkCapabilities, member, pendAfter, ifHeld, handle, handler, deviceForInterface, handleTimed, handleHandshake, handleSeat, handleDevice, seatOf, deviceOf, nextOf, nameEvents, interfaceEvents, addSeat, addDevice, removeSeats, sendNext, notify, versionAnswer, negotiated, decidePlain, decide}
+use Rattle.model.specs.Decide.{Found, Rule, later, find, linksIn, onFound, checkUtf8, checkName, checkOptional, checkCapabilities, pendAfter, ifHeld, handle, handler, deviceForInterface, handleTimed, handleHandshake, handleSeat, handleDevice, seatOf, deviceOf, nextOf, nameEvents, interfaceEvents, addSeat, addDevice, removeSeats, sendNext, notify, versionAnswer, negotiated, decidePlain, decide}
 use Rattle.model.specs.Demand3.{madeOn}
 use Rattle.model.specs.Reachable.{newIds}
 use Rattle.model.proofs.Ascending.{Between, end, next}

@@ -11,11 +11,12 @@ use lib.ListN.{length}
 use borrow.Author.Tests.{eqb-true}
 use Rattle.eiproto.specs.Capability.{capabilityIndex}
 use Rattle.eiproto.specs.Interface.{eiTouchscreen}
+use Rattle.touches.specs.Touches.{member}
 use Rattle.model.specs.Call.{Sight, Input, Load, Call, sight, load, mapCall, loadOf}
 use Rattle.model.specs.Session.{Item, Interface, Device, Session, view, mapDevice, blank}
 use Rattle.model.specs.Edit.{Amend, Edit, amended, item, at, enact}
 use Rattle.model.specs.Plan.{Outcome, Plan, answer, ignore}
-use Rattle.model.specs.Decide.{Found, later, find, linksIn, deviceForInterface, Rule, handler, member, onFound, pendAfter, ifHeld, handle, handleTimed, decidePlain, decide}
+use Rattle.model.specs.Decide.{Found, later, find, linksIn, deviceForInterface, Rule, handler, onFound, pendAfter, ifHeld, handle, handleTimed, decidePlain, decide}
 use Rattle.model.specs.Step.{refuses}
 use Rattle.model.specs.Demand3.{Made, madeFor, wantsHeld, ignoredOn, ignored, takenOf}
 use Rattle.model.proofs.Plans.{allows, allowsAll, allows-cons, Formed, answers, acts, adds, plain-formed}

@@ -13,6 +13,7 @@ use Rattle.eiproto.specs.Interface.{eiCallback, eiSeat, eiDevice, eiTouchscreen
 use Rattle.eiproto.specs.declared.event.DeviceCapability.{DeviceCapability}
 use Rattle.utf8.specs.Rfc3629.{isUtf8}
 use Rattle.wire.specs.declared.event.Event.{Event}
+use Rattle.touches.specs.Touches.{member}
 use Rattle.model.specs.Call.{Kind, Sight, HandshakeRequest, Plain, Call}
 use Rattle.model.specs.Session.{Item, Untimed, Request, Interface, Seat, Device, Connection, Session, View}
 use Rattle.model.specs.Edit.{Amend, Edit, nextSerial, raised, newInterfaces}
@@ -139,10 +140,6 @@ handler Kind.TouchMotion = handledBy DeviceCapability.Touch Rule.motion
 handler Kind.TouchCancel = handledBy DeviceCapability.Touch Rule.cancel
 handler Kind.TextKeysym = handledBy DeviceCapability.Text Rule.queued
 handler Kind.TextUtf8 = handledBy DeviceCapability.Text Rule.utf8
-
-unfoldable pub member : ℕ → List ℕ → Bool
-member x [] = false
-member x (y ∷ ys) = eqb x y || member x ys
 
 -- "They wait in their device's pending list." Before it a change of the held touches, for some
 unfoldable pub pendAfter : List Amend → Found → Sight → Plan

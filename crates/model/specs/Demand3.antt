@@ -9,11 +9,12 @@ use lib.ListN.{length, getD}
 use Rattle.eiproto.specs.Capability.{capabilityIndex}
 use Rattle.wire.specs.Bits.{Field}
 use Rattle.wire.specs.Record.{layout}
+use Rattle.touches.specs.Touches.{member}
 use Rattle.model.specs.Call.{Sight, Input, Load, Call, Turn, Split, sight, load, mapCall, split}
 use Rattle.model.specs.Session.{Item, Untimed, Request, Session, View, fresh, mapRequest, blank, view}
 use Rattle.model.specs.Edit.{item}
 use Rattle.model.specs.Plan.{Sent, Outcome, records}
-use Rattle.model.specs.Decide.{Found, Rule, handler, deviceForInterface, member}
+use Rattle.model.specs.Decide.{Found, Rule, handler, deviceForInterface}
 use Rattle.model.specs.Step.{Step, refuses, step, run}
 
 -- ---- equality

@@ -5,6 +5,7 @@ use mathlib.Core.List.{List, [], _∷_, _++_, map}
 use lib.Dec.{eqb}
 use lib.ListN.{length}
 use Rattle.eiproto.specs.Bits.{bitsOf}
+use Rattle.touches.specs.Touches.{without}
 use Rattle.model.specs.Call.{Sight}
 use Rattle.model.specs.Session.{Item, Untimed, Request, Interface, Seat, Device, Connection, Session}
 
@@ -47,11 +48,6 @@ interfacesFrom id (b ∷ bs) = record { capability = b; id = id; linked = true }
 unfoldable pub newInterfaces : (device capabilities : ℕ) → List Interface
 unfolding interfacesFrom bitsOf
 newInterfaces device capabilities = interfacesFrom (device + 1) (bitsOf capabilities)
-
--- the list without the first x
-unfoldable pub without : ℕ → List ℕ → List ℕ
-without x [] = []
-without x (y ∷ ys) = cond (eqb x y) ys (y ∷ without x ys)
 
 unfoldable pub unlinked : ℕ → Interface → Interface
 unlinked id i = record { capability = i .capability; id = i .id; linked = cond (eqb (i .id) id) false (i .linked) }

@@ -1,0 +1,472 @@
+// A request as a row of lent slices: five words and two reals, with no two fields in one word.
+// Any numbers mean some request, so what is read needs no test. Rows are named by their number; where they lie is known here alone.
+use crate::request::EisRequest;
+use eiproto::eiproto_enum::ButtonState;
+use eiproto::eiproto_enum::KeyState;
+ghost use mathlib.Core.Path.{_≡_};
+ghost use lib.Dec.{eqb};
+ghost use Rattle.requests.specs.Row.{low, amountOf, keyState, buttonState, cellOf, requestOf, rowOf, entry, withTime, cellAt, rowAt, Within, Put};
+
+// A request's numbers, by value.
+pub struct Cell {
+    // The request's place in the enum.
+    pub kind: u64,
+    // The device, or the seat.
+    pub object: u64,
+    // The time, or the capabilities.
+    pub time: u64,
+    pub extra: u64,
+    // A further number; of a text, its slot.
+    pub flag: u64,
+    pub x: f32,
+    pub y: f32,
+}
+
+// The cell of these numbers; as a row it is what they mean, with the flag for a text's slot.
+fn cell_of(kind: u64, object: u64, time: u64, extra: u64, flag: u64, x: f32, y: f32) -> Cell
+    ensures { λ c. ⌜ rowOf c ≡ entry (requestOf (cellOf kind object time extra flag x y)) flag ⌝ }
+{
+    Cell {
+        kind,
+        object,
+        time,
+        extra,
+        flag,
+        x,
+        y,
+    }
+}
+
+// The low 32 bits.
+fn low(n: u64) -> u32
+    ensures { λ r. ⌜ r ≡ low n ⌝ }
+{
+    (n % 4294967296) as u32
+}
+
+fn bit(b: bool) -> u64
+    ensures { λ r. ⌜ eqb r 1 ≡ b ⌝ }
+{
+    if b { 1 } else { 0 }
+}
+
+fn button_state(n: u64) -> ButtonState
+    ensures { λ r. ⌜ r ≡ buttonState n ⌝ }
+{
+    if n == 1 {
+        ButtonState::Press
+    } else {
+        ButtonState::Released
+    }
+}
+
+fn key_state(n: u64) -> KeyState
+    ensures { λ r. ⌜ r ≡ keyState n ⌝ }
+{
+    if n == 1 {
+        KeyState::Press
+    } else {
+        KeyState::Released
+    }
+}
+
+// The bits of a signed amount, in two's complement.
+fn amount_bits(x: i32) -> u64
+    ensures { λ r. ⌜ amountOf r ≡ x ⌝ }
+{
+    if x < 0 {
+        let k = (-1 - x) as u64;
+        4294967295 - k
+    } else {
+        x as u64
+    }
+}
+
+fn amount(n: u64) -> i32
+    ensures { λ r. ⌜ r ≡ amountOf n ⌝ }
+{
+    let m = n % 4294967296;
+    if m < 2147483648 {
+        m as i32
+    } else {
+        let k = (4294967295 - m) as i32;
+        -1 - k
+    }
+}
+
+// The cell of a request: decoded, it is the request again, every float and signed amount as it was. The slot counts for a text alone.
+pub fn encode(r: EisRequest, slot: usize) -> Cell
+    ensures { λ c. ⌜ rowOf c ≡ entry r slot ⌝ }
+{
+    match r {
+        EisRequest::Disconnect => cell_of(0, 0, 0, 0, 0, 0.0, 0.0),
+        EisRequest::Bind { seat, capabilities } => cell_of(1, seat, capabilities, 0, 0, 0.0, 0.0),
+        EisRequest::DeviceClosed { device } => cell_of(2, device, 0, 0, 0, 0.0, 0.0),
+        EisRequest::RequestDevice { seat, capabilities } => cell_of(
+            3,
+            seat,
+            capabilities,
+            0,
+            0,
+            0.0,
+            0.0,
+        ),
+        EisRequest::Frame {
+            device,
+            last_serial,
+            time,
+        } => cell_of(4, device, time, last_serial as u64, 0, 0.0, 0.0),
+        EisRequest::Ready { device } => cell_of(5, device, 0, 0, 0, 0.0, 0.0),
+        EisRequest::DeviceStartEmulating {
+            device,
+            last_serial,
+            sequence,
+        } => cell_of(6, device, 0, last_serial as u64, sequence as u64, 0.0, 0.0),
+        EisRequest::DeviceStopEmulating {
+            device,
+            last_serial,
+        } => cell_of(7, device, 0, last_serial as u64, 0, 0.0, 0.0),
+        EisRequest::PointerMotion {
+            device,
+            time,
+            dx,
+            dy,
+        } => cell_of(8, device, time, 0, 0, dx, dy),
+        EisRequest::PointerMotionAbsolute {
+            device,
+            time,
+            dx_absolute,
+            dy_absolute,
+        } => cell_of(9, device, time, 0, 0, dx_absolute, dy_absolute),
+        EisRequest::Button {
+            device,
+            time,
+            button,
+            state,
+        } => cell_of(
+            10,
+            device,
+            time,
+            button as u64,
+            state.number() as u64,
+            0.0,
+            0.0,
+        ),
+        EisRequest::ScrollDelta {
+            device,
+            time,
+            dx,
+            dy,
+        } => cell_of(11, device, time, 0, 0, dx, dy),
+        EisRequest::ScrollStop { device, time, x, y } => cell_of(
+            12,
+            device,
+            time,
+            bit(x),
+            bit(y),
+            0.0,
+            0.0,
+        ),
+        EisRequest::ScrollCancel { device, time, x, y } => cell_of(
+            13,
+            device,
+            time,
+            bit(x),
+            bit(y),
+            0.0,
+            0.0,
+        ),
+        EisRequest::ScrollDiscrete {
+            device,
+            time,
+            discrete_dx,
+            discrete_dy,
+        } => cell_of(
+            14,
+            device,
+            time,
+            amount_bits(discrete_dx),
+            amount_bits(discrete_dy),
+            0.0,
+            0.0,
+        ),
+        EisRequest::KeyboardKey {
+            device,
+            time,
+            key,
+            state,
+        } => cell_of(
+            15,
+            device,
+            time,
+            key as u64,
+            state.number() as u64,
+            0.0,
+            0.0,
+        ),
+        EisRequest::TouchDown {
+            device,
+            time,
+            touch_id,
+            x,
+            y,
+        } => cell_of(16, device, time, touch_id as u64, 0, x, y),
+        EisRequest::TouchUp {
+            device,
+            time,
+            touch_id,
+        } => cell_of(17, device, time, touch_id as u64, 0, 0.0, 0.0),
+        EisRequest::TouchMotion {
+            device,
+            time,
+            touch_id,
+            x,
+            y,
+        } => cell_of(18, device, time, touch_id as u64, 0, x, y),
+        EisRequest::TouchCancel {
+            device,
+            time,
+            touch_id,
+        } => cell_of(19, device, time, touch_id as u64, 0, 0.0, 0.0),
+        EisRequest::TextKeysym {
+            device,
+            time,
+            keysym,
+            state,
+        } => cell_of(
+            20,
+            device,
+            time,
+            keysym as u64,
+            state.number() as u64,
+            0.0,
+            0.0,
+        ),
+        EisRequest::TextUtf8 {
+            device,
+            time,
+            length,
+        } => cell_of(21, device, time, length as u64, slot as u64, 0.0, 0.0),
+    }
+}
+
+// The request that a cell means. A number too wide for its field is cut, and a kind past the last means `Disconnect`.
+pub fn decode(c: Cell) -> EisRequest
+    ensures { λ r. ⌜ r ≡ requestOf c ⌝ }
+{
+    let kind = c.kind;
+    // The extra and the flag as the kinds read them.
+    let dx = amount(c.extra);
+    let dy = amount(c.flag);
+    let button = button_state(c.flag);
+    let key = key_state(c.flag);
+    let flag = low(c.flag);
+    let extra = low(c.extra);
+    match kind {
+        0 => EisRequest::Disconnect,
+        1 => EisRequest::Bind {
+            seat: c.object,
+            capabilities: c.time,
+        },
+        2 => EisRequest::DeviceClosed { device: c.object },
+        3 => EisRequest::RequestDevice {
+            seat: c.object,
+            capabilities: c.time,
+        },
+        4 => EisRequest::Frame {
+            device: c.object,
+            last_serial: extra,
+            time: c.time,
+        },
+        5 => EisRequest::Ready { device: c.object },
+        6 => EisRequest::DeviceStartEmulating {
+            device: c.object,
+            last_serial: extra,
+            sequence: flag,
+        },
+        7 => EisRequest::DeviceStopEmulating {
+            device: c.object,
+            last_serial: extra,
+        },
+        8 => EisRequest::PointerMotion {
+            device: c.object,
+            time: c.time,
+            dx: c.x,
+            dy: c.y,
+        },
+        9 => EisRequest::PointerMotionAbsolute {
+            device: c.object,
+            time: c.time,
+            dx_absolute: c.x,
+            dy_absolute: c.y,
+        },
+        10 => EisRequest::Button {
+            device: c.object,
+            time: c.time,
+            button: extra,
+            state: button,
+        },
+        11 => EisRequest::ScrollDelta {
+            device: c.object,
+            time: c.time,
+            dx: c.x,
+            dy: c.y,
+        },
+        12 => EisRequest::ScrollStop {
+            device: c.object,
+            time: c.time,
+            x: c.extra == 1,
+            y: c.flag == 1,
+        },
+        13 => EisRequest::ScrollCancel {
+            device: c.object,
+            time: c.time,
+            x: c.extra == 1,
+            y: c.flag == 1,
+        },
+        14 => EisRequest::ScrollDiscrete {
+            device: c.object,
+            time: c.time,
+            discrete_dx: dx,
+            discrete_dy: dy,
+        },
+        15 => EisRequest::KeyboardKey {
+            device: c.object,
+            time: c.time,
+            key: extra,
+            state: key,
+        },
+        16 => EisRequest::TouchDown {
+            device: c.object,
+            time: c.time,
+            touch_id: extra,
+            x: c.x,
+            y: c.y,
+        },
+        17 => EisRequest::TouchUp {
+            device: c.object,
+            time: c.time,
+            touch_id: extra,
+        },
+        18 => EisRequest::TouchMotion {
+            device: c.object,
+            time: c.time,
+            touch_id: extra,
+            x: c.x,
+            y: c.y,
+        },
+        19 => EisRequest::TouchCancel {
+            device: c.object,
+            time: c.time,
+            touch_id: extra,
+        },
+        20 => EisRequest::TextKeysym {
+            device: c.object,
+            time: c.time,
+            keysym: extra,
+            state: key,
+        },
+        21 => EisRequest::TextUtf8 {
+            device: c.object,
+            time: c.time,
+            length: (c.extra % 256) as u8,
+        },
+        _ => EisRequest::Disconnect,
+    }
+}
+
+// The slot of the text, below 32; 32 where there is no text.
+pub fn slot_of(c: Cell) -> usize
+    ensures { λ s. ⌜ s ≡ rowOf c .slot ⌝ }
+{
+    if c.kind == 21 {
+        (c.flag % 32) as usize
+    } else {
+        32
+    }
+}
+
+// The cell at this time, if its kind is timed: those are the kinds from 8 on. So a frame moves rows and decodes none.
+fn timed(c: Cell, time: u64) -> Cell
+    ensures { λ r. ⌜ rowOf r ≡ withTime time (rowOf c) ⌝ }
+{
+    let mut r = c;
+    if 8 <= c.kind {
+        r.time = time;
+    }
+    r
+}
+
+fn read_cell(words: &[u64], reals: &[f32], row: usize) -> Cell
+    requires { ⌜ Within (now words) (now reals) row ⌝ }
+    ensures { λ c. ⌜ c ≡ cellAt (now (words .entry)) (now (reals .entry)) row ⌝ }
+{
+    let w = row * 5;
+    let r = row * 2;
+    Cell {
+        kind: words[w],
+        object: words[w + 1],
+        time: words[w + 2],
+        extra: words[w + 3],
+        flag: words[w + 4],
+        x: reals[r],
+        y: reals[r + 1],
+    }
+}
+
+fn write_cell(words: &mut [u64], reals: &mut [f32], row: usize, c: Cell)
+    requires { ⌜ Within (now words) (now reals) row ⌝ }
+    ensures { λ _. ⌜ Put (cellAt (now (words .entry)) (now (reals .entry))) (cellAt (now (words .exit)) (now (reals .exit))) row c ⌝ }
+{
+    let w = row * 5;
+    let r = row * 2;
+    words[w] = c.kind;
+    words[w + 1] = c.object;
+    words[w + 2] = c.time;
+    words[w + 3] = c.extra;
+    words[w + 4] = c.flag;
+    reals[r] = c.x;
+    reals[r + 1] = c.y;
+}
+
+// The request of a row.
+pub fn load(words: &[u64], reals: &[f32], row: usize) -> EisRequest
+    requires { ⌜ Within (now words) (now reals) row ⌝ }
+    ensures { λ r. ⌜ r ≡ rowAt (now (words .entry)) (now (reals .entry)) row .request ⌝ }
+{
+    decode(read_cell(words, reals, row))
+}
+
+// The slot of a row's text, below 32; 32 where the row has no text.
+pub fn load_slot(words: &[u64], reals: &[f32], row: usize) -> usize
+    requires { ⌜ Within (now words) (now reals) row ⌝ }
+    ensures { λ s. ⌜ s ≡ rowAt (now (words .entry)) (now (reals .entry)) row .slot ⌝ }
+{
+    slot_of(read_cell(words, reals, row))
+}
+
+// Stores a request in a row.
+pub fn put(words: &mut [u64], reals: &mut [f32], row: usize, r: EisRequest, slot: usize)
+    requires { ⌜ Within (now words) (now reals) row ⌝ }
+    ensures { λ _. ⌜ Put (rowAt (now (words .entry)) (now (reals .entry))) (rowAt (now (words .exit)) (now (reals .exit))) row (entry r slot) ⌝ }
+{
+    write_cell(words, reals, row, encode(r, slot));
+}
+
+// Copies a row over another, as it is.
+pub fn copy(words: &mut [u64], reals: &mut [f32], from: usize, to: usize)
+    requires { ⌜ Within (now words) (now reals) from × Within (now words) (now reals) to ⌝ }
+    ensures { λ _. ⌜ Put (rowAt (now (words .entry)) (now (reals .entry))) (rowAt (now (words .exit)) (now (reals .exit))) to (rowAt (now (words .entry)) (now (reals .entry)) from) ⌝ }
+{
+    let c = read_cell(words, reals, from);
+    write_cell(words, reals, to, c);
+}
+
+// Copies a row over another, at this time if it is timed.
+pub fn copy_timed(words: &mut [u64], reals: &mut [f32], from: usize, to: usize, time: u64)
+    requires { ⌜ Within (now words) (now reals) from × Within (now words) (now reals) to ⌝ }
+    ensures { λ _. ⌜ Put (rowAt (now (words .entry)) (now (reals .entry))) (rowAt (now (words .exit)) (now (reals .exit))) to (withTime time (rowAt (now (words .entry)) (now (reals .entry)) from)) ⌝ }
+{
+    let c = read_cell(words, reals, from);
+    write_cell(words, reals, to, timed(c, time));
+}
