@@ -1,0 +1,5 @@
+pub mod Reports
+pub mod Cases
+pub mod Answers
+pub mod Runs
+mod Trials

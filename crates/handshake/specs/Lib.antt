@@ -1,0 +1,3 @@
+pub mod Handshake
+pub mod View
+pub mod Run
