@@ -1,0 +1,54 @@
+-- Words worked out by hand from the layout, and what they say. Assumes nothing.
+use Prim.Native.Nat.{ℕ}
+use mathlib.Core.Path.{_≡_, refl}
+use mathlib.Core.Bool.{true, false}
+use mathlib.Core.List.{List, [], _∷_, _++_, map}
+use mathlib.Core.Option.{none, some}
+use lib.ListN.{replicate}
+use Rattle.eiproto.specs.Bits.{bitsOf, bitsBelow}
+use Rattle.model.specs.Decide.{version, linksIn}
+use Rattle.control.specs.Table.{tab, first, mapOption}
+use Rattle.control.specs.Control.{versionIn, seatAt, versionsOf, connectionOf, interfaceId, interfaceOn, interfacesOn, coreAt, coresOf}
+use Rattle.control.specs.Sound.{rowSound, rowsSound, isSound}
+
+-- Connection 5, last serial 7, next id 100, one seat, one device, nothing queued; version 2 of the first interface, version 0 of the third, no other;
+-- seat 8 has all capabilities. Device 20 on it has pointer, keyboard and text (bits 0, 2 and 6), keyboard is unlinked, three requests are pending,
+-- and the touches 9 and 0 are held.
+words : List ℕ
+words =
+    (5 ∷ 7 ∷ 100 ∷ 1 ∷ 1 ∷ 0 ∷ 0 ∷ 0 ∷ [])
+    ++ ((3 ∷ 0 ∷ 1 ∷ 0 ∷ 0 ∷ 0 ∷ 0 ∷ 0 ∷ 0 ∷ 0 ∷ 0 ∷ 0 ∷ [])
+    ++ ((8 ∷ 127 ∷ 0 ∷ 0 ∷ 0 ∷ 0 ∷ 0 ∷ 0 ∷ 0 ∷ 0 ∷ 0 ∷ 0 ∷ []) ++ ((20 ∷ 8 ∷ 69 ∷ 65 ∷ 3 ∷ 2 ∷ 9 ∷ 0 ∷ 4 ∷ []) ++ replicate 183 0)))
+
+sound-words : isSound words ≡ true
+unfolding isSound rowsSound rowSound words
+sound-words = refl
+
+-- a word more is no session's
+long-words : isSound (words ++ (0 ∷ [])) ≡ false
+unfolding isSound words
+long-words = refl
+
+seats : connectionOf words .seats ≡ record { id = 8; capabilities = 127 } ∷ []
+unfolding connectionOf tab seatAt words
+seats = refl
+
+-- not negotiated is no version 0
+versions : map (version (connectionOf words)) (1 ∷ 2 ∷ 3 ∷ 12 ∷ 13 ∷ []) ≡ some 2 ∷ none ∷ some 0 ∷ none ∷ none ∷ []
+unfolding version connectionOf versionsOf tab versionIn words
+versions = refl
+
+-- the ids follow the device's in order of the bits
+interfaces : coreAt words 0 .interfaces
+    ≡ record { capability = 0; id = 21; linked = true } ∷ record { capability = 2; id = 22; linked = false } ∷ record { capability = 6; id = 23; linked = true } ∷ []
+unfolding coreAt interfacesOn interfaceOn interfaceId bitsOf bitsBelow words
+interfaces = refl
+
+touches : coreAt words 0 .downTouchIds ≡ 9 ∷ 0 ∷ []
+unfolding coreAt tab words
+touches = refl
+
+-- text is known by its id; keyboard is not any more; pointer's id is no text's
+found : map (λ id. first (λ d. linksIn 6 id (d .interfaces)) (coresOf words)) (23 ∷ 22 ∷ 21 ∷ []) ≡ some 0 ∷ none ∷ none ∷ []
+unfolding first mapOption linksIn coresOf coreAt tab interfacesOn interfaceOn interfaceId bitsOf bitsBelow words
+found = refl

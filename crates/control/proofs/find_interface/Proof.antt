@@ -1,0 +1,71 @@
+-- The loop passes devices that do not link it. Assumes nothing.
+use Prim.Native.Nat.{ℕ, _≤_, _<_, _-_}
+use mathlib.Core.Path.{_≡_, sym, _∙_}
+use mathlib.Core.Bool.{false}
+use mathlib.Core.List.{List}
+use borrow.Author.Count.{below-more}
+use Rattle.model.specs.Decide.{linksIn}
+use Rattle.control.specs.Control.{deviceCount, coreAt, coresOf}
+use Rattle.control.proofs.Tables.{tab-first, tab-first-none}
+use borrow.Author.Needs.{needs}
+use native.Mathlib.Omega.{arith}
+use Rattle.control.proofs.find_interface.Statement.{statement}
+use Rattle.control.proofs.find_interface.Tie as tie
+
+abbrev Inv-loop : tie.InvT-loop
+Inv-loop control bit id n slot₀ slot =
+    (slot ≤ n) × ((j : ℕ) → j < slot → linksIn bit id (coreAt control j .interfaces) ≡ false)
+
+abbrev μ-loop : tie.MeasureT-loop
+μ-loop control bit id n slot₀ slot =
+    n - slot
+
+device-count-requires : tie.Need-device-count-requires Inv-loop μ-loop
+device-count-requires c κs = search needs
+
+loop-holds : tie.Need-loop-holds Inv-loop μ-loop
+loop-holds c =
+    (omega arith, λ j l. absurd (omega arith))
+
+links-requires : tie.Need-links-requires Inv-loop μ-loop
+links-requires c κs = search needs
+
+returns : tie.Need-returns Inv-loop μ-loop
+unfolding coresOf
+returns c =
+    let a = c .before .before .before .before .before .before .args in
+    let w : List ℕ = a .control .now in
+    sym (tab-first (λ d. linksIn (a .bit) (a .id) (d .interfaces)) (deviceCount w) (c .before .before .before .loop .slot) (coreAt w) (omega arith)
+    (sym (c .before .links .ensures) ∙ c .if1 .taken) (c .before .before .before .loop .inv .1))
+
+add-slot : tie.Need-add-slot Inv-loop μ-loop
+add-slot c = search needs
+
+loop-less : tie.Need-loop-less Inv-loop μ-loop
+loop-less c = search needs
+
+loop-again : tie.Need-loop-again Inv-loop μ-loop
+loop-again c =
+    (omega arith, below-more _ _ (c .before .before .before .loop .inv .1) (sym (c .before .links .ensures) ∙ c .if1 .left))
+
+returns-2 : tie.Need-returns-2 Inv-loop μ-loop
+unfolding coresOf
+returns-2 c =
+    let a = c .before .before .before .before .args in
+    let w : List ℕ = a .control .now in
+    sym (tab-first-none (λ d. linksIn (a .bit) (a .id) (d .interfaces)) (deviceCount w) (coreAt w) (λ j l. c .before .loop .inv .1 j (omega arith)))
+
+pub find-interface-spec : {M : Type 1} → statement M
+find-interface-spec =
+    tie.close
+    (tie.spec
+    Inv-loop
+    μ-loop
+    device-count-requires
+    loop-holds
+    links-requires
+    returns
+    add-slot
+    loop-less
+    loop-again
+    returns-2)

@@ -1,0 +1,118 @@
+-- What the control words of a session mean: connection, seats and devices, all but the requests. Every list of words means something. Assumes nothing.
+use Prim.Native.Nat.{ℕ, _+_, _-_, _*_, _%_, _^_}
+use mathlib.Core.Bool.{cond}
+use mathlib.Core.List.{List, map}
+use mathlib.Core.Option.{Option, none, some}
+use lib.Dec.{eqb}
+use lib.ListN.{getD, take}
+use Rattle.eiproto.specs.Bits.{bit, bitsOf, bitsBelow}
+use Rattle.model.specs.Session.{Interface, Seat, Connection}
+use Rattle.control.specs.Table.{tab}
+
+-- ---- the layout: 224 words
+
+-- 0 the connection's id, 1 the last serial, 2 the next id, 3 the seats that stand, 4 the devices, 5 the place of the oldest queued request, 6 the queued requests,
+-- 8 to 19 the versions, from 20 the seats, 2 words each, from 32 the devices, 24 words each
+abbrev pub controlLength : ℕ
+controlLength = 224
+
+abbrev pub versionPlace : ℕ → ℕ
+versionPlace i = 8 + i
+
+abbrev pub seatPlace : ℕ → ℕ
+seatPlace k = 20 + 2 * k
+
+abbrev pub devicePlace : ℕ → ℕ
+devicePlace k = 32 + 24 * k
+
+abbrev pub seatCount : List ℕ → ℕ
+seatCount c = getD c 3 0
+
+abbrev pub deviceCount : List ℕ → ℕ
+deviceCount c = getD c 4 0
+
+abbrev pub queueHead : List ℕ → ℕ
+queueHead c = getD c 5 0
+
+abbrev pub queueLength : List ℕ → ℕ
+queueLength c = getD c 6 0
+
+-- word f of a device's row: 0 its id, 1 its seat, 2 the capabilities that it was made with, 3 those still linked, 4 how many requests are pending,
+-- 5 how many touches are held, and from 6 on the ids of sixteen touches
+abbrev pub deviceWord : List ℕ → (k f : ℕ) → ℕ
+deviceWord c k f = getD c (devicePlace k + f) 0
+
+abbrev pub capabilitiesAt : List ℕ → ℕ → ℕ
+capabilitiesAt c k = deviceWord c k 2 % 128
+
+abbrev pub linkedAt : List ℕ → ℕ → ℕ
+linkedAt c k = deviceWord c k 3
+
+abbrev pub pendingAt : List ℕ → ℕ → ℕ
+pendingAt c k = deviceWord c k 4
+
+abbrev pub heldAt : List ℕ → ℕ → ℕ
+heldAt c k = deviceWord c k 5
+
+-- ---- what they mean
+
+-- 0 for none, else one more than the version
+unfoldable pub versionIn : ℕ → Option ℕ
+versionIn w = cond (eqb w 0) none (some ((w - 1) % 2 ^ 32))
+
+-- a seat: its id, its capabilities
+unfoldable pub seatAt : List ℕ → ℕ → Seat
+seatAt c k = record { id = getD c (seatPlace k) 0; capabilities = getD c (seatPlace k + 1) 0 % 128 }
+
+unfoldable pub versionsOf : List ℕ → List (Option ℕ)
+unfolding tab versionIn
+versionsOf c = tab 12 (λ i. versionIn (getD c (versionPlace i) 0))
+
+unfoldable pub connectionOf : List ℕ → Connection
+unfolding tab versionsOf seatAt
+connectionOf c =
+    record {
+      id = getD c 0 0;
+      versions = versionsOf c;
+      seats = tab (seatCount c) (seatAt c);
+      lastSerial = getD c 1 0 % 2 ^ 32;
+      nextId = getD c 2 0;
+    }
+
+-- "a device's interface ids follow its own id in order of capability bits"
+unfoldable pub interfaceId : (device capabilities : ℕ) → ℕ → ℕ
+unfolding bitsBelow
+interfaceId device caps b = (device + 1 + bitsBelow caps b) % 2 ^ 64
+
+unfoldable pub interfaceOn : (device capabilities linked : ℕ) → ℕ → Interface
+unfolding interfaceId
+interfaceOn device caps links b = record { capability = b; id = interfaceId device caps b; linked = bit b links }
+
+-- the interfaces of a device that was made with these capabilities
+unfoldable pub interfacesOn : (device capabilities linked : ℕ) → List Interface
+unfolding interfaceOn bitsOf
+interfacesOn device caps links = map (interfaceOn device caps links) (bitsOf caps)
+
+-- a device without its pending requests
+pub record Core : Type 0 where
+  pub id : ℕ
+  pub seat : ℕ
+  pub interfaces : List Interface
+  pub downTouchIds : List ℕ
+  -- how many are pending
+  pub pending : ℕ
+
+unfoldable pub coreAt : List ℕ → ℕ → Core
+unfolding interfacesOn tab
+coreAt c k =
+    record {
+      id = deviceWord c k 0;
+      seat = deviceWord c k 1;
+      interfaces = interfacesOn (deviceWord c k 0) (capabilitiesAt c k) (linkedAt c k);
+      downTouchIds = take (heldAt c k) (tab 16 (λ j. deviceWord c k (6 + j) % 2 ^ 32));
+      pending = pendingAt c k;
+    }
+
+unfoldable pub coresOf : List ℕ → List Core
+unfolding tab coreAt
+coresOf c = tab (deviceCount c) (coreAt c)

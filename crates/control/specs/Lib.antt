@@ -1,0 +1,4 @@
+pub mod Table
+pub mod Control
+pub mod Sound
+pub mod Answer

@@ -1,0 +1,35 @@
+-- Which control words are no damaged state. Assumes nothing.
+use Prim.Native.Nat.{ℕ, zero, suc, _≤_, _<_}
+use mathlib.Core.Path.{_≡_}
+use mathlib.Core.Bool.{Bool, true, _&&_}
+use mathlib.Core.List.{List}
+use lib.Dec.{leb, ltb, eqb}
+use lib.ListN.{length}
+use Rattle.control.specs.Control.{controlLength, seatCount, deviceCount, queueHead, queueLength, pendingAt, heldAt}
+
+-- "21 BAD_STATE: a stored count above its limit, or a stored link past its table": 4 seats, 8 devices, 256 queued requests, for each of the 8 rows 64 pending
+-- requests and 16 held touches; the queue's head is a place of its ring
+
+unfoldable pub rowSound : List ℕ → ℕ → Bool
+rowSound c k = leb (pendingAt c k) 64 && leb (heldAt c k) 16
+
+unfoldable pub rowsSound : List ℕ → ℕ → Bool
+unfolding rowSound
+rowsSound c zero = true
+rowsSound c (suc k) = rowsSound c k && rowSound c k
+
+unfoldable pub isSound : List ℕ → Bool
+unfolding rowsSound
+isSound c =
+    eqb (length c) controlLength
+    && (leb (seatCount c) 4 && (leb (deviceCount c) 8 && (ltb (queueHead c) 256 && (leb (queueLength c) 256 && rowsSound c 8))))
+
+-- the same as bounds
+pub record Sound (c : List ℕ) : Type 0 where
+  pub long : length c ≡ controlLength
+  pub seats : seatCount c ≤ 4
+  pub devices : deviceCount c ≤ 8
+  pub head : queueHead c < 256
+  pub queued : queueLength c ≤ 256
+  pub pending : (k : ℕ) → k < 8 → pendingAt c k ≤ 64
+  pub held : (k : ℕ) → k < 8 → heldAt c k ≤ 16
