@@ -1,0 +1,76 @@
+-- `replay::lines::take_lines` is safe and ends: a line ends in what is filled, and the next begins behind it. Assumes nothing.
+use Prim.Native.Nat.{_≤_, _-_}
+use Rattle.replay.proofs.lines.take_lines.Statement.{statement}
+use Rattle.replay.proofs.lines.take_lines.Tie as tie
+use Rattle.script.proofs.Lines.{end-bounds}
+use borrow.Author.Needs.{needs}
+use mathlib.Core.Path.{sym, _∙_}
+use native.Mathlib.Omega.{arith}
+
+abbrev Inv-loop : tie.InvT-loop
+Inv-loop buf filled cut at₀ gone₀ done₀ at gone done =
+    at ≤ filled
+
+abbrev μ-loop : tie.MeasureT-loop
+μ-loop buf filled cut at₀ gone₀ done₀ at gone done =
+    filled - at
+
+loop-holds : tie.Need-loop-holds Inv-loop μ-loop
+loop-holds c = search needs
+
+line-end-requires : tie.Need-line-end-requires Inv-loop μ-loop
+line-end-requires c κs = search needs
+
+enum-known-end : tie.Need-enum-known-end Inv-loop μ-loop
+enum-known-end c = search needs
+
+sub-take : tie.Need-sub-take Inv-loop μ-loop
+sub-take c =
+    end-bounds (c .before .before .before .before .before .before .before .args .buf .now) (c .before .before .before .before .before .loop .at) (c .before .before .before .before .before .before .before .args .filled) (c .before .end .given .0 .0) (c .before .end .given .0 .1 .0) (sym (c .before .before .before .line-end .ensures) ∙ c .before .end .given .1) .0
+
+part-take-start : tie.Need-part-take-start Inv-loop μ-loop
+part-take-start c =
+    end-bounds (c .before .before .before .before .before .before .before .args .buf .now) (c .before .before .before .before .before .loop .at) (c .before .before .before .before .before .before .before .args .filled) (c .before .end .given .0 .0) (c .before .end .given .0 .1 .0) (sym (c .before .before .before .line-end .ensures) ∙ c .before .end .given .1) .0
+
+part-take-end : tie.Need-part-take-end Inv-loop μ-loop
+part-take-end c =
+    omega (arith, end-bounds (c .before .before .before .before .before .before .before .args .buf .now) (c .before .before .before .before .before .loop .at) (c .before .before .before .before .before .before .before .args .filled) (c .before .end .given .0 .0) (c .before .end .given .0 .1 .0) (sym (c .before .before .before .line-end .ensures) ∙ c .before .end .given .1))
+
+take-requires : tie.Need-take-requires Inv-loop μ-loop
+take-requires c κs = search needs
+
+loop-less : tie.Need-loop-less Inv-loop μ-loop
+loop-less c =
+    omega (arith, end-bounds (c .before .before .before .before .before .before .before .before .before .args .buf .now) (c .before .before .before .before .before .before .before .loop .at) (c .before .before .before .before .before .before .before .before .before .args .filled) (c .before .before .before .end .given .0 .0) (c .before .before .before .end .given .0 .1 .0) (sym (c .before .before .before .before .before .line-end .ensures) ∙ c .before .before .before .end .given .1))
+
+loop-again : tie.Need-loop-again Inv-loop μ-loop
+loop-again c =
+    omega (arith, end-bounds (c .before .before .before .before .before .before .before .before .before .args .buf .now) (c .before .before .before .before .before .before .before .loop .at) (c .before .before .before .before .before .before .before .before .before .args .filled) (c .before .before .before .end .given .0 .0) (c .before .before .before .end .given .0 .1 .0) (sym (c .before .before .before .before .before .line-end .ensures) ∙ c .before .before .before .end .given .1))
+
+enum-told : tie.Need-enum-told Inv-loop μ-loop
+enum-told c = search needs
+
+returns : tie.Need-returns Inv-loop μ-loop
+returns c = search needs
+
+returns-2 : tie.Need-returns-2 Inv-loop μ-loop
+returns-2 c = search needs
+
+pub take-lines-spec : {M : Type 1} → statement M
+take-lines-spec =
+    tie.close
+    (tie.spec
+    Inv-loop
+    μ-loop
+    loop-holds
+    line-end-requires
+    enum-known-end
+    sub-take
+    part-take-start
+    part-take-end
+    take-requires
+    loop-less
+    loop-again
+    enum-told
+    returns
+    returns-2)

@@ -1,0 +1,112 @@
+-- Lines of call-script.md and what they are, by computation. Assumes nothing.
+use Prim.Native.Nat.{_^_, _-_}
+use Prim.Native.String.{String}
+use mathlib.Core.Path.{_≡_, refl}
+use mathlib.Core.Bool.{false}
+use mathlib.Core.List.{[], _∷_, map}
+use lib.Ieee.{nan, fin, inf}
+use lib.IntN.{pos, negsuc}
+use lib.ListN.{length}
+use Rattle.script.specs.declared.line.LineEnd.{LineEnd}
+use Rattle.script.specs.declared.verb.Verb.the-variants.{Now, Out, Start, HandshakeInterfaceVersion, HandshakeFinish, SeatBind, ScrollScrollDiscrete, PointerMotionRelative, TextUtf8, AddSeat, AddDevice, Disconnected, HasCapability}
+use Rattle.script.specs.Words.{ascii, words}
+use Rattle.script.specs.Verbs.{table}
+use Rattle.script.specs.Script.{Reading, number64, number32, signed, float, text, noText, blank, setting, call, noCall, reading}
+use Rattle.script.specs.Split.{lineEnd}
+
+abbrev read : String → Reading
+read s = reading (ascii s)
+
+-- three settings and 52 calls
+rows : length table ≡ 55
+unfolding table
+rows = refl
+
+blanks : map read ("" ∷ "#" ∷ "# start 7" ∷ []) ≡ blank ∷ blank ∷ blank ∷ []
+unfolding reading ascii
+blanks = refl
+
+clock : read "now 0x1f4" ≡ setting Now (number64 500 ∷ [])
+unfolding reading ascii
+clock = refl
+
+room : read "out 18446744073709551615" ≡ setting Out (number64 (2 ^ 64 - 1) ∷ [])
+unfolding reading ascii
+room = refl
+
+begin : read "start 7" ≡ call Start (number32 7 ∷ [])
+unfolding reading ascii
+begin = refl
+
+version : read "handshake.interface_version t:65695f636f6e6e656374696f6e 1" ≡ call HandshakeInterfaceVersion (text (ascii "ei_connection") ∷ number32 1 ∷ [])
+unfolding reading ascii
+version = refl
+
+finish : read "handshake.finish" ≡ call HandshakeFinish []
+unfolding reading ascii
+finish = refl
+
+bind : read "seat.bind 0xff00000000000001 0127" ≡ call SeatBind (number64 0xff00000000000001 ∷ number64 127 ∷ [])
+unfolding reading ascii
+bind = refl
+
+utf8 : read "text.utf8 1 t:61C3a9" ≡ call TextUtf8 (number64 1 ∷ text (0x61 ∷ 0xc3 ∷ 0xa9 ∷ []) ∷ [])
+unfolding reading ascii
+utf8 = refl
+
+scroll : read "scroll.scroll_discrete 1 -2147483648 0x7fffffff" ≡ call ScrollScrollDiscrete (number64 1 ∷ signed (negsuc 2147483647) ∷ signed (pos 2147483647) ∷ [])
+unfolding reading ascii
+scroll = refl
+
+one : read "pointer.motion_relative 1 0x3f800000 nan" ≡ call PointerMotionRelative (number64 1 ∷ float (fin false 1 (pos 0)) ∷ float nan ∷ [])
+unfolding reading ascii
+one = refl
+
+-- a NaN's pattern with a sign and a payload, and an infinity's
+patterns : read "pointer.motion_relative 1 0xffc00001 0x7f800000" ≡ call PointerMotionRelative (number64 1 ∷ float nan ∷ float (inf false) ∷ [])
+unfolding reading ascii
+patterns = refl
+
+seat : read "add_seat none 4" ≡ call AddSeat (noText ∷ number64 4 ∷ [])
+unfolding reading ascii
+seat = refl
+
+device : read "add_device 1 t: 2 4" ≡ call AddDevice (number64 1 ∷ text [] ∷ number32 2 ∷ number64 4 ∷ [])
+unfolding reading ascii
+device = refl
+
+reason : read "disconnected 5 none" ≡ call Disconnected (number32 5 ∷ noText ∷ [])
+unfolding reading ascii
+reason = refl
+
+keyboard : read "has_capability 2 4" ≡ call HasCapability (number64 2 ∷ number64 4 ∷ [])
+unfolding reading ascii
+keyboard = refl
+
+-- "a press state above 1, a type, reason or mask that has no such value, a number too large for its field", and words that are none
+refused : map read
+    ("keyboard.key 1 30 2" ∷ "add_device 1 none 3 4" ∷ "disconnected 6 none" ∷ "has_capability 1 3" ∷ "start 4294967296"
+    ∷ "now 18446744073709551616" ∷ "scroll.scroll_discrete 1 2147483648 0" ∷ "start -1" ∷ "start 0x" ∷ "start 0X7" ∷ "start" ∷ "start 7 "
+    ∷ "start  7" ∷ " start 7" ∷ "Start 7" ∷ "handshake.name none" ∷ "handshake.name t:6" ∷ "handshake.finish 1" ∷ [])
+    ≡ noCall ∷ noCall ∷ noCall ∷ noCall ∷ noCall ∷ noCall ∷ noCall ∷ noCall ∷ noCall ∷ noCall ∷ noCall ∷ noCall ∷ noCall ∷ noCall ∷ noCall
+    ∷ noCall ∷ noCall ∷ noCall ∷ []
+unfolding reading ascii
+refused = refl
+
+-- two spaces have an empty word between them
+split : words (ascii "a  b ") ≡ ascii "a" ∷ [] ∷ ascii "b" ∷ [] ∷ []
+unfolding words ascii
+split = refl
+
+-- lines that end with a newline, with a carriage return before it, and not yet
+ends : lineEnd (0x61 ∷ 0x0a ∷ 0x62 ∷ 0x0d ∷ 0x0a ∷ 0x63 ∷ 0x0d ∷ []) 0 7 ≡ LineEnd.At 1 2
+unfolding lineEnd
+ends = refl
+
+returned : lineEnd (0x61 ∷ 0x0a ∷ 0x62 ∷ 0x0d ∷ 0x0a ∷ 0x63 ∷ 0x0d ∷ []) 2 7 ≡ LineEnd.At 3 5
+unfolding lineEnd
+returned = refl
+
+goes-on : lineEnd (0x61 ∷ 0x0a ∷ 0x62 ∷ 0x0d ∷ 0x0a ∷ 0x63 ∷ 0x0d ∷ []) 2 4 ≡ LineEnd.Nothing
+unfolding lineEnd
+goes-on = refl
