@@ -9,7 +9,8 @@ use lib.IntN.{pos, negsuc}
 use lib.ListN.{length}
 use Rattle.script.specs.declared.line.LineEnd.{LineEnd}
 use Rattle.script.specs.declared.verb.Verb.the-variants.{Now, Out, Start, HandshakeInterfaceVersion, HandshakeFinish, SeatBind, ScrollScrollDiscrete, PointerMotionRelative, TextUtf8, AddSeat, AddDevice, Disconnected, HasCapability}
-use Rattle.script.specs.Words.{ascii, words}
+use Rattle.eiproto.specs.Interface.{ascii}
+use Rattle.script.specs.Words.{words}
 use Rattle.script.specs.Verbs.{table}
 use Rattle.script.specs.Script.{Reading, number64, number32, signed, float, text, noText, blank, setting, call, noCall, reading}
 use Rattle.script.specs.Split.{lineEnd}

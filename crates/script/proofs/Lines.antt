@@ -18,7 +18,8 @@ use Rattle.script.specs.declared.verb.Slot.the-variants.{Empty, Of}
 use Rattle.script.specs.declared.value.Value.{Value}
 use Rattle.script.specs.declared.line.Step.{Step}
 use Rattle.script.specs.declared.line.LineEnd.{LineEnd}
-use Rattle.script.specs.Words.{sameBytes, before, joined, words}
+use Rattle.eiproto.specs.Interface.{sameBytes}
+use Rattle.script.specs.Words.{before, joined, words}
 use Rattle.script.specs.Verbs.{Entry, settings, rowAt, lookupFrom, lookup, table, slotAt}
 use Rattle.script.specs.Script.{Arg, blank, setting, call, noCall, readAs, readArgs, behind, first, isBlank, reading}
 use Rattle.script.specs.Told.{one, part, wordsFrom, behindSpace, present, Stepped}

@@ -11,7 +11,8 @@ use borrow.Author.Tests.{lt-ltb, le-ltb}
 use lib.Dec.{ltb}
 use lib.ListN.{length, getD, drop, drop-of-length-le}
 use lib.Seq.{drop-cons}
-use Rattle.script.specs.Words.{ascii, startsWith}
+use Rattle.eiproto.specs.Interface.{ascii}
+use Rattle.script.specs.Words.{startsWith}
 use Rattle.script.specs.Number.{digit, digitsFrom, digits, number, that, fits64}
 
 -- ---- decimal or hexadecimal

@@ -15,7 +15,8 @@ use Rattle.script.specs.declared.verb.Verb.the-variants.{Now}
 use Rattle.script.specs.declared.verb.Kind.{Kind}
 use Rattle.script.specs.declared.verb.Kind.the-variants.{U64, U32, I32, F32, Text, OptionalText, State, TypeNumber, Reason, Capability}
 use Rattle.script.specs.declared.verb.Slot.the-variants.{Empty, Of}
-use Rattle.script.specs.Words.{before, sameBytes}
+use Rattle.eiproto.specs.Interface.{sameBytes}
+use Rattle.script.specs.Words.{before}
 use Rattle.script.specs.Verbs.{Entry, row, table, rowAt, lookupFrom, lookup, slotAt, letter, kinds, slotIn, slotOf, padded, line, lines}
 use Rattle.script.proofs.Words.{same-eq}
 

@@ -10,7 +10,8 @@ use lib.Dec.{ltb}
 use lib.ListN.{length, getD, take, drop, length-take, length-drop, drop-of-length-le}
 use lib.Seq.{drop-cons, drop-drop, take-nil, getD-take, getD-drop}
 use Rattle.script.specs.declared.text.Text.{Text}
-use Rattle.script.specs.Words.{ascii, startsWith}
+use Rattle.eiproto.specs.Interface.{ascii}
+use Rattle.script.specs.Words.{startsWith}
 use Rattle.script.specs.Number.{digit}
 use Rattle.script.specs.Text.{pairs, bytesOf, isText, textBytes}
 use Rattle.script.specs.Script.{text, textOf}

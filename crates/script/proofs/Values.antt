@@ -12,7 +12,8 @@ use lib.Ieee.{nan, ofBits, binary32}
 use lib.IntN.{pos, negℤ}
 use lib.ListN.{drop}
 use Rattle.script.specs.declared.verb.Kind.{Kind}
-use Rattle.script.specs.Words.{ascii, sameBytes, startsWith}
+use Rattle.eiproto.specs.Interface.{ascii, sameBytes}
+use Rattle.script.specs.Words.{startsWith}
 use Rattle.script.specs.Number.{digits, number, that, within, fits64}
 use Rattle.script.specs.Script.{Arg, signed, float, noText, oneOfSeven, signedOf, floatOf, textOf, readAs}
 use Rattle.script.specs.Told.{one}

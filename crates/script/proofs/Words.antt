@@ -9,7 +9,9 @@ use borrow.Author.Tests.{eq-eqb, ne-eqb, eqb-true}
 use lib.Dec.{eqb}
 use lib.ListN.{length, getD, take, drop, length-take, drop-of-length-le}
 use lib.Seq.{drop-cons}
-use Rattle.script.specs.Words.{sameBytes, startsWith, before}
+use Rattle.eiproto.specs.Interface.{sameBytes}
+use Rattle.eiproto.proofs.Interface.{same-not}
+use Rattle.script.specs.Words.{startsWith, before}
 
 -- ---- the first such byte
 
@@ -40,31 +42,6 @@ pub before-le : (b : ℕ) (l : List ℕ) → length (before b l) ≤ length l
 before-le b l = omega (arith, ap length (take-before b l), length-take (length (before b l)) l)
 
 -- ---- words that are the same
-
-pub same-not : (a b : List ℕ) → (length a ≡ length b → ⊥) → false ≡ sameBytes a b
-unfolding sameBytes
-same-not [] [] h = absurd (h refl)
-same-not [] (y ∷ ys) h = refl
-same-not (x ∷ xs) [] h = refl
-same-not (x ∷ xs) (y ∷ ys) h = go (eqb x y) (same-not xs ys (λ e. h (ap suc e)))
-  where
-    go : (t : Bool) → false ≡ sameBytes xs ys → false ≡ t && sameBytes xs ys
-    go true e = e
-    go false e = refl
-
-module _ (a b : List ℕ) (k : ℕ) where
-  pub same-step : k < length a → k < length b → getD a k 0 ≡ getD b k 0
-      → sameBytes (drop k a) (drop k b) ≡ sameBytes (drop (k + 1) a) (drop (k + 1) b)
-  unfolding sameBytes
-  same-step ha hb e = rw (add-one, drop-cons a k 0 ha, drop-cons b k 0 hb, eq-eqb (getD a k 0) (getD b k 0) e)
-
-  pub same-stop : k < length a → k < length b → (getD a k 0 ≡ getD b k 0 → ⊥) → false ≡ sameBytes (drop k a) (drop k b)
-  unfolding sameBytes
-  same-stop ha hb n = rw (drop-cons a k 0 ha, drop-cons b k 0 hb, ne-eqb (getD a k 0) (getD b k 0) n)
-
-  pub same-end : length a ≤ k → length b ≤ k → true ≡ sameBytes (drop k a) (drop k b)
-  unfolding sameBytes
-  same-end ha hb = rw (drop-of-length-le a ha, drop-of-length-le b hb)
 
 pub same-eq : (a b : List ℕ) → sameBytes a b ≡ true → a ≡ b
 unfolding sameBytes

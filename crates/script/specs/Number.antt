@@ -5,7 +5,8 @@ use mathlib.Core.List.{List, [], _∷_}
 use mathlib.Core.Option.{Option, none, some}
 use lib.Dec.{leb, ltb}
 use lib.ListN.{drop}
-use Rattle.script.specs.Words.{ascii, startsWith}
+use Rattle.eiproto.specs.Interface.{ascii}
+use Rattle.script.specs.Words.{startsWith}
 
 -- the value of a digit, in small or in capital letters; 16 where the character is none
 unfoldable pub digit : ℕ → ℕ

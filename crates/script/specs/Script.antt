@@ -9,7 +9,8 @@ use lib.IntN.{ℤ, pos, negℤ}
 use lib.ListN.{length, drop}
 use Rattle.script.specs.declared.verb.Verb.{Verb}
 use Rattle.script.specs.declared.verb.Kind.{Kind}
-use Rattle.script.specs.Words.{ascii, sameBytes, startsWith, words}
+use Rattle.eiproto.specs.Interface.{ascii, sameBytes}
+use Rattle.script.specs.Words.{startsWith, words}
 use Rattle.script.specs.Number.{digits, number, that, within, fits64}
 use Rattle.script.specs.Text.{isText, bytesOf}
 use Rattle.script.specs.Verbs.{settings, rowAt, lookup}

@@ -7,7 +7,8 @@ use lib.Dec.{ltb}
 use lib.ListN.{length, take, drop}
 use lib.Seq.{paste}
 use Rattle.script.specs.declared.text.Text.{Text}
-use Rattle.script.specs.Words.{ascii, startsWith}
+use Rattle.eiproto.specs.Interface.{ascii}
+use Rattle.script.specs.Words.{startsWith}
 use Rattle.script.specs.Number.{digit}
 
 -- two hexadecimal digits for each byte

@@ -13,7 +13,7 @@ use Rattle.script.specs.declared.verb.Kind.the-variants.{U64, U32, I32, 
 use Rattle.script.specs.declared.verb.Slot.{Slot}
 use Rattle.script.specs.declared.verb.Slot.the-variants.{Empty, Of}
 use Rattle.script.specs.declared.verb.Found.{Found}
-use Rattle.script.specs.Words.{ascii, sameBytes}
+use Rattle.eiproto.specs.Interface.{ascii, sameBytes}
 
 -- a line of the table: the first word, its verb, and what the words behind it are, in their order
 pub record Entry : Type 0 where

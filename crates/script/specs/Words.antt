@@ -1,23 +1,10 @@
 -- The words of a line. Assumes nothing.
 use Prim.Native.Nat.{ℕ}
-use Prim.Native.Char.{code}
-use Prim.Native.String.{String, [] as end, _∷_ as _then_}
-use mathlib.Core.Bool.{Bool, true, false, cond, _&&_}
+use mathlib.Core.Bool.{Bool, true, false, cond}
 use mathlib.Core.List.{List, [], _∷_}
 use lib.Dec.{eqb}
 use lib.ListN.{length, take}
-
--- the bytes of an ASCII text
-unfoldable pub ascii : String → List ℕ
-ascii end = []
-ascii (c then s) = code c ∷ ascii s
-
--- two words are the same, byte for byte
-unfoldable pub sameBytes : List ℕ → List ℕ → Bool
-sameBytes [] [] = true
-sameBytes [] (y ∷ ys) = false
-sameBytes (x ∷ xs) [] = false
-sameBytes (x ∷ xs) (y ∷ ys) = eqb x y && sameBytes xs ys
+use Rattle.eiproto.specs.Interface.{sameBytes}
 
 -- a word begins with these bytes
 unfoldable pub startsWith : List ℕ → List ℕ → Bool

@@ -2,7 +2,7 @@
 use crate::word;
 ghost use Prim.Native.Nat.{_<_};
 ghost use mathlib.Core.Path.{_≡_};
-ghost use Rattle.script.specs.Words.{sameBytes};
+ghost use Rattle.eiproto.specs.Interface.{sameBytes};
 ghost use Rattle.script.specs.Verbs.{rowAt, slotAt, slotOf, numberFound, lookup};
 
 // The first word of a line, without its dots and underscores.

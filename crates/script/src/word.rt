@@ -4,7 +4,8 @@ ghost use mathlib.Core.Path.{_≡_};
 ghost use lib.Ieee.{ofBits, binary32};
 ghost use lib.ListN.{length, drop};
 ghost use lib.IntN.{pos, negℤ};
-ghost use Rattle.script.specs.Words.{sameBytes, startsWith, before};
+ghost use Rattle.eiproto.specs.Interface.{sameBytes};
+ghost use Rattle.script.specs.Words.{startsWith, before};
 ghost use Rattle.script.specs.Number.{digit, digits, number, that, fits64};
 ghost use Rattle.script.specs.Told.{numberTold};
 

@@ -5,7 +5,7 @@ use native.Mathlib.Omega.{arith}
 use borrow.Author.Needs.{needs}
 use borrow.Author.Tests.{not-true, not-false}
 use lib.ListN.{length, drop}
-use Rattle.script.specs.Words.{ascii}
+use Rattle.eiproto.specs.Interface.{ascii}
 use Rattle.script.specs.Text.{isText, pairs}
 use Rattle.script.proofs.Words.{starts-length}
 use Rattle.script.proofs.Texts.{no-text, text-start, pairs-end, pairs-one, pairs-high, pairs-low, pairs-on}

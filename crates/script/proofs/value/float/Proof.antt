@@ -10,7 +10,7 @@ use lib.Ieee.{Float, div, ofBits, binary32}
 use Rattle.script.specs.Number.{number, within}
 use Rattle.script.specs.Script.{float}
 use Rattle.script.specs.Told.{numberTold, valueTold}
-use Rattle.script.specs.Words.{ascii}
+use Rattle.eiproto.specs.Interface.{ascii}
 use Rattle.script.proofs.Values.{small-within, within-yes, within-high, given-none, given-some, given-not, is-nan, no-bits, bits}
 use Rattle.script.proofs.value.float.Statement.{statement}
 use Rattle.script.proofs.value.float.Tie as tie

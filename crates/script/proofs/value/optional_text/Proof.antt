@@ -1,7 +1,7 @@
 -- `none`, or a text. Assumes nothing.
 use mathlib.Core.Path.{sym, _∙_}
 use borrow.Author.Needs.{needs}
-use Rattle.script.specs.Words.{ascii}
+use Rattle.eiproto.specs.Interface.{ascii}
 use Rattle.script.specs.Told.{part, valueTold}
 use Rattle.script.proofs.Values.{is-none, not-none}
 use Rattle.script.proofs.value.optional_text.Statement.{statement}

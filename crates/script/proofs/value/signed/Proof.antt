@@ -12,7 +12,7 @@ use mir.ValLaws.{toZ-ofZ, toZ-pos}
 use Rattle.script.specs.Number.{number, within, digits}
 use Rattle.script.specs.Script.{signed}
 use Rattle.script.specs.Told.{numberTold, valueTold}
-use Rattle.script.specs.Words.{ascii}
+use Rattle.eiproto.specs.Interface.{ascii}
 use Rattle.script.proofs.Words.{starts-length}
 use Rattle.script.proofs.Values.{small-within, within-yes, within-high, given-none, given-some, given-not, minus-sign, no-sign}
 use Rattle.script.proofs.value.signed.Statement.{statement}

@@ -6,7 +6,8 @@ use native.Mathlib.Omega.{arith}
 use borrow.Author.Needs.{needs}
 use lib.ListN.{length, take, drop}
 use lib.Seq.{length-take-le}
-use Rattle.script.specs.Words.{before, sameBytes}
+use Rattle.eiproto.specs.Interface.{sameBytes}
+use Rattle.script.specs.Words.{before}
 use Rattle.script.specs.Verbs.{lines, table}
 use Rattle.script.proofs.Words.{take-before, before-le}
 use Rattle.script.proofs.Table.{name-of}

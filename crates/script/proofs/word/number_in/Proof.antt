@@ -2,7 +2,7 @@
 use mathlib.Core.Path.{sym, _∙_}
 use native.Mathlib.Omega.{arith}
 use borrow.Author.Needs.{needs}
-use Rattle.script.specs.Words.{ascii}
+use Rattle.eiproto.specs.Interface.{ascii}
 use Rattle.script.proofs.Words.{starts-length}
 use Rattle.script.proofs.Numbers.{hexadecimal, decimal}
 use Rattle.script.proofs.word.number_in.Statement.{statement}

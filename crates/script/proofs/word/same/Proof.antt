@@ -4,8 +4,8 @@ use mathlib.Core.Path.{_≡_, refl, sym, _∙_}
 use native.Mathlib.Omega.{arith}
 use borrow.Author.Needs.{needs}
 use lib.ListN.{length, drop}
-use Rattle.script.specs.Words.{sameBytes}
-use Rattle.script.proofs.Words.{same-not, same-step, same-stop, same-end}
+use Rattle.eiproto.specs.Interface.{sameBytes}
+use Rattle.eiproto.proofs.Interface.{same-not, same-step, same-stop, same-end}
 use Rattle.script.proofs.word.same.Statement.{statement}
 use Rattle.script.proofs.word.same.Tie as tie
 
@@ -19,7 +19,7 @@ abbrev μ-loop : tie.MeasureT-loop
 
 returns : tie.Need-returns Inv-loop μ-loop
 returns c =
-    same-not (c .before .args .a .now) (c .before .args .b .now) (c .if1 .taken)
+    same-not (c .before .args .a .now) (c .before .args .b .now) (λ e. c .if1 .taken (sym e))
 
 loop-holds : tie.Need-loop-holds Inv-loop μ-loop
 loop-holds c =
