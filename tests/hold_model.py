@@ -22,7 +22,9 @@ BATCH = 30
 
 
 def script_and_trail(oracle, seed, profile, calls):
-    made = subprocess.run([os.path.join(oracle, "gen.py"), str(seed), str(calls), "--profile", profile], capture_output=True, text=True, check=True)
+    # gen.py goes through sets of words, whose order hangs on the hash seed: with it fixed, a seed gives the same script at each run.
+    fixed = {**os.environ, "PYTHONHASHSEED": "0"}
+    made = subprocess.run([os.path.join(oracle, "gen.py"), str(seed), str(calls), "--profile", profile], capture_output=True, text=True, check=True, env=fixed)
     ran = subprocess.run([os.path.join(oracle, "target/release/oracle")], input=made.stdout, capture_output=True, text=True, check=True)
     return made.stdout.split("\n"), ran.stdout.split("\n")
 

@@ -2,7 +2,7 @@
 use Prim.Native.Nat.{ℕ, zero, suc, _+_, _≤_, _<_}
 use mathlib.Core.Path.{_≡_, refl, ap, ap₂, _∙_}
 use mathlib.Core.Bool.{Bool, true, false}
-use mathlib.Core.List.{List, [], _∷_, _++_, map}
+use mathlib.Core.List.{List, [], _∷_, _++_}
 use mathlib.Core.Logic.{dite}
 use mathlib.Core.Option.{none, some}
 use native.Mathlib.Decide.{decLt}
@@ -81,8 +81,3 @@ module _ {A : Type 0} where
   tab-first-none t zero f h = refl
   tab-first-none t (suc n) f h =
       rw (h 0 (omega arith)) (ap (mapOption (λ j. suc j)) (tab-first-none t n (λ j. f (suc j)) (λ j q. h (suc j) (omega arith))))
-
-pub tab-map : {A B : Type 0} (g : A → B) (n : ℕ) (f : ℕ → A) → map g (tab n f) ≡ tab n (λ j. g (f j))
-unfolding tab
-tab-map g zero f = refl
-tab-map {A} {B} g (suc n) f = ap (λ (xs : List B). g (f 0) ∷ xs) (tab-map g n (λ j. f (suc j)))

@@ -13,7 +13,6 @@ use script::Text;
 use script::Value;
 use script::Verb;
 ghost use Prim.Native.Nat.{_≤_};
-ghost use lib.ListN.{length};
 
 // What the calls so far have come to.
 pub struct Run {

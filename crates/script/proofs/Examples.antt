@@ -1,4 +1,4 @@
--- Lines of call-script.md and what they are, by computation. Assumes nothing.
+-- Lines of the format's page and what they are, by computation. Assumes nothing.
 use Prim.Native.Nat.{_^_, _-_}
 use Prim.Native.String.{String}
 use mathlib.Core.Path.{_≡_, refl}

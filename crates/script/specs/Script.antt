@@ -1,4 +1,4 @@
--- The lines of a call script, as call-script.md has them. Assumes nothing.
+-- The lines of a call script, as the format's page (docs/CALL-SCRIPTS.md) has them. Assumes nothing.
 use Prim.Native.Nat.{ℕ, _-_, _^_}
 use mathlib.Core.Bool.{Bool, true, cond, _||_}
 use mathlib.Core.List.{List, [], _∷_, _++_}

@@ -1,4 +1,4 @@
--- The table of call-script.md: the first word of each line, and what the words behind it are. Assumes nothing.
+-- The table of the format's page: the first word of each line, and what the words behind it are. Assumes nothing.
 use Prim.Native.Nat.{ℕ, _+_, _-_}
 use Prim.Native.String.{String}
 use mathlib.Core.Bool.{cond}
