@@ -17,3 +17,5 @@ pub mod ReachableOrder
 pub mod ReachableHeld
 pub mod ReachablePlans
 pub mod Reachable
+pub mod Counted
+pub mod Steps

@@ -44,11 +44,11 @@ module _ {P : Type 0} (t : Split P) (s : Session P) where
     within : r ≡ source t s → Comes r
     beyond : (o : Outcome) → 13 < refusal o → r ≡ unchanged s o → Comes r
 
-  settled-refused : (r : Step P) (o : Outcome) → refuses o ≡ true → settled s r o ≡ unchanged s o
+  pub settled-refused : (r : Step P) (o : Outcome) → refuses o ≡ true → settled s r o ≡ unchanged s o
   unfolding settled
   settled-refused r o h = rw h
 
-  settled-accepted : (r : Step P) → refuses (r .outcome) ≡ false → settled s r (r .outcome) ≡ r
+  pub settled-accepted : (r : Step P) → refuses (r .outcome) ≡ false → settled s r (r .outcome) ≡ r
   unfolding settled
   settled-accepted r h = rw h
 

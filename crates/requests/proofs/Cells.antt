@@ -3,19 +3,21 @@ use Prim.Native.Nat.{ℕ, zero, suc, _+_, _-_, _≤_, _<_, _%_}
 use mathlib.Core.Path.{_≡_, refl, sym, ap, _∙_}
 use mathlib.Core.Bool.{Bool, true, false, cond}
 use mathlib.Core.List.{List, [], _∷_, _++_, map}
+use mathlib.Core.Logic.{_⊎_, inl, inr, ⊎-elim}
 use native.Mathlib.Omega.{arith}
-use borrow.Author.Tests.{lt-ltb}
+use borrow.Author.Tests.{lt-ltb, ne-eqb}
 use lib.Dec.{eqb, ltb, eqb·zero-suc, eqb·suc-zero, eqb·suc-suc}
 use lib.Ieee.{Float}
-use lib.ListN.{getD, drop, replicate, List·getD-map}
-use lib.Seq.{getD-take, getD-drop}
+use lib.ListN.{getD, drop, replicate, getD-replicate, List·getD-append, List·getD-eq-default, List·getD-map}
+use lib.Seq.{getD-drop, getD-set-same, set-getD}
 use Rattle.eiproto.specs.Enum.{buttonStateNumber, keyStateNumber}
 use Rattle.eiproto.specs.declared.eiproto_enum.ButtonState.{ButtonState}
 use Rattle.eiproto.specs.declared.eiproto_enum.KeyState.{KeyState}
 use Rattle.requests.specs.declared.row.Cell.{Cell}
-use Rattle.requests.specs.declared.request.EisRequest.the-variants.{Disconnect}
-use Rattle.requests.specs.Request.{setTime, isText}
-use Rattle.requests.specs.Row.{low, keyState, buttonState, cellOf, meanings, requestOf, rowOf, entry, withTime, cellAt, rowAt}
+use Rattle.requests.specs.declared.request.EisRequest.{EisRequest}
+use Rattle.requests.specs.declared.request.EisRequest.the-variants.{Disconnect, ScrollStop}
+use Rattle.requests.specs.Request.{framedRequest, isText}
+use Rattle.requests.specs.Row.{low, keyState, buttonState, cellOf, meanings, requestOf, rowOf, entry, framedRow, cellAt, rowAt}
 
 -- a number within its field is not cut
 pub low-is : (n : ℕ) → n < 4294967296 → low n ≡ n
@@ -53,34 +55,45 @@ pub slot-text : (words : List ℕ) (reals : List Float) (i : ℕ) → isText (ro
 unfolding rowAt rowOf entry
 slot-text words reals i = let c = cellAt words reals i in chosen (isText (requestOf c)) (c .flag)
 
-module _ (c : Cell) (t : ℕ) where
-  -- the cell at the time t
+module _ (c : Cell) (d t : ℕ) where
+  -- the cell on the device d at the time t
   abbrev at : Cell
-  at = cellOf (c .kind) (c .object) t (c .extra) (c .flag) (c .x) (c .y)
+  at = cellOf (c .kind) d t (c .extra) (c .flag) (c .x) (c .y)
 
-  -- the kinds from 8 on are timed
-  late : 8 ≤ c .kind → requestOf at ≡ setTime t (requestOf c)
+  abbrev stop : EisRequest
+  stop = ScrollStop d t false false
+
+  framed-is : framedRequest d t (requestOf c) ≡ getD (map (framedRequest d t) (meanings c)) (c .kind) stop
   unfolding requestOf
-  late h =
+  framed-is = sym (List·getD-map (framedRequest d t) (meanings c) (c .kind) Disconnect)
+
+  -- the kinds from 8 to 21 are timed; among them the default does not count
+  late : 8 ≤ c .kind → c .kind ≤ 21 → requestOf at ≡ framedRequest d t (requestOf c)
+  unfolding requestOf
+  late h k =
       let j : ℕ = c .kind - 8 in
       let e : 8 + j ≡ c .kind = omega arith in
-      ap (λ (k : ℕ). getD (meanings at) k Disconnect) (sym e)
+      let l : List EisRequest = drop 8 (meanings at) in
+      ap (λ (i : ℕ). getD (meanings at) i Disconnect) (sym e)
       ∙ sym (getD-drop 8 (meanings at) j Disconnect)
-      ∙ List·getD-map (setTime t) (drop 8 (meanings c)) j Disconnect
-      ∙ ap (setTime t) (getD-drop 8 (meanings c) j Disconnect ∙ ap (λ (k : ℕ). getD (meanings c) k Disconnect) e)
+      ∙ sym (getD-set-same l j (getD l j Disconnect) stop (omega arith))
+      ∙ ap (λ (m : List EisRequest). getD m j stop) (set-getD l j Disconnect)
+      ∙ getD-drop 8 (map (framedRequest d t) (meanings c)) j stop
+      ∙ ap (λ (i : ℕ). getD (map (framedRequest d t) (meanings c)) i stop) e
+      ∙ sym framed-is
 
-  -- those below are not
-  early : c .kind < 8 → requestOf c ≡ setTime t (requestOf c)
-  unfolding requestOf
-  early h =
-      sym (getD-take 8 (meanings c) (c .kind) Disconnect h)
-      ∙ getD-take 8 (map (setTime t) (meanings c)) (c .kind) Disconnect h
-      ∙ List·getD-map (setTime t) (meanings c) (c .kind) Disconnect
+  -- the others are not
+  lost : (c .kind < 8) ⊎ (21 < c .kind) → framedRequest d t (requestOf c) ≡ stop
+  lost (inl h) = framed-is ∙ List·getD-append (replicate 8 stop) (drop 8 (meanings at)) stop (c .kind) h ∙ getD-replicate 8 (c .kind) stop stop h
+  lost (inr h) = framed-is ∙ List·getD-eq-default (map (framedRequest d t) (meanings c)) stop h
 
-  pub timed-row : 8 ≤ c .kind → rowOf at ≡ withTime t (rowOf c)
-  unfolding rowOf entry withTime
-  timed-row h i = record { request = late h i; slot = cond ((kind-text at ∙ sym (kind-text c)) i) (c .flag % 32) 32 }
+  pub framed-row : 8 ≤ c .kind → c .kind ≤ 21 → rowOf at ≡ framedRow d t (rowOf c)
+  unfolding rowOf entry framedRow
+  framed-row h k i = record { request = late h k i; slot = cond ((kind-text at ∙ sym (kind-text c)) i) (c .flag % 32) 32 }
 
-  pub untimed-row : c .kind < 8 → rowOf c ≡ withTime t (rowOf c)
-  unfolding rowOf entry withTime
-  untimed-row h i = record { request = early h i; slot = rowOf c .slot }
+  no-text : (c .kind < 8) ⊎ (21 < c .kind) → isText (requestOf c) ≡ false
+  no-text o = kind-text c ∙ ne-eqb (c .kind) 21 (λ e. ⊎-elim (λ h. omega arith) (λ h. omega arith) o)
+
+  pub lost-row : (c .kind < 8) ⊎ (21 < c .kind) → entry stop 0 ≡ framedRow d t (rowOf c)
+  unfolding rowOf entry framedRow
+  lost-row o i = record { request = sym (lost o) i; slot = cond (sym (no-text o) i) (c .flag % 32) 32 }

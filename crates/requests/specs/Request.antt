@@ -6,12 +6,12 @@ use Rattle.requests.specs.declared.request.EisRequest.{EisRequest}
 use Rattle.requests.specs.declared.request.EisRequest.the-variants.{Disconnect, Bind, DeviceClosed, RequestDevice, Frame, Ready, DeviceStartEmulating, DeviceStopEmulating, PointerMotion, PointerMotionAbsolute, Button, ScrollDelta, ScrollStop, ScrollCancel, ScrollDiscrete, KeyboardKey, TouchDown, TouchUp, TouchMotion, TouchCancel, TextKeysym, TextUtf8}
 
 -- A request is on no device (`apart`); on a device, with no time that `time_mut` answers (`still`); or on a device and timed. Of a timed one
--- the form says what it is at each time, and of a text also its length.
+-- the form says what it is on each device at each time, and of a text also its length.
 pub data Form : Type 0 where
   apart : Form
   still : (device : ℕ) → Form
-  timed : (device : ℕ) (at : ℕ → EisRequest) → Form
-  text : (device length : ℕ) (at : ℕ → EisRequest) → Form
+  timed : (device : ℕ) (at : (device time : ℕ) → EisRequest) → Form
+  text : (device length : ℕ) (at : (device time : ℕ) → EisRequest) → Form
 
 abbrev pub form : EisRequest → Form
 form Disconnect = Form.apart
@@ -22,20 +22,20 @@ form (Frame d n u) = Form.still d
 form (Ready d) = Form.still d
 form (DeviceStartEmulating d n q) = Form.still d
 form (DeviceStopEmulating d n) = Form.still d
-form (PointerMotion d u x y) = Form.timed d (λ t. PointerMotion d t x y)
-form (PointerMotionAbsolute d u x y) = Form.timed d (λ t. PointerMotionAbsolute d t x y)
-form (Button d u b s) = Form.timed d (λ t. Button d t b s)
-form (ScrollDelta d u x y) = Form.timed d (λ t. ScrollDelta d t x y)
-form (ScrollStop d u x y) = Form.timed d (λ t. ScrollStop d t x y)
-form (ScrollCancel d u x y) = Form.timed d (λ t. ScrollCancel d t x y)
-form (ScrollDiscrete d u x y) = Form.timed d (λ t. ScrollDiscrete d t x y)
-form (KeyboardKey d u k s) = Form.timed d (λ t. KeyboardKey d t k s)
-form (TouchDown d u i x y) = Form.timed d (λ t. TouchDown d t i x y)
-form (TouchUp d u i) = Form.timed d (λ t. TouchUp d t i)
-form (TouchMotion d u i x y) = Form.timed d (λ t. TouchMotion d t i x y)
-form (TouchCancel d u i) = Form.timed d (λ t. TouchCancel d t i)
-form (TextKeysym d u k s) = Form.timed d (λ t. TextKeysym d t k s)
-form (TextUtf8 d u n) = Form.text d n (λ t. TextUtf8 d t n)
+form (PointerMotion d u x y) = Form.timed d (λ e t. PointerMotion e t x y)
+form (PointerMotionAbsolute d u x y) = Form.timed d (λ e t. PointerMotionAbsolute e t x y)
+form (Button d u b s) = Form.timed d (λ e t. Button e t b s)
+form (ScrollDelta d u x y) = Form.timed d (λ e t. ScrollDelta e t x y)
+form (ScrollStop d u x y) = Form.timed d (λ e t. ScrollStop e t x y)
+form (ScrollCancel d u x y) = Form.timed d (λ e t. ScrollCancel e t x y)
+form (ScrollDiscrete d u x y) = Form.timed d (λ e t. ScrollDiscrete e t x y)
+form (KeyboardKey d u k s) = Form.timed d (λ e t. KeyboardKey e t k s)
+form (TouchDown d u i x y) = Form.timed d (λ e t. TouchDown e t i x y)
+form (TouchUp d u i) = Form.timed d (λ e t. TouchUp e t i)
+form (TouchMotion d u i x y) = Form.timed d (λ e t. TouchMotion e t i x y)
+form (TouchCancel d u i) = Form.timed d (λ e t. TouchCancel e t i)
+form (TextKeysym d u k s) = Form.timed d (λ e t. TextKeysym e t k s)
+form (TextUtf8 d u n) = Form.text d n (λ e t. TextUtf8 e t n)
 
 abbrev pub timedForm : Form → Bool
 timedForm Form.apart = false
@@ -50,12 +50,23 @@ isTimed r = timedForm (form r)
 abbrev pub atTime : ℕ → EisRequest → Form → EisRequest
 atTime t r Form.apart = r
 atTime t r (Form.still d) = r
-atTime t r (Form.timed d at) = at t
-atTime t r (Form.text d n at) = at t
+atTime t r (Form.timed d at) = at d t
+atTime t r (Form.text d n at) = at d t
 
 -- the request after `time_mut` was set to t; one that is not timed is as it was
 abbrev pub setTime : ℕ → EisRequest → EisRequest
 setTime t r = atTime t r (form r)
+
+abbrev pub framedForm : (device time : ℕ) → Form → EisRequest
+framedForm d t Form.apart = ScrollStop d t false false
+framedForm d t (Form.still e) = ScrollStop d t false false
+framedForm d t (Form.timed e at) = at d t
+framedForm d t (Form.text e n at) = at d t
+
+-- a pending request as the frame of its device queues it: on that device, at the frame's time. None but timed requests are made pending; any
+-- other, which only damage can leave there, counts as a ScrollStop of neither axis
+abbrev pub framedRequest : (device time : ℕ) → EisRequest → EisRequest
+framedRequest d t r = framedForm d t (form r)
 
 abbrev pub deviceForm : Form → DeviceOf
 deviceForm Form.apart = DeviceOf.None

@@ -11,7 +11,7 @@ use mir.Syntax.{w32}
 use mir.Val.{toZ}
 use Rattle.eiproto.specs.declared.eiproto_enum.ButtonState.{ButtonState}
 use Rattle.eiproto.specs.declared.eiproto_enum.KeyState.{KeyState}
-use Rattle.requests.specs.Request.{setTime, isText}
+use Rattle.requests.specs.Request.{framedRequest, isText}
 use Rattle.requests.specs.declared.row.Cell.{Cell}
 use Rattle.requests.specs.declared.request.EisRequest.{EisRequest}
 use Rattle.requests.specs.declared.request.EisRequest.the-variants.{Disconnect, Bind, DeviceClosed, RequestDevice, Frame, Ready, DeviceStartEmulating, DeviceStopEmulating, PointerMotion, PointerMotionAbsolute, Button, ScrollDelta, ScrollStop, ScrollCancel, ScrollDiscrete, KeyboardKey, TouchDown, TouchUp, TouchMotion, TouchCancel, TextKeysym, TextUtf8}
@@ -75,9 +75,9 @@ entry r s = record { request = r; slot = cond (isText r) (s % 32) 32 }
 unfoldable pub rowOf : Cell → Row
 rowOf c = entry (requestOf c) (c .flag)
 
--- the row at the time t, if its request is timed
-unfoldable pub withTime : ℕ → Row → Row
-withTime t w = record { request = setTime t (w .request); slot = w .slot }
+-- a pending row as the frame of its device queues it; a text stays in its slot
+unfoldable pub framedRow : (device time : ℕ) → Row → Row
+framedRow d t w = record { request = framedRequest d t (w .request); slot = w .slot }
 
 -- row i is words 5 i to 5 i + 4 and reals 2 i and 2 i + 1
 unfoldable pub cellAt : List ℕ → List Float → ℕ → Cell

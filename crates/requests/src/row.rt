@@ -5,7 +5,7 @@ use eiproto::eiproto_enum::ButtonState;
 use eiproto::eiproto_enum::KeyState;
 ghost use mathlib.Core.Path.{_≡_};
 ghost use lib.Dec.{eqb};
-ghost use Rattle.requests.specs.Row.{low, amountOf, keyState, buttonState, cellOf, requestOf, rowOf, entry, withTime, cellAt, rowAt, Within, Put};
+ghost use Rattle.requests.specs.Row.{low, amountOf, keyState, buttonState, cellOf, requestOf, rowOf, entry, framedRow, cellAt, rowAt, Within, Put};
 
 // A request's numbers, by value.
 pub struct Cell {
@@ -386,14 +386,16 @@ pub fn slot_of(c: Cell) -> usize
     }
 }
 
-// The cell at this time, if its kind is timed: those are the kinds from 8 on. So a frame moves rows and decodes none.
-fn timed(c: Cell, time: u64) -> Cell
-    ensures { λ r. ⌜ rowOf r ≡ withTime time (rowOf c) ⌝ }
+// A pending cell as the frame of its device queues it. The timed kinds are those from 8 on, so a frame moves cells and decodes none.
+fn framed(c: Cell, device: u64, time: u64) -> Cell
+    ensures { λ r. ⌜ rowOf r ≡ framedRow device time (rowOf c) ⌝ }
 {
-    let mut r = c;
-    if 8 <= c.kind {
-        r.time = time;
+    if c.kind < 8 || 21 < c.kind {
+        return cell_of(12, device, time, 0, 0, 0.0, 0.0);
     }
+    let mut r = c;
+    r.object = device;
+    r.time = time;
     r
 }
 
@@ -453,20 +455,18 @@ pub fn put(words: &mut [u64], reals: &mut [f32], row: usize, r: EisRequest, slot
     write_cell(words, reals, row, encode(r, slot));
 }
 
-// Copies a row over another, as it is.
-pub fn copy(words: &mut [u64], reals: &mut [f32], from: usize, to: usize)
+// Copies a pending row over another, as the frame of its device queues it.
+pub fn copy_framed(
+    words: &mut [u64],
+    reals: &mut [f32],
+    from: usize,
+    to: usize,
+    device: u64,
+    time: u64,
+)
     requires { ⌜ Within (now words) (now reals) from × Within (now words) (now reals) to ⌝ }
-    ensures { λ _. ⌜ Put (rowAt (now (words .entry)) (now (reals .entry))) (rowAt (now (words .exit)) (now (reals .exit))) to (rowAt (now (words .entry)) (now (reals .entry)) from) ⌝ }
+    ensures { λ _. ⌜ Put (rowAt (now (words .entry)) (now (reals .entry))) (rowAt (now (words .exit)) (now (reals .exit))) to (framedRow device time (rowAt (now (words .entry)) (now (reals .entry)) from)) ⌝ }
 {
     let c = read_cell(words, reals, from);
-    write_cell(words, reals, to, c);
-}
-
-// Copies a row over another, at this time if it is timed.
-pub fn copy_timed(words: &mut [u64], reals: &mut [f32], from: usize, to: usize, time: u64)
-    requires { ⌜ Within (now words) (now reals) from × Within (now words) (now reals) to ⌝ }
-    ensures { λ _. ⌜ Put (rowAt (now (words .entry)) (now (reals .entry))) (rowAt (now (words .exit)) (now (reals .exit))) to (withTime time (rowAt (now (words .entry)) (now (reals .entry)) from)) ⌝ }
-{
-    let c = read_cell(words, reals, from);
-    write_cell(words, reals, to, timed(c, time));
+    write_cell(words, reals, to, framed(c, device, time));
 }

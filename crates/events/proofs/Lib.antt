@@ -1,0 +1,4 @@
+pub mod Writes
+pub mod Objects
+pub mod Announced
+pub mod Seen

@@ -1,0 +1,96 @@
+-- The loop has counted the objects of the devices that it passed. Assumes nothing.
+use Prim.Native.Nat.{ℕ, _+_, _*_, _-_, _≤_}
+use mathlib.Core.Path.{_≡_, sym, ap, _∙_}
+use native.Mathlib.Omega.{arith}
+use borrow.Author.Needs.{needs}
+use lib.ListN.{length}
+use Rattle.control.specs.Control.{deviceCount}
+use Rattle.events.proofs.Objects.{upTo, up-none, more-length, ofSeat, seat-hit, seat-miss, seat-length}
+use Rattle.events.proofs.seat_objects.Statement.{statement}
+use Rattle.events.proofs.seat_objects.Tie as tie
+
+abbrev Inv-loop : tie.InvT-loop
+Inv-loop control seat devices total₀ k₀ total k =
+    (k ≤ devices) × ((total ≡ length (upTo k (ofSeat control seat)) + 1) × (total ≤ 8 * k + 1))
+
+abbrev μ-loop : tie.MeasureT-loop
+μ-loop control seat devices total₀ k₀ total k =
+    devices - k
+
+device-count-requires : tie.Need-device-count-requires Inv-loop μ-loop
+device-count-requires c κs = search needs
+
+loop-holds : tie.Need-loop-holds Inv-loop μ-loop
+loop-holds c =
+    let a = c .before .before .args in
+    (omega arith, (omega (arith, ap length (up-none (ofSeat (a .control .now) (a .seat)))), omega arith))
+
+add-k : tie.Need-add-k Inv-loop μ-loop
+add-k c = search needs
+
+device-seat-requires : tie.Need-device-seat-requires Inv-loop μ-loop
+device-seat-requires c κs = search needs
+
+device-objects-requires : tie.Need-device-objects-requires Inv-loop μ-loop
+device-objects-requires c κs = search needs
+
+add-total : tie.Need-add-total Inv-loop μ-loop
+add-total c = search needs
+
+loop-less : tie.Need-loop-less Inv-loop μ-loop
+loop-less c = search needs
+
+loop-again : tie.Need-loop-again Inv-loop μ-loop
+loop-again c =
+    let a = c .before .before .before .before .before .before .before .args in
+    let w = a .control .now in
+    let o = c .before .before .before .before .loop in
+    let hit = seat-hit w (a .seat) (o .k) (sym (c .before .before .device-seat .ensures) ∙ c .before .if1 .taken) in (
+      omega arith,
+      (
+        omega (arith, o .inv .1 .0, c .device-objects .ensures .0, ap length hit, more-length (ofSeat w (a .seat)) (o .k)),
+        omega (arith, o .inv .1 .1, c .device-objects .ensures .1),
+      ),
+    )
+
+loop-less-2 : tie.Need-loop-less-2 Inv-loop μ-loop
+loop-less-2 c = search needs
+
+loop-again-2 : tie.Need-loop-again-2 Inv-loop μ-loop
+loop-again-2 c =
+    let a = c .before .before .before .before .before .before .args in
+    let w = a .control .now in
+    let o = c .before .before .before .loop in
+    let miss = seat-miss w (a .seat) (o .k) (λ e. c .if1 .left (c .before .device-seat .ensures ∙ e)) in (
+      omega arith,
+      (
+        omega (arith, o .inv .1 .0, ap length miss, more-length (ofSeat w (a .seat)) (o .k)),
+        omega (arith, o .inv .1 .1),
+      ),
+    )
+
+returns : tie.Need-returns Inv-loop μ-loop
+returns c =
+    let a = c .before .before .before .before .args in
+    let w = a .control .now in
+    let o = c .before .loop in
+    let e : o .k ≡ deviceCount w = omega arith in
+    (omega (arith, o .inv .1 .0, ap (λ (n : ℕ). length (upTo n (ofSeat w (a .seat)))) e, seat-length w (a .seat)), omega (arith, o .inv .1 .1))
+
+pub seat-objects-spec : {M : Type 1} → statement M
+seat-objects-spec =
+    tie.close
+    (tie.spec
+    Inv-loop
+    μ-loop
+    device-count-requires
+    loop-holds
+    add-k
+    device-seat-requires
+    device-objects-requires
+    add-total
+    loop-less
+    loop-again
+    loop-less-2
+    loop-again-2
+    returns)

@@ -1,0 +1,20 @@
+-- The interface of the bit is the one with the id. Assumes nothing.
+use Rattle.store.proofs.Edits.{interface-unlinked}
+use borrow.Author.Needs.{needs}
+use Rattle.store.proofs.unlink.Statement.{statement}
+use Rattle.store.proofs.unlink.Tie as tie
+
+unlink-requires : tie.Need-unlink-requires
+unlink-requires c κs = search needs
+
+same-length : tie.Need-same-length
+same-length c = search needs
+
+returns : tie.Need-returns
+returns c =
+    let a = c .before .before .before .before .before .args in
+    let p = c .before .before .before .before .before .pre in
+    interface-unlinked (a .bit) (p .1 .0) (p .1 .1) (c .before .before .unlink .ensures)
+
+pub unlink-spec : {M : Type 1} → statement M
+unlink-spec = tie.close (tie.spec unlink-requires same-length returns)

@@ -1,0 +1,145 @@
+-- What the four lent slices of a session mean: the session of the model, with the payloads as they are delivered. Every slice of numbers means
+-- something. Assumes nothing.
+use Prim.Native.Nat.{ℕ, _+_, _*_, _%_}
+use mathlib.Core.Path.{_≡_}
+use mathlib.Core.Bool.{Bool, false, _&&_}
+use mathlib.Core.List.{List, []}
+use lib.Dec.{eqb}
+use lib.Ieee.{Float}
+use lib.ListN.{length, take, drop}
+use Rattle.requests.specs.declared.request.EisRequest.{EisRequest}
+use Rattle.requests.specs.declared.request.EisRequest.the-variants.{Disconnect, Bind, DeviceClosed, RequestDevice, Frame, Ready, DeviceStartEmulating, DeviceStopEmulating, PointerMotion, PointerMotionAbsolute, Button, ScrollDelta, ScrollStop, ScrollCancel, ScrollDiscrete, KeyboardKey, TouchDown, TouchUp, TouchMotion, TouchCancel, TextKeysym, TextUtf8}
+use Rattle.requests.specs.Request.{textLength}
+use Rattle.requests.specs.Row.{Row, rowAt}
+use Rattle.model.specs.Call.{Kind, Load}
+use Rattle.model.specs.Session.{Item, Untimed, Request, Device, Session}
+use Rattle.control.specs.Table.{tab}
+use Rattle.control.specs.Control.{deviceCount, queueHead, queueLength, connectionOf, coreAt}
+use Rattle.control.specs.Sound.{Sound, isSound}
+
+-- ---- the slices: control words (the layout is in control's specs), rows of requests as words and reals, texts
+
+pub record Store : Type 0 where
+  pub control : List ℕ
+  pub words : List ℕ
+  pub reals : List Float
+  pub texts : List ℕ
+
+abbrev pub store : List ℕ → List ℕ → List Float → List ℕ → Store
+store c w r t = record { control = c; words = w; reals = r; texts = t }
+
+-- 768 rows of five words and two reals: 64 pending requests for each of 8 devices, then a ring of 256 queued ones
+abbrev pub wordsLength : ℕ
+wordsLength = 3840
+
+abbrev pub realsLength : ℕ
+realsLength = 1536
+
+-- 32 slots of 256 bytes: a text has at most 254, and any length that a row can hold lies within its slot
+abbrev pub textsLength : ℕ
+textsLength = 8192
+
+-- request j of the pending list of slot k
+abbrev pub pendingRow : (k j : ℕ) → ℕ
+pendingRow k j = 64 * k + j
+
+-- request j of the queue, whose oldest stands at `head` of the ring
+abbrev pub queueRow : (head j : ℕ) → ℕ
+queueRow head j = 512 + (head + j) % 256
+
+-- ---- what they mean
+
+abbrev pub itemOf : Kind → (touch : ℕ) → Load → Item Load
+itemOf k t p = record { kind = k; touch = t; size = 0; load = p }
+
+-- a request of the code, with its text, as the model has it
+unfoldable pub requestIn : EisRequest → (text : List ℕ) → Request Load
+requestIn Disconnect text = Request.untimed Untimed.Disconnect
+requestIn (Bind s m) text = Request.untimed (Untimed.Bind s m)
+requestIn (DeviceClosed d) text = Request.untimed (Untimed.DeviceClosed d)
+requestIn (RequestDevice s m) text = Request.untimed (Untimed.RequestDevice s m)
+requestIn (Frame d n t) text = Request.untimed (Untimed.Frame d n t)
+requestIn (Ready d) text = Request.untimed (Untimed.Ready d)
+requestIn (DeviceStartEmulating d n q) text = Request.untimed (Untimed.DeviceStartEmulating d n q)
+requestIn (DeviceStopEmulating d n) text = Request.untimed (Untimed.DeviceStopEmulating d n)
+requestIn (PointerMotion d t x y) text = Request.timed d t (itemOf Kind.PointerMotion 0 (Load.Point x y))
+requestIn (PointerMotionAbsolute d t x y) text = Request.timed d t (itemOf Kind.PointerMotionAbsolute 0 (Load.Point x y))
+requestIn (Button d t b s) text = Request.timed d t (itemOf Kind.Button 0 (Load.ButtonPress b s))
+requestIn (ScrollDelta d t x y) text = Request.timed d t (itemOf Kind.ScrollDelta 0 (Load.Point x y))
+requestIn (ScrollStop d t x y) text = Request.timed d t (itemOf Kind.ScrollStop 0 (Load.Axes x y))
+requestIn (ScrollCancel d t x y) text = Request.timed d t (itemOf Kind.ScrollCancel 0 (Load.Axes x y))
+requestIn (ScrollDiscrete d t x y) text = Request.timed d t (itemOf Kind.ScrollDiscrete 0 (Load.Discrete x y))
+requestIn (KeyboardKey d t k s) text = Request.timed d t (itemOf Kind.KeyboardKey 0 (Load.KeyPress k s))
+requestIn (TouchDown d t i x y) text = Request.timed d t (itemOf Kind.TouchDown i (Load.Point x y))
+requestIn (TouchUp d t i) text = Request.timed d t (itemOf Kind.TouchUp i Load.None)
+requestIn (TouchMotion d t i x y) text = Request.timed d t (itemOf Kind.TouchMotion i (Load.Point x y))
+requestIn (TouchCancel d t i) text = Request.timed d t (itemOf Kind.TouchCancel i Load.None)
+requestIn (TextKeysym d t k s) text = Request.timed d t (itemOf Kind.TextKeysym 0 (Load.KeyPress k s))
+requestIn (TextUtf8 d t n) text = Request.timed d t (record { kind = Kind.TextUtf8; touch = 0; size = n; load = Load.Text text })
+
+-- a pending request: its device and its time come with its frame. One that is not timed, which only damage can leave there, counts as a
+-- ScrollStop of neither axis (`framedRequest`)
+unfoldable pub itemIn : Request Load → Item Load
+itemIn (Request.timed d t i) = i
+itemIn (Request.untimed r) = itemOf Kind.ScrollStop 0 (Load.Axes false false)
+
+-- the text of a row; the empty one where it has none
+unfoldable pub textOf : List ℕ → Row → List ℕ
+textOf texts w = take (textLength (w .request)) (drop (256 * w .slot) texts)
+
+unfoldable pub requestAt : List ℕ → Row → Request Load
+unfolding requestIn textOf
+requestAt texts w = requestIn (w .request) (textOf texts w)
+
+unfoldable pub itemAt : List ℕ → Row → Item Load
+unfolding itemIn requestAt
+itemAt texts w = itemIn (requestAt texts w)
+
+-- a device, from its control words and its pending rows
+unfoldable pub deviceIn : List ℕ → (ℕ → Row) → List ℕ → ℕ → Device Load
+unfolding coreAt tab itemAt
+deviceIn c rows texts k =
+    record {
+      id = coreAt c k .id;
+      seat = coreAt c k .seat;
+      interfaces = coreAt c k .interfaces;
+      downTouchIds = coreAt c k .downTouchIds;
+      pending = tab (coreAt c k .pending) (λ j. itemAt texts (rows (pendingRow k j)));
+    }
+
+-- the queue, oldest first
+unfoldable pub queueIn : List ℕ → (ℕ → Row) → List ℕ → List (Request Load)
+unfolding tab requestAt
+queueIn c rows texts = tab (queueLength c) (λ j. requestAt texts (rows (queueRow (queueHead c) j)))
+
+unfoldable pub sessionIn : List ℕ → (ℕ → Row) → List ℕ → Session Load
+unfolding connectionOf tab deviceIn queueIn
+sessionIn c rows texts =
+    record { connection = connectionOf c; devices = tab (deviceCount c) (deviceIn c rows texts); requests = queueIn c rows texts }
+
+-- THE SESSION that the slices hold
+unfoldable pub session : Store → Session Load
+unfolding sessionIn rowAt
+session s = sessionIn (s .control) (rowAt (s .words) (s .reals)) (s .texts)
+
+-- ---- damaged states
+
+-- "21 BAD_STATE: a stored count above its limit, or a stored link past its table": the control words are sound and every slice has its length.
+-- A row's text lies within the texts whatever the row holds
+unfoldable pub isWhole : Store → Bool
+unfolding isSound
+isWhole s =
+    isSound (s .control) && (eqb (length (s .words)) wordsLength && (eqb (length (s .reals)) realsLength && eqb (length (s .texts)) textsLength))
+
+-- the same as bounds
+pub record Whole (s : Store) : Type 0 where
+  pub sound : Sound (s .control)
+  pub words-long : length (s .words) ≡ wordsLength
+  pub reals-long : length (s .reals) ≡ realsLength
+  pub texts-long : length (s .texts) ≡ textsLength
+
+-- the control words and the rows alone
+pub record Lent (c w : List ℕ) (r : List Float) : Type 0 where
+  pub sound : Sound c
+  pub words-long : length w ≡ wordsLength
+  pub reals-long : length r ≡ realsLength
