@@ -1,0 +1,4 @@
+pub mod Tables
+pub mod Entries
+pub mod Edits
+pub mod Room

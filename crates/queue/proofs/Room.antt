@@ -1,0 +1,28 @@
+-- The entries that are needed, and the room for them. Assumes nothing.
+use Prim.Native.Nat.{ℕ, zero, suc, _+_, _≤_, _<_}
+use native.Mathlib.Omega.{arith}
+use mathlib.Core.Path.{_≡_, refl, ap}
+use mathlib.Core.List.{List}
+use lib.Dec.{leb}
+use Rattle.control.specs.Control.{queueLength, pendingAt, coreAt}
+use Rattle.queue.specs.Queue.{frameEntries, hasRoom}
+
+pub room : (c : List ℕ) (n queued : ℕ) → queued ≡ queueLength c → leb (queued + n) 256 ≡ hasRoom c n
+unfolding hasRoom
+room c n queued e = ap (λ (q : ℕ). leb (q + n) 256) e
+
+pub entries-none : (n : ℕ) → n ≡ 0 → frameEntries n ≡ 0
+unfolding frameEntries
+entries-none zero e = refl
+entries-none (suc n) e = absurd (omega arith)
+
+pub entries-some : (n : ℕ) → 0 < n → frameEntries n ≡ n + 1
+unfolding frameEntries
+entries-some zero l = absurd (omega arith)
+entries-some (suc n) l = refl
+
+-- where something is pending
+pub frame-room : (c : List ℕ) (k : ℕ) {n queued : ℕ} → n ≡ coreAt c k .pending → 0 < n → queued ≡ queueLength c → queueLength c + frameEntries (pendingAt c k) ≤ 256
+    → queued + n + 1 ≤ 256
+unfolding coreAt
+frame-room c k is some len fits = omega (arith, entries-some (pendingAt c k) (omega arith))

@@ -1,0 +1,129 @@
+-- Nothing is pending; or the rows are copied, the Frame is put behind them, and the counts are set. Assumes nothing.
+use borrow.Author.Needs.{needs}
+use native.Mathlib.Omega.{arith}
+use Prim.Native.Nat.{_+_, _≤_, _<_}
+use Rattle.requests.specs.Row.{rowAt}
+use Rattle.queue.proofs.Room.{frame-room}
+use Rattle.queue.proofs.Entries.{frame-request}
+use Rattle.queue.proofs.Edits.{pending-bound, enacted, framed-none, framed-some}
+use Rattle.queue.proofs.frame.Statement.{statement}
+use Rattle.queue.proofs.frame.Tie as tie
+
+-- past the test, when the queue's head and length are read: something is pending, and there is room for it
+abbrev start : tie.After-queue-length → tie.Start
+start c = c .before .before .before .before .before .before .before .before .before .before
+
+some : (c : tie.After-queue-length) → 0 < c .before .before .before .before .before .pending-count .result
+some c = omega (arith, c .before .before .before .before .if1 .left)
+
+fits : (c : tie.After-queue-length) → c .queue-length .result + c .before .before .before .before .before .pending-count .result + 1 ≤ 256
+fits c =
+    let a = start c .args in
+    frame-room (a .control .now) (a .k) (c .before .before .before .before .before .pending-count .ensures) (some c) (c .queue-length .ensures) (start c .pre .1 .1)
+
+head-low : (c : tie.After-queue-length) → c .before .before .queue-head .result < 256
+head-low c = omega (arith, start c .pre .0 .sound .head, c .before .before .queue-head .ensures)
+
+slot-low : (c : tie.After-queue-length) → start c .args .k < 8
+slot-low c = omega (arith, start c .pre .0 .sound .devices, start c .pre .1 .0)
+
+pending-count-requires : tie.Need-pending-count-requires
+pending-count-requires c κs = search needs
+
+same-length : tie.Need-same-length
+same-length c = search needs
+
+returns : tie.Need-returns
+returns c =
+    let a = c .before .before .before .before .before .before .args in
+    let p = c .before .before .before .before .before .before .pre in
+    λ texts load.
+    enacted (p .0 .sound)
+    (framed-none (a .control .now) (rowAt (a .words .now) (a .reals .now)) texts (a .k) (a .serial) (a .time) (p .1 .0)
+    (omega (arith, c .before .pending-count .ensures, c .if1 .taken)) load)
+
+queue-head-requires : tie.Need-queue-head-requires
+queue-head-requires c κs = search needs
+
+queue-length-requires : tie.Need-queue-length-requires
+queue-length-requires c κs = search needs
+
+device-id-requires : tie.Need-device-id-requires
+device-id-requires c κs = search needs
+
+copy-pending-requires : tie.Need-copy-pending-requires
+copy-pending-requires c κs =
+    let q = c .before .before .before .before in
+    let p = start q .pre in
+    let short = pending-bound (p .0 .sound) (start q .args .k) (slot-low q) in (
+      p .0 .words-long,
+      (p .0 .reals-long, (slot-low q, (omega (arith, q .before .before .before .before .before .pending-count .ensures, short), (head-low q, omega (arith, fits q))))),
+    )
+
+add-queue-row : tie.Need-add-queue-row
+add-queue-row c = omega (arith, fits (c .before .before .before .before .before .before .before .before .before .before .before))
+
+queue-row-requires : tie.Need-queue-row-requires
+queue-row-requires c κs = let q = c .before .before .before .before .before .before .before .before .before .before .before in (head-low q, omega (arith, fits q))
+
+put-requires : tie.Need-put-requires
+put-requires c κs = search needs
+
+add-set-queue : tie.Need-add-set-queue
+add-set-queue c = omega (arith, fits (c .before .before .before .before .before .before .before .before .before .before .before .before .before .before .before .before .before .before))
+
+add-set-queue-2 : tie.Need-add-set-queue-2
+add-set-queue-2 c = omega (arith, fits (c .before .before .before .before .before .before .before .before .before .before .before .before .before .before .before .before .before .before))
+
+set-queue-requires : tie.Need-set-queue-requires
+set-queue-requires c κs = let q = c .before .before .before .before .before .before .before .before .before .before .before .before .before .before .before .before .before .before in (start q .pre .0 .sound, (head-low q, omega (arith, fits q)))
+
+set-pending-requires : tie.Need-set-pending-requires
+set-pending-requires c κs = (c .before .before .before .set-queue .ensures .sound, (slot-low (c .before .before .before .before .before .before .before .before .before .before .before .before .before .before .before .before .before .before .before .before .before .before), omega arith))
+
+same-length-2 : tie.Need-same-length-2
+same-length-2 c = search needs
+
+same-length-3 : tie.Need-same-length-3
+same-length-3 c = search needs
+
+same-length-4 : tie.Need-same-length-4
+same-length-4 c = search needs
+
+returns-2 : tie.Need-returns-2
+returns-2 c =
+    let put = c .before .before .before .before .before .before .before .before .before .before .before .before in
+    let copy = put .before .before .before .before .before .before .before .before in
+    let device = copy .before .before .before .device-id in
+    let q = copy .before .before .before .before .before in
+    let a = start q .args in
+    let p = start q .pre in
+    let e = c .before .before .set-pending .ensures in
+    λ texts load.
+    enacted (e .sound)
+    (framed-some (p .0 .sound) (copy .copy-pending .ensures) (put .put .ensures) (c .before .before .before .before .before .before .set-queue .ensures) e (p .1 .0) (q .before .before .before .before .before .pending-count .ensures) (some q)
+    (q .before .before .queue-head .ensures) (q .queue-length .ensures) (fits q) (device .ensures) (omega (arith, put .before .queue-row .ensures .0)) (omega arith) (omega arith) texts
+    (a .serial) (frame-request texts (device .result) (a .serial) (a .time) _) load)
+
+pub frame-spec : {M : Type 1} → statement M
+frame-spec =
+    tie.close
+    (tie.spec
+    pending-count-requires
+    same-length
+    returns
+    queue-head-requires
+    queue-length-requires
+    device-id-requires
+    copy-pending-requires
+    add-queue-row
+    queue-row-requires
+    put-requires
+    add-set-queue
+    add-set-queue-2
+    set-queue-requires
+    set-pending-requires
+    same-length-2
+    same-length-3
+    same-length-4
+    returns-2)

@@ -1,0 +1,166 @@
+// The pending lists of the devices and the queue, in place: 64 rows for each of 8 devices, then a ring of 256. Which rows these are is known
+// here and in specs alone.
+use requests::request::EisRequest;
+use requests::row;
+ghost use mathlib.Core.Path.{_≡_};
+ghost use mathlib.Core.List.{List, [], _∷_};
+ghost use Prim.Native.Nat.{ℕ, _+_, _≤_, _<_};
+ghost use Rattle.requests.specs.Row.{rowAt, entry};
+ghost use Rattle.model.specs.Call.{Load, Sight};
+ghost use Rattle.model.specs.Session.{Untimed, Request};
+ghost use Rattle.model.specs.Edit.{Edit, item};
+ghost use Rattle.control.specs.Control.{deviceCount, queueHead, queueLength, coreAt, pendingAt};
+ghost use Rattle.control.specs.Sound.{Sound};
+ghost use lib.ListN.{length};
+ghost use Rattle.store.specs.View.{store, Lent, wordsLength, realsLength, requestIn, itemAt, queueRow};
+ghost use Rattle.store.specs.Enact.{Enacted, Enacts, EnactsRows};
+ghost use Rattle.queue.specs.Queue.{Copied, frameEntries, hasRoom};
+
+// Where the ring begins, behind the pending lists.
+const QUEUE: usize = 512;
+
+const PENDING: usize = 64;
+
+const QUEUED: usize = 256;
+
+// Whether the queue has room for n entries more.
+pub fn has_room(control: &[u64], n: usize) -> bool
+    requires { ⌜ Sound (now control) × (n ≤ 256) ⌝ }
+    ensures { λ r. ⌜ r ≡ hasRoom (now (control .entry)) n ⌝ }
+{
+    control::queue_length(control) + n <= QUEUED
+}
+
+// The entries that a frame of the device in slot k needs.
+pub fn frame_entries(control: &[u64], k: usize) -> usize
+    requires { ⌜ Sound (now control) × (k < 8) ⌝ }
+    ensures { λ r. ⌜ (r ≡ frameEntries (coreAt (now (control .entry)) k .pending)) × (r ≤ 65) ⌝ }
+{
+    let n = control::pending_count(control, k);
+    if n == 0 { 0 } else { n + 1 }
+}
+
+// The row of entry j of the queue.
+fn queue_row(head: usize, j: usize) -> usize
+    requires { ⌜ (head < 256) × (j ≤ 256) ⌝ }
+    ensures { λ r. ⌜ (r ≡ queueRow head j) × (r < 768) ⌝ }
+{
+    QUEUE + (head + j) % QUEUED
+}
+
+// A request more in the pending list of the device in slot k; `slot` is that of its text, if it has one.
+pub fn pend(
+    control: &mut [u64],
+    words: &mut [u64],
+    reals: &mut [f32],
+    k: usize,
+    request: EisRequest,
+    slot: usize,
+)
+    requires { ⌜ Lent (now control) (now words) (now reals) × ((k < deviceCount (now control)) × (pendingAt (now control) k < 64)) ⌝ }
+    ensures { λ _. ⌜ ((texts : List ℕ) (sight : Sight) (load : Load) → item sight load ≡ itemAt texts (entry request slot) → Enacted (store (now (control .entry)) (now (words .entry)) (now (reals .entry)) texts) (store (now (control .exit)) (now (words .exit)) (now (reals .exit)) texts) (Edit.pend k sight ∷ []) load) ⌝ }
+{
+    let n = control::pending_count(control, k);
+    row::put(words, reals, PENDING * k + n, request, slot);
+    control_edits::set_pending(control, k, n + 1);
+}
+
+// An untimed request more in the queue.
+pub fn push(control: &mut [u64], words: &mut [u64], reals: &mut [f32], request: EisRequest)
+    requires { ⌜ Lent (now control) (now words) (now reals) × (queueLength (now control) < 256) ⌝ }
+    ensures { λ _. ⌜ ((r : Untimed) → requestIn request [] ≡ Request.untimed r → EnactsRows (now (control .entry)) (now (words .entry)) (now (reals .entry)) (now (control .exit)) (now (words .exit)) (now (reals .exit)) (Edit.queue r ∷ [])) ⌝ }
+{
+    let head = control::queue_head(control);
+    let queued = control::queue_length(control);
+    row::put(words, reals, queue_row(head, queued), request, 32);
+    control_edits::set_queue(control, head, queued + 1);
+}
+
+// Copies n pending rows behind the queue, as the frame of their device queues them.
+fn copy_pending(
+    words: &mut [u64],
+    reals: &mut [f32],
+    k: usize,
+    n: usize,
+    head: usize,
+    queued: usize,
+    device: u64,
+    time: u64,
+)
+    requires { ⌜ (length (now words) ≡ wordsLength) × ((length (now reals) ≡ realsLength) × ((k < 8) × ((n ≤ 64) × ((head < 256) × (queued + n ≤ 256))))) ⌝ }
+    ensures { λ _. ⌜ Copied (rowAt (now (words .entry)) (now (reals .entry))) (rowAt (now (words .exit)) (now (reals .exit))) k n head queued device time ⌝ }
+{
+    let mut j: usize = 0;
+    while j < n {
+        row::copy_framed(
+            words,
+            reals,
+            PENDING * k + j,
+            queue_row(head, queued + j),
+            device,
+            time,
+        );
+        j += 1;
+    }
+}
+
+// "Every pending request, in arrival order, gets the frame's time and is queued, then the Frame itself", and nothing where nothing is pending.
+pub fn frame(
+    control: &mut [u64],
+    words: &mut [u64],
+    reals: &mut [f32],
+    k: usize,
+    serial: u32,
+    time: u64,
+)
+    requires { ⌜ Lent (now control) (now words) (now reals) × ((k < deviceCount (now control)) × (queueLength (now control) + frameEntries (pendingAt (now control) k) ≤ 256)) ⌝ }
+    ensures { λ _. ⌜ EnactsRows (now (control .entry)) (now (words .entry)) (now (reals .entry)) (now (control .exit)) (now (words .exit)) (now (reals .exit)) (Edit.frame k serial time ∷ []) ⌝ }
+{
+    let n = control::pending_count(control, k);
+    if n == 0 {
+        return;
+    }
+    let head = control::queue_head(control);
+    let queued = control::queue_length(control);
+    let device = control::device_id(control, k);
+    copy_pending(words, reals, k, n, head, queued, device, time);
+    row::put(
+        words,
+        reals,
+        queue_row(head, queued + n),
+        EisRequest::Frame {
+            device,
+            last_serial: serial,
+            time,
+        },
+        32,
+    );
+    control_edits::set_queue(control, head, queued + n + 1);
+    control_edits::set_pending(control, k, 0);
+}
+
+// The oldest queued request.
+pub fn oldest(control: &[u64], words: &[u64], reals: &[f32]) -> EisRequest
+    requires { ⌜ Lent (now control) (now words) (now reals) × (0 < queueLength (now control)) ⌝ }
+    ensures { λ r. ⌜ r ≡ rowAt (now (words .entry)) (now (reals .entry)) (queueRow (queueHead (now (control .entry))) 0) .request ⌝ }
+{
+    row::load(words, reals, queue_row(control::queue_head(control), 0))
+}
+
+// The slot of its text, below 32; 32 where it has none.
+pub fn oldest_slot(control: &[u64], words: &[u64], reals: &[f32]) -> usize
+    requires { ⌜ Lent (now control) (now words) (now reals) × (0 < queueLength (now control)) ⌝ }
+    ensures { λ r. ⌜ r ≡ rowAt (now (words .entry)) (now (reals .entry)) (queueRow (queueHead (now (control .entry))) 0) .slot ⌝ }
+{
+    row::load_slot(words, reals, queue_row(control::queue_head(control), 0))
+}
+
+// The oldest queued request taken out.
+pub fn pop(control: &mut [u64])
+    requires { ⌜ Sound (now control) × (0 < queueLength (now control)) ⌝ }
+    ensures { λ _. ⌜ Enacts (now (control .entry)) (now (control .exit)) (Edit.deliver ∷ []) ⌝ }
+{
+    let head = control::queue_head(control);
+    let queued = control::queue_length(control);
+    control_edits::set_queue(control, (head + 1) % QUEUED, queued - 1);
+}

@@ -1,0 +1,89 @@
+// Devices and seats taken out of a session, in place: whole rows of control words and of pending requests move down.
+ghost use mathlib.Core.Path.{_≡_};
+ghost use mathlib.Core.List.{[], _∷_};
+ghost use Prim.Native.Nat.{_+_, _≤_, _<_};
+ghost use lib.Ieee.{nan};
+ghost use lib.ListN.{length, getD};
+ghost use Rattle.model.specs.Edit.{Edit};
+ghost use Rattle.model.specs.Decide.{removeSeats};
+ghost use Rattle.control.specs.Control.{deviceCount, connectionOf};
+ghost use Rattle.store.specs.View.{Lent};
+ghost use Rattle.store.specs.Enact.{EnactsRows};
+ghost use Rattle.removal.specs.Shift.{Shifted};
+
+// The words and the reals of a device's 64 pending rows.
+const SLOT_WORDS: usize = 320;
+
+const SLOT_REALS: usize = 128;
+
+// n words from `from` on, moved down to `to`.
+fn shift_words(a: &mut [u64], to: usize, from: usize, n: usize)
+    requires { ⌜ (to ≤ from) × (from + n ≤ length (now a)) ⌝ }
+    ensures { λ _. ⌜ Shifted (λ x. getD (now (a .entry)) x 0) (λ x. getD (now (a .exit)) x 0) to from n ⌝ }
+{
+    let mut i: usize = 0;
+    while i < n {
+        a[to + i] = a[from + i];
+        i += 1;
+    }
+}
+
+// The same of reals.
+fn shift_reals(a: &mut [f32], to: usize, from: usize, n: usize)
+    requires { ⌜ (to ≤ from) × (from + n ≤ length (now a)) ⌝ }
+    ensures { λ _. ⌜ Shifted (λ x. getD (now (a .entry)) x nan) (λ x. getD (now (a .exit)) x nan) to from n ⌝ }
+{
+    let mut i: usize = 0;
+    while i < n {
+        a[to + i] = a[from + i];
+        i += 1;
+    }
+}
+
+// The device in slot k taken out with what it has pending; those behind it move down. What is queued stays.
+pub fn remove_device(control: &mut [u64], words: &mut [u64], reals: &mut [f32], k: usize)
+    requires { ⌜ Lent (now control) (now words) (now reals) × (k < deviceCount (now control)) ⌝ }
+    ensures { λ _. ⌜ EnactsRows (now (control .entry)) (now (words .entry)) (now (reals .entry)) (now (control .exit)) (now (words .exit)) (now (reals .exit)) (Edit.removeDevice k ∷ []) ⌝ }
+{
+    let behind = control::device_count(control) - 1 - k;
+    shift_words(
+        words,
+        SLOT_WORDS * k,
+        SLOT_WORDS * (k + 1),
+        SLOT_WORDS * behind,
+    );
+    shift_reals(
+        reals,
+        SLOT_REALS * k,
+        SLOT_REALS * (k + 1),
+        SLOT_REALS * behind,
+    );
+    control_edits::remove_device_row(control, k);
+}
+
+// Every device of a seat taken out.
+pub fn remove_devices_of(control: &mut [u64], words: &mut [u64], reals: &mut [f32], seat: u64)
+    requires { ⌜ Lent (now control) (now words) (now reals) ⌝ }
+    ensures { λ _. ⌜ EnactsRows (now (control .entry)) (now (words .entry)) (now (reals .entry)) (now (control .exit)) (now (words .exit)) (now (reals .exit)) (Edit.removeDevicesOf seat ∷ []) ⌝ }
+{
+    let mut k: usize = 0;
+    while k < control::device_count(control) {
+        if control::device_seat(control, k) == seat {
+            remove_device(control, words, reals, k);
+        } else {
+            k += 1;
+        }
+    }
+}
+
+// Every seat taken out, each after its devices.
+pub fn remove_seats(control: &mut [u64], words: &mut [u64], reals: &mut [f32])
+    requires { ⌜ Lent (now control) (now words) (now reals) ⌝ }
+    ensures { λ _. ⌜ EnactsRows (now (control .entry)) (now (words .entry)) (now (reals .entry)) (now (control .exit)) (now (words .exit)) (now (reals .exit)) (removeSeats (connectionOf (now (control .entry)) .seats)) ⌝ }
+{
+    while 0 < control::seat_count(control) {
+        let seat = control::seat_id(control, 0);
+        remove_devices_of(control, words, reals, seat);
+        store::remove_seat(control, seat);
+    }
+}

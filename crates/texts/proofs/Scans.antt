@@ -1,0 +1,184 @@
+-- What a pass over the requests tells of the session. Assumes nothing.
+use Prim.Native.Nat.{ℕ, zero, suc, _+_, _*_, _%_, _^_, _≤_, _<_}
+use mathlib.Core.Path.{_≡_, refl, sym, ap, ap₂, subst, _∙_}
+use mathlib.Core.Bool.{true, false, cond, false≢true}
+use mathlib.Core.List.{List, [], _∷_, _++_}
+use native.Mathlib.Numerals.{add-one}
+use native.Mathlib.Omega.{arith}
+use borrow.Author.Tests.{lt-ltb}
+use lib.Dec.{ltb}
+use lib.Ieee.{Float}
+use lib.ListN.{length}
+use Rattle.eiproto.specs.Bits.{bit, bitsOf}
+use Rattle.eiproto.proofs.Bits.{bits-none}
+use Rattle.requests.specs.declared.request.EisRequest.{EisRequest}
+use Rattle.requests.specs.declared.request.EisRequest.the-variants.{Disconnect, Bind, DeviceClosed, RequestDevice, Frame, Ready, DeviceStartEmulating, DeviceStopEmulating, PointerMotion, PointerMotionAbsolute, Button, ScrollDelta, ScrollStop, ScrollCancel, ScrollDiscrete, KeyboardKey, TouchDown, TouchUp, TouchMotion, TouchCancel, TextKeysym, TextUtf8}
+use Rattle.requests.specs.Row.{requestOf, entry, rowOf, cellAt, rowAt}
+use Rattle.model.specs.Call.{Load}
+use Rattle.model.specs.Session.{Item, Request, Device}
+use Rattle.model.specs.Step.{texts, pendingTexts, devicesTexts, queuedTexts, counts}
+use Rattle.control.specs.Table.{tab}
+use Rattle.control.specs.Control.{deviceCount, queueHead, queueLength, coreAt}
+use Rattle.control.specs.Sound.{Sound}
+use Rattle.control.proofs.Tables.{case-eq, tab-append}
+use Rattle.store.specs.View.{pendingRow, queueRow, requestIn, itemIn, textOf, requestAt, itemAt, deviceIn, queueIn, sessionIn, session}
+use Rattle.texts.specs.declared.LiveTexts.{LiveTexts}
+use Rattle.texts.specs.Texts.{textsAmong, Counted, Live}
+
+-- ---- a request has a text if its slot is below 32
+
+-- 1 for a text, 0 for any other request
+abbrev textsOf : Request Load → ℕ
+textsOf (Request.timed d t i) = texts (i .kind)
+textsOf (Request.untimed r) = 0
+
+item-texts : (r : Request Load) → texts (itemIn r .kind) ≡ textsOf r
+unfolding itemIn texts
+item-texts (Request.timed d t i) = refl
+item-texts (Request.untimed r) = refl
+
+module _ (s : ℕ) (text : List ℕ) where
+  request-texts : (r : EisRequest) → textsOf (requestIn r text) ≡ cond (ltb (entry r s .slot) 32) 1 0
+  unfolding requestIn entry texts
+  request-texts Disconnect = refl
+  request-texts (Bind a b) = refl
+  request-texts (DeviceClosed a) = refl
+  request-texts (RequestDevice a b) = refl
+  request-texts (Frame a b c) = refl
+  request-texts (Ready a) = refl
+  request-texts (DeviceStartEmulating a b c) = refl
+  request-texts (DeviceStopEmulating a b) = refl
+  request-texts (PointerMotion a b c d) = refl
+  request-texts (PointerMotionAbsolute a b c d) = refl
+  request-texts (Button a b c d) = refl
+  request-texts (ScrollDelta a b c d) = refl
+  request-texts (ScrollStop a b c d) = refl
+  request-texts (ScrollCancel a b c d) = refl
+  request-texts (ScrollDiscrete a b c d) = refl
+  request-texts (KeyboardKey a b c d) = refl
+  request-texts (TouchDown a b c d e) = refl
+  request-texts (TouchUp a b c) = refl
+  request-texts (TouchMotion a b c d e) = refl
+  request-texts (TouchCancel a b c) = refl
+  request-texts (TextKeysym a b c d) = refl
+  request-texts (TextUtf8 a b c) = rw (lt-ltb (s % 32) 32 (omega arith))
+
+module _ (w : List ℕ) (r : List Float) (ts : List ℕ) where
+  row-texts : (i : ℕ) → textsOf (requestAt ts (rowAt w r i)) ≡ cond (ltb (rowAt w r i .slot) 32) 1 0
+  unfolding requestAt rowAt rowOf entry
+  row-texts i = request-texts (cellAt w r i .flag) (textOf ts (rowAt w r i)) (requestOf (cellAt w r i))
+
+-- ---- lists of them, one longer
+
+pending-more : (is : List (Item Load)) (i : Item Load) → pendingTexts (is ++ (i ∷ [])) ≡ pendingTexts is + texts (i .kind)
+unfolding pendingTexts
+pending-more [] i = omega arith
+pending-more (j ∷ is) i = omega (arith, pending-more is i)
+
+devices-more : (ds : List (Device Load)) (d : Device Load) → devicesTexts (ds ++ (d ∷ [])) ≡ devicesTexts ds + pendingTexts (d .pending)
+unfolding devicesTexts
+devices-more [] d = omega arith
+devices-more (e ∷ ds) d = omega (arith, devices-more ds d)
+
+queued-more : (rs : List (Request Load)) (r : Request Load) → queuedTexts (rs ++ (r ∷ [])) ≡ queuedTexts rs + textsOf r
+unfolding queuedTexts
+queued-more [] (Request.timed d t i) = omega arith
+queued-more [] (Request.untimed r) = refl
+queued-more (Request.timed d t i ∷ rs) r = omega (arith, queued-more rs r)
+queued-more (Request.untimed q ∷ rs) r = queued-more rs r
+
+module _ (w : List ℕ) (r : List Float) (ts : List ℕ) (at : ℕ → ℕ) where
+  pending-texts : (n : ℕ) → pendingTexts (tab n (λ j. itemAt ts (rowAt w r (at j)))) ≡ textsAmong n (λ j. rowAt w r (at j) .slot)
+  unfolding textsAmong tab pendingTexts itemAt
+  pending-texts zero = refl
+  pending-texts (suc n) =
+      ap pendingTexts (tab-append n (λ j. itemAt ts (rowAt w r (at j)))) ∙ pending-more (tab n (λ j. itemAt ts (rowAt w r (at j)))) (itemAt ts (rowAt w r (at n)))
+      ∙ ap₂ (λ (x y : ℕ). x + y) (pending-texts n) (item-texts (requestAt ts (rowAt w r (at n))) ∙ row-texts w r ts (at n))
+
+  queued-texts : (n : ℕ) → queuedTexts (tab n (λ j. requestAt ts (rowAt w r (at j)))) ≡ textsAmong n (λ j. rowAt w r (at j) .slot)
+  unfolding textsAmong tab queuedTexts
+  queued-texts zero = refl
+  queued-texts (suc n) =
+      ap queuedTexts (tab-append n (λ j. requestAt ts (rowAt w r (at j)))) ∙ queued-more (tab n (λ j. requestAt ts (rowAt w r (at j)))) (requestAt ts (rowAt w r (at n)))
+      ∙ ap₂ (λ (x y : ℕ). x + y) (queued-texts n) (row-texts w r ts (at n))
+
+-- ---- the pass over the devices, then over the queue
+
+-- no slot is marked and not marked
+marked-not : (used : ℕ) {s slot : ℕ} → bit s used ≡ true → s ≡ slot → bit slot used ≡ false → ⊥
+marked-not used t z e = false≢true (sym e ∙ ap (λ (x : ℕ). bit x used) (sym z) ∙ t)
+
+module _ (c w : List ℕ) (r : List Float) where
+  -- of device k's pending list, and of the queue
+  abbrev pendingSlots : ℕ → ℕ → ℕ
+  pendingSlots k j = rowAt w r (pendingRow k j) .slot
+
+  abbrev queueSlots : ℕ → ℕ → ℕ
+  queueSlots head j = rowAt w r (queueRow head j) .slot
+
+  -- the first k devices are passed
+  pub record Passed (k : ℕ) (live : LiveTexts) : Type 0 where
+    pub count : (ts : List ℕ) → live .count ≡ devicesTexts (tab k (deviceIn c (rowAt w r) ts))
+    pub most : live .count ≤ 64 * k
+    pub marked : (i j : ℕ) → i < k → j < coreAt c i .pending → pendingSlots i j < 32 → bit (pendingSlots i j) (live .used) ≡ true
+    pub few : length (bitsOf (live .used)) ≤ live .count
+    pub below : live .used < 2 ^ 32
+
+  pub passed-none : Passed 0 (record { count = 0; used = 0 })
+  unfolding tab devicesTexts
+  passed-none =
+      record { count = λ ts. refl; most = omega arith; marked = λ i j l. absurd (omega arith); few = rw bits-none (omega arith); below = omega arith }
+
+  device-texts : (ts : List ℕ) (k : ℕ) → pendingTexts (deviceIn c (rowAt w r) ts k .pending) ≡ textsAmong (coreAt c k .pending) (pendingSlots k)
+  unfolding deviceIn
+  device-texts ts k = pending-texts w r ts (pendingRow k) (coreAt c k .pending)
+
+  pub passed-step : {live later : LiveTexts} (k n : ℕ) → n ≡ coreAt c k .pending → n ≤ 64 → Passed k live → Counted live later n (pendingSlots k)
+      → Passed (k + 1) later
+  passed-step {live} {later} k n e small p q =
+      record {
+        count =
+            λ ts.
+            let f = deviceIn c (rowAt w r) ts in
+            q .count
+            ∙ ap₂ (λ (x y : ℕ). x + y) (p .count ts) (ap (λ (m : ℕ). textsAmong m (pendingSlots k)) e ∙ sym (device-texts ts k))
+            ∙ sym (devices-more (tab k f) (f k)) ∙ rw add-one (ap devicesTexts (sym (tab-append k f)));
+        most = omega (arith, p .most, q .most);
+        marked =
+            λ i j l m s.
+            case-eq i k
+            (λ z.
+            subst (λ (x : ℕ). j < coreAt c x .pending → pendingSlots x j < 32 → bit (pendingSlots x j) (later .used) ≡ true) (sym z)
+            (λ a b. q .marked j (omega (arith, a)) b) m s)
+            (λ ne. q .kept (pendingSlots i j) (p .marked i j (omega arith) m s));
+        few = omega (arith, p .few, q .few);
+        below = q .below;
+      }
+
+  pub passed-live : {live later : LiveTexts} (k head n : ℕ) → k ≡ deviceCount c → head ≡ queueHead c → n ≡ queueLength c → Passed k live
+      → Counted live later n (queueSlots head) → Live c w r later
+  unfolding counts session sessionIn queueIn
+  passed-live {live} {later} k head n ek eh en p q =
+      record {
+        count =
+            λ ts.
+            q .count
+            ∙ ap₂ (λ (x y : ℕ). x + y) (p .count ts ∙ ap (λ (m : ℕ). devicesTexts (tab m (deviceIn c (rowAt w r) ts))) ek)
+            (sym (queued-texts w r ts (queueRow head) n)
+            ∙ ap₂ (λ (h m : ℕ). queuedTexts (tab m (λ j. requestAt ts (rowAt w r (queueRow h j))))) eh en);
+        free =
+            λ slot l e.
+            record {
+              pending = λ i j a b z. marked-not (later .used) (q .kept (pendingSlots i j) (p .marked i j (omega arith) b (omega arith))) z e;
+              queued =
+                  λ j a z.
+                  marked-not (later .used)
+                  (subst (λ (h : ℕ). queueSlots h j < 32 → bit (queueSlots h j) (later .used) ≡ true) eh (λ b. q .marked j (omega arith) b) (omega arith)) z e;
+            };
+        few = omega (arith, p .few, q .few);
+        below = q .below;
+      }
+
+pub pending-bound : (c : List ℕ) (k : ℕ) → Sound c → k < deviceCount c → coreAt c k .pending ≤ 64
+unfolding coreAt
+pending-bound c k s l = s .pending k (omega arith)
