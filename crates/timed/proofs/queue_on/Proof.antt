@@ -1,0 +1,18 @@
+-- The test of the pending count decides. Assumes nothing.
+use native.Mathlib.Omega.{arith}
+use Rattle.timed.proofs.Decisions.{queue-full, queue-room}
+use borrow.Author.Needs.{needs}
+use Rattle.timed.proofs.queue_on.Statement.{statement}
+use Rattle.timed.proofs.queue_on.Tie as tie
+
+pending-count-requires : tie.Need-pending-count-requires
+pending-count-requires c κs = search needs
+
+returns : tie.Need-returns
+returns c = let a = c .before .before .before .args in queue-full (a .control .now) (a .k) (omega (arith, c .before .pending-count .ensures))
+
+returns-2 : tie.Need-returns-2
+returns-2 c = let a = c .before .before .before .args in queue-room (a .control .now) (a .k) (omega (arith, c .before .pending-count .ensures))
+
+pub queue-on-spec : {M : Type 1} → statement M
+queue-on-spec = tie.close (tie.spec pending-count-requires returns returns-2)
