@@ -126,7 +126,7 @@ raised-append n (o ∷ os) ys = raised-append (nextSerial n) os ys
 
 pub destroys-none : (out : List ℕ) (mark : Mark) → Destroys out out mark [] mark
 unfolding records destroyed raised
-destroys-none out mark = record { bytes = sym (splice-none out (mark .at)); at = omega arith; serial = refl }
+destroys-none out mark = record { bytes = sym (splice-none out (mark .at)); at = omega arith; serial = omega arith }
 
 pub destroys-one : {out later : List ℕ} {mark : Mark} {object serial r : ℕ} → serial ≡ nextSerial (mark .serial)
     → Sends out later (mark .at) (on object (Event.Destroyed serial) ∷ []) r → Destroys out later mark (object ∷ []) (record { at = r; serial = serial })

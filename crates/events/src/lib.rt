@@ -24,8 +24,12 @@ pub struct Mark {
     pub serial: u32,
 }
 
-// The bytes of a destroyed record.
+// The bytes of a destroyed record, of a seat's capability and of a device's interface.
 pub const DESTROYED_LENGTH: usize = 14;
+
+pub const CAPABILITY_LENGTH: usize = 19;
+
+pub const INTERFACE_LENGTH: usize = 23;
 
 // One event, at a place that has room for it; the place behind it.
 pub fn send(out: &mut [u8], at: usize, object: u64, e: Event, text: &[u8]) -> usize
@@ -169,7 +173,7 @@ pub fn capabilities_length(control: &[u64], seat: u64, capabilities: u64) -> usi
         let bit = DeviceCapability::lowest(left);
         left = DeviceCapability::without_lowest(left);
         if negotiated(control, bit) {
-            total += 19;
+            total += CAPABILITY_LENGTH;
         }
     }
     total

@@ -44,7 +44,8 @@ add-total c =
 
 loop-less : tie.Need-loop-less Inv-loop μ-loop
 loop-less c =
-    left-less (c .before .before .before .before .before .loop .left) _ (omega arith) (c .before .before .before .before .before .loop .inv .0) (c .before .before .without-lowest .ensures)
+    let o = c .before .before .before .before .before .loop in
+    left-less (o .left) _ (omega arith) (o .inv .0) (c .before .before .without-lowest .ensures)
 
 loop-again : tie.Need-loop-again Inv-loop μ-loop
 loop-again c =
@@ -56,7 +57,8 @@ loop-again c =
 
 loop-less-2 : tie.Need-loop-less-2 Inv-loop μ-loop
 loop-less-2 c =
-    left-less (c .before .before .before .before .before .loop .left) _ (omega arith) (c .before .before .before .before .before .loop .inv .0) (c .before .before .without-lowest .ensures)
+    let o = c .before .before .before .before .before .loop in
+    left-less (o .left) _ (omega arith) (o .inv .0) (c .before .before .without-lowest .ensures)
 
 loop-again-2 : tie.Need-loop-again-2 Inv-loop μ-loop
 loop-again-2 c =

@@ -48,7 +48,8 @@ without-lowest-requires c κs = search needs
 
 loop-less : tie.Need-loop-less Inv-loop μ-loop
 loop-less c =
-    left-less (c .before .before .before .before .before .before .before .before .loop .left) _ (omega arith) (c .before .before .before .before .before .before .before .before .loop .inv .0) (c .without-lowest .ensures)
+    let o = c .before .before .before .before .before .before .before .before .loop in
+    left-less (o .left) _ (omega arith) (o .inv .0) (c .without-lowest .ensures)
 
 loop-again : tie.Need-loop-again Inv-loop μ-loop
 loop-again c =

@@ -36,7 +36,7 @@ loop-holds c =
     let e = coming-first n (a .device) (a .capabilities) in (
       c .before .before .pre .1 .0,
       (
-        c .before .before .pre .1 .1 .0,
+        omega (arith, c .before .before .pre .1 .1 .0),
         partly-none (a .out .now) (a .from) e (omega (arith, c .before .before .pre .1 .1 .1, interfaces-length n (a .device) (a .capabilities), ap (λ (l : List Sent). length (records l)) e)),
       ),
     )
@@ -71,7 +71,8 @@ add-id-2 c =
 
 loop-less : tie.Need-loop-less Inv-loop μ-loop
 loop-less c =
-    left-less (c .before .before .before .before .before .before .before .before .before .before .loop .left) _ (omega arith) (c .before .before .before .before .before .before .before .before .before .before .loop .inv .0) (c .before .before .before .before .before .before .before .without-lowest .ensures)
+    let o = c .before .before .before .before .before .before .before .before .before .before .loop in
+    left-less (o .left) _ (omega arith) (o .inv .0) (c .before .before .before .before .before .before .before .without-lowest .ensures)
 
 loop-again : tie.Need-loop-again Inv-loop μ-loop
 loop-again c =

@@ -1,0 +1,124 @@
+-- Room for all events, then the events, then the edits: the last serial, and every seat taken out. Assumes nothing.
+use Prim.Native.Nat.{_*_}
+use mathlib.Core.Path.{refl}
+use mathlib.Core.List.{[]}
+use native.Mathlib.Omega.{arith}
+use borrow.Author.Needs.{needs}
+use lib.ListN.{length}
+use Rattle.model.specs.Call.{Load}
+use Rattle.model.specs.Decide.{seatsObjects}
+use Rattle.control.specs.Control.{connectionOf}
+use Rattle.store.specs.View.{store}
+use Rattle.events.specs.Events.{bareDevices}
+use Rattle.connection.proofs.Disconnects.{sample-most, end-fits, last-is, disconnected-short, disconnected-done}
+use Rattle.connection.proofs.disconnected_at.Statement.{statement}
+use Rattle.connection.proofs.disconnected_at.Tie as tie
+
+number-requires : tie.Need-number-requires
+number-requires c κs = search needs
+
+seats-objects-requires : tie.Need-seats-objects-requires
+seats-objects-requires c κs =
+    c .before .before .before .before .before .before .before .pre .0 .sound
+
+mul-gone : tie.Need-mul-gone
+mul-gone c =
+    omega (arith, c .seats-objects .ensures .1)
+
+last-serial-requires : tie.Need-last-serial-requires
+last-serial-requires c κs =
+    c .before .before .before .before .before .before .before .before .before .pre .0 .sound .long
+
+record-length-requires : tie.Need-record-length-requires
+record-length-requires c κs = search needs
+
+add-if1 : tie.Need-add-if1
+add-if1 c =
+    let a = c .before .before .before .before .before .before .before .before .before .before .before .args in
+    omega (arith, c .record-length .ensures, c .before .before .before .seats-objects .ensures .1, sample-most (a .given) (a .explanation .now) 0 (c .before .before .before .before .before .number .result))
+
+refused-requires : tie.Need-refused-requires
+refused-requires c κs = search needs
+
+same-length : tie.Need-same-length
+same-length c = search needs
+
+returns : tie.Need-returns
+returns c =
+    let a = c .before .before .before .before .before .before .before .before .before .before .before .before .before .args in
+    λ clock texts whole. disconnected-short (store (a .control .now) (a .words .now) (a .reals .now) texts) whole (a .out .now) clock (a .reason) (a .given) (a .explanation .now) (c .before .before .before .before .before .before .before .before .before .before .before .before .before .pre .1) (c .before .before .before .before .before .before .before .number .result) (c .before .before .before .before .before .before .before .number .ensures) (omega (arith, c .before .before .record-length .ensures, c .before .before .before .before .before .seats-objects .ensures .0)) (c .refused .ensures)
+
+connection-id-requires : tie.Need-connection-id-requires
+connection-id-requires c κs =
+    c .before .before .before .before .before .before .before .before .before .before .before .before .before .pre .0 .sound .long
+
+write-seats-requires : tie.Need-write-seats-requires
+write-seats-requires c κs =
+    (c .before .before .before .before .before .before .before .before .before .before .before .before .before .before .before .before .pre .0 .sound, omega (arith, c .before .before .before .before .before .before .before .before .seats-objects .ensures .0))
+
+send-requires : tie.Need-send-requires
+send-requires c κs =
+    let a = c .before .before .before .before .before .before .before .before .before .before .before .before .before .before .before .before .before .before .before .before .args in
+    end-fits (a .given) (a .explanation .now) _ _ {gone = 14 * length (seatsObjects (connectionOf (a .control .now) .seats) (bareDevices (a .control .now)))} {n = length (a .out .now)} (omega (arith, c .before .before .before .before .before .before .before .before .before .record-length .ensures, c .before .before .before .before .before .before .before .before .before .before .before .before .seats-objects .ensures .0)) (omega (arith, c .before .before .before .write-seats .ensures .at)) (omega (arith, c .before .before .before .write-seats .kept .1 .0))
+
+raise-requires : tie.Need-raise-requires
+raise-requires c κs =
+    c .before .before .before .before .before .before .before .before .before .before .before .before .before .before .before .before .before .before .before .before .before .before .before .before .pre .0 .sound
+
+remove-seats-requires : tie.Need-remove-seats-requires
+remove-seats-requires c κs =
+    let a = c .before .before .before .before .before .before .before .before .before .before .before .before .before .before .before .before .before .before .before .before .before .before .before .before .before .before .before .before .before .before .args in
+    record {
+      sound = c .before .before .before .before .before .raise .ensures (length (seatsObjects (connectionOf (a .control .now) .seats) (bareDevices (a .control .now)))) (last-is (c .before .before .before .before .before .before .before .before .before .before .before .before .before .write-seats .ensures) (c .before .before .before .before .before .before .before .before .before .before .before .before .before .before .before .before .before .before .before .before .last-serial .ensures)) [] [] [] Load.None .sound;
+      words-long = c .before .before .before .before .before .before .before .before .before .before .before .before .before .before .before .before .before .before .before .before .before .before .before .before .before .before .before .before .before .before .pre .0 .words-long;
+      reals-long = c .before .before .before .before .before .before .before .before .before .before .before .before .before .before .before .before .before .before .before .before .before .before .before .before .before .before .before .before .before .before .pre .0 .reals-long;
+    }
+
+sent-requires : tie.Need-sent-requires
+sent-requires c κs = search needs
+
+same-length-2 : tie.Need-same-length-2
+same-length-2 c = search needs
+
+same-length-3 : tie.Need-same-length-3
+same-length-3 c = search needs
+
+same-length-4 : tie.Need-same-length-4
+same-length-4 c = search needs
+
+same-length-5 : tie.Need-same-length-5
+same-length-5 c = search needs
+
+returns-2 : tie.Need-returns-2
+returns-2 c =
+    let a = c .before .before .before .before .before .before .before .before .before .before .before .before .before .before .before .before .before .before .before .before .before .before .before .before .before .before .before .before .before .before .before .before .before .before .before .before .before .before .args in
+    λ clock texts whole.
+    disconnected-done (store (a .control .now) (a .words .now) (a .reals .now) texts) whole (a .out .now) clock (a .reason) (a .given) (a .explanation .now) (c .before .before .before .before .before .before .before .before .before .before .before .before .before .before .before .before .before .before .before .before .before .before .before .before .before .before .before .before .before .before .before .before .before .before .before .before .before .before .pre .1) (c .before .before .before .before .before .before .before .before .before .before .before .before .before .before .before .before .before .before .before .before .before .before .before .before .before .before .before .before .before .before .before .before .number .result) (c .before .before .before .before .before .before .before .before .before .before .before .before .before .before .before .before .before .before .before .before .before .before .before .before .before .before .before .before .before .before .before .before .number .ensures)
+    (omega (arith, c .before .before .before .before .before .before .before .before .before .before .before .before .before .before .before .before .before .before .before .before .before .before .before .before .before .before .before .record-length .ensures, c .before .before .before .before .before .before .before .before .before .before .before .before .before .before .before .before .before .before .before .before .before .before .before .before .before .before .before .before .before .before .seats-objects .ensures .0)) (c .before .before .before .before .before .before .before .before .before .before .before .before .before .before .before .before .before .before .before .before .before .write-seats .ensures) refl (c .before .before .before .before .before .before .before .before .before .before .before .before .before .before .before .before .before .before .before .before .before .before .before .before .before .before .before .before .last-serial .ensures) (omega (arith, c .before .before .before .before .before .before .before .before .before .before .before .before .before .before .before .before .before .before .before .before .before .write-seats .kept .1 .0))
+    (c .before .before .before .before .before .before .before .before .before .before .before .before .before .before .before .before .before .before .before .before .before .before .before .before .connection-id .ensures) (c .before .before .before .before .before .before .before .before .before .before .before .before .before .before .before .before .before .send .ensures) (c .before .before .before .before .before .before .before .before .before .before .before .before .before .raise .ensures (length (seatsObjects (connectionOf (a .control .now) .seats) (bareDevices (a .control .now)))) (last-is (c .before .before .before .before .before .before .before .before .before .before .before .before .before .before .before .before .before .before .before .before .before .write-seats .ensures) (c .before .before .before .before .before .before .before .before .before .before .before .before .before .before .before .before .before .before .before .before .before .before .before .before .before .before .before .before .last-serial .ensures)))
+    (c .before .before .before .before .before .before .before .remove-seats .ensures) (omega (arith, c .before .before .before .before .before .before .before .remove-seats .kept)) (omega (arith, c .before .before .before .before .before .before .before .remove-seats .kept)) (c .sent .ensures)
+
+pub disconnected-at-spec : {M : Type 1} → statement M
+disconnected-at-spec =
+    tie.close
+    (tie.spec
+    number-requires
+    seats-objects-requires
+    mul-gone
+    last-serial-requires
+    record-length-requires
+    add-if1
+    refused-requires
+    same-length
+    returns
+    connection-id-requires
+    write-seats-requires
+    send-requires
+    raise-requires
+    remove-seats-requires
+    sent-requires
+    same-length-2
+    same-length-3
+    same-length-4
+    same-length-5
+    returns-2)

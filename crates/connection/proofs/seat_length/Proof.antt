@@ -1,0 +1,53 @@
+-- The sum of the parts, which are few bytes beside the name. Assumes nothing.
+use native.Mathlib.Omega.{arith}
+use borrow.Author.Needs.{needs}
+use Rattle.control.specs.Control.{connectionOf}
+use Rattle.connection.specs.Call.{optional}
+use Rattle.connection.proofs.Seats.{seat-bytes, seat-fixed, done-fixed}
+use Rattle.connection.proofs.seat_length.Statement.{statement}
+use Rattle.connection.proofs.seat_length.Tie as tie
+
+fixed-length-requires : tie.Need-fixed-length-requires
+fixed-length-requires c κs = search needs
+
+fixed-length-requires-2 : tie.Need-fixed-length-requires-2
+fixed-length-requires-2 c κs = search needs
+
+name-length-requires : tie.Need-name-length-requires
+name-length-requires c κs = search needs
+
+add-result : tie.Need-add-result
+add-result c =
+    let a = c .before .before .before .before .before .args in
+    omega (arith, c .name-length .ensures .1, c .before .before .fixed-length .ensures, seat-fixed (a .id) (a .version))
+
+capabilities-length-requires : tie.Need-capabilities-length-requires
+capabilities-length-requires c κs = search needs
+
+add-result-2 : tie.Need-add-result-2
+add-result-2 c =
+    let a = c .before .before .before .before .before .before .args in
+    omega (arith, c .capabilities-length .ensures .1, c .before .name-length .ensures .1, c .before .before .before .fixed-length .ensures, seat-fixed (a .id) (a .version))
+
+add-result-3 : tie.Need-add-result-3
+add-result-3 c =
+    let a = c .before .before .before .before .before .before .args in
+    omega (arith, c .capabilities-length .ensures .1, c .before .name-length .ensures .1, c .before .before .before .fixed-length .ensures, c .before .before .fixed-length2 .ensures, seat-fixed (a .id) (a .version), done-fixed)
+
+returns : tie.Need-returns
+returns c =
+    let a = c .before .before .before .before .before .before .args in
+    omega (arith, c .capabilities-length .ensures .0, c .before .name-length .ensures .0 (a .id), c .before .before .before .fixed-length .ensures, c .before .before .fixed-length2 .ensures, seat-bytes (connectionOf (a .control .now)) (a .id) (a .version) (optional (a .given) (a .name .now)) (a .capabilities))
+
+pub seat-length-spec : {M : Type 1} → statement M
+seat-length-spec =
+    tie.close
+    (tie.spec
+    fixed-length-requires
+    fixed-length-requires-2
+    name-length-requires
+    add-result
+    capabilities-length-requires
+    add-result-2
+    add-result-3
+    returns)

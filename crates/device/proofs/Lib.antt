@@ -1,0 +1,4 @@
+pub mod Calls
+pub mod Plans
+pub mod Devices
+pub mod Added

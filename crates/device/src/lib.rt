@@ -1,0 +1,2 @@
+pub mod device;
+pub mod seat;
