@@ -1,9 +1,9 @@
 -- How a request that is not timed meets the step of the model, by what was found and what was tested. Assumes nothing.
 use Prim.Native.Nat.{ℕ, zero, suc, _+_, _≤_, _<_}
 use mathlib.Core.Path.{_≡_, refl, sym, ap, _∙_}
-use mathlib.Core.Bool.{Bool, true, false, cond}
+use mathlib.Core.Bool.{true, false}
 use mathlib.Core.List.{List, [], _∷_}
-use mathlib.Core.Option.{Option, none, some}
+use mathlib.Core.Option.{none, some}
 use native.Mathlib.Nat.{zero-add}
 use native.Mathlib.Omega.{arith}
 use borrow.Author.Tests.{leb-true, leb-false, eq-eqb, ne-eqb}
@@ -18,21 +18,20 @@ use Rattle.wire.specs.declared.event.Event.{Event}
 use Rattle.wire.specs.Bits.{splice}
 use Rattle.wire.specs.Record.{fixedLength, recordLength, textOf, layout}
 use Rattle.wire.proofs.Splices.{splice-none}
-use Rattle.model.specs.Call.{Input, sight, Load, loadOf, Plain, Call, mapCall, Split, split}
+use Rattle.model.specs.Call.{Input, sight, Load, loadOf, Plain, Call, mapCall, split}
 use Rattle.model.specs.Session.{Untimed, Connection, Session, View, view}
 use Rattle.model.specs.Edit.{Amend, Edit, nextSerial, raised, withConnection, withDevices, enact, enactAll}
 use Rattle.model.specs.Plan as plan
 use Rattle.model.specs.Plan.{Sent, on, records, answer, refuse, ignore, edit, send, refusal}
-use Rattle.model.specs.Decide.{Found, linksIn, deviceOf, seatOf, deviceForInterface, onFound, sendNext, handleSync, handleSeat, handleDevice, handleFrame, handleRelease, destroyed, decidePlain, decide}
-use Rattle.model.specs.Step.{Counts, counts, refuses, unchanged, step}
+use Rattle.model.specs.Decide.{linksIn, onFound, sendNext, handleSync, handleSeat, handleDevice, handleFrame, handleRelease, destroyed, decidePlain, decide}
+use Rattle.model.specs.Step.{Counts, counts, refuses, step}
 use Rattle.model.proofs.Counted.{framedLength, afterFrame, counts-frame, quietAll, quiet-none}
 use Rattle.model.proofs.Steps.{step-answer, step-sent, step-sent-short, step-queue, step-queue-full, step-frame, step-frame-full, step-flush, step-flush-full}
 use Rattle.control.specs.Table.{first}
 use Rattle.control.specs.Control.{deviceCount, queueLength, seatAt, connectionOf, pendingAt, coreAt, coresOf}
-use Rattle.control.specs.Sound.{Sound}
 use Rattle.store.specs.View.{Store, store, session, Whole}
 use Rattle.store.specs.Enact.{Enacted, Enacts}
-use Rattle.store.proofs.Views.{deviceSeen, connection-is, view-connection, requests-length, pending-count, enacted-none, enacted-join, found-device, found-bound, no-device, found-seat, no-seat, found-interface, no-interface}
+use Rattle.store.proofs.Views.{connection-is, view-connection, requests-length, pending-count, enacted-none, enacted-join, found-device, no-device, found-seat, no-seat, found-interface, no-interface}
 use Rattle.queue.specs.Queue.{frameEntries, hasRoom}
 use Rattle.events.specs.Events.{Sends, Destroys}
 use Rattle.events.specs.declared.Mark.{Mark}

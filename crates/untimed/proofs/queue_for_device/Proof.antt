@@ -1,3 +1,4 @@
+-- The frame of the device that was found, then the request: there is room for both before either is queued. Assumes nothing.
 use mathlib.Core.Path.{refl, sym, ap, _∙_}
 use mathlib.Core.List.{[]}
 use native.Mathlib.Omega.{arith}
@@ -55,22 +56,27 @@ last-serial-requires c κs = search needs
 frame-requires : tie.Need-frame-requires
 frame-requires c κs =
     let a = c .before .before .before .before .before .before .before .before .before .before .before .before .before .before .before .before .before .args in
-    let f = sym (c .before .before .before .before .before .before .before .before .before .before .before .before .find-device .ensures) ∙ ap slotTold (c .before .before .before .before .before .before .before .before .before .before .k .given .1) in
-    (c .before .before .before .before .before .before .before .before .before .before .before .before .before .before .before .before .before .pre, (device-passes (a .control .now) (λ d. eqb (d .id) (a .device)) _ f .within,
-    room-flush (a .control .now) _ (c .before .before .before .before .before .before .before .frame-entries .ensures .0) (sym (c .before .before .before .before .before .before .has-room .ensures) ∙ not-false _ (c .before .before .before .before .before .if1 .left))))
+    let f = sym (c .before .before .before .before .before .before .before .before .before .before .before .before .find-device .ensures) ∙ ap slotTold (c .before .before .before .before .before .before .before .before .before .before .k .given .1) in (
+      c .before .before .before .before .before .before .before .before .before .before .before .before .before .before .before .before .before .pre,
+      (
+        device-passes (a .control .now) (λ d. eqb (d .id) (a .device)) _ f .within,
+        room-flush (a .control .now) _ (c .before .before .before .before .before .before .before .frame-entries .ensures .0) (sym (c .before .before .before .before .before .before .has-room .ensures) ∙ not-false _ (c .before .before .before .before .before .if1 .left)),
+      ),
+    )
 
 push-requires : tie.Need-push-requires
 push-requires c κs =
     let a = c .before .before .before .before .before .before .before .before .before .before .before .before .before .before .before .before .before .before .before .before .before .before .before .before .before .before .before .args in
     let f = sym (c .before .before .before .before .before .before .before .before .before .before .before .before .before .before .before .before .before .before .before .before .before .before .find-device .ensures) ∙ ap slotTold (c .before .before .before .before .before .before .before .before .before .before .before .before .before .before .before .before .before .before .before .before .k .given .1) in
-    let o = c .before .before .before .before .before .before .before .before .before .frame .ensures [] Load.None in
-    (record {
-      sound = o .sound;
-      words-long = c .before .before .before .before .before .before .before .before .before .frame .kept .1 .0 ∙ c .before .before .before .before .before .before .before .before .before .before .before .before .before .before .before .before .before .before .before .before .before .before .before .before .before .before .before .pre .words-long;
-      reals-long = c .before .before .before .before .before .before .before .before .before .frame .kept .1 .1 .0 ∙ c .before .before .before .before .before .before .before .before .before .before .before .before .before .before .before .before .before .before .before .before .before .before .before .before .before .before .before .pre .reals-long;
-    },
-    room-behind (store (a .control .now) (a .words .now) (a .reals .now) []) _ _ _ _ (device-passes (a .control .now) (λ d. eqb (d .id) (a .device)) _ f .within)
-    (c .before .before .before .before .before .before .before .before .before .before .before .before .before .before .before .before .before .frame-entries .ensures .0) (sym (c .before .before .before .before .before .before .before .before .before .before .before .before .before .before .before .before .has-room .ensures) ∙ not-false _ (c .before .before .before .before .before .before .before .before .before .before .before .before .before .before .before .if1 .left)) o)
+    let o = c .before .before .before .before .before .before .before .before .before .frame .ensures [] Load.None in (
+      record {
+        sound = o .sound;
+        words-long = c .before .before .before .before .before .before .before .before .before .frame .kept .1 .0 ∙ c .before .before .before .before .before .before .before .before .before .before .before .before .before .before .before .before .before .before .before .before .before .before .before .before .before .before .before .pre .words-long;
+        reals-long = c .before .before .before .before .before .before .before .before .before .frame .kept .1 .1 .0 ∙ c .before .before .before .before .before .before .before .before .before .before .before .before .before .before .before .before .before .before .before .before .before .before .before .before .before .before .before .pre .reals-long;
+      },
+      room-behind (store (a .control .now) (a .words .now) (a .reals .now) []) _ _ _ _ (device-passes (a .control .now) (λ d. eqb (d .id) (a .device)) _ f .within)
+          (c .before .before .before .before .before .before .before .before .before .before .before .before .before .before .before .before .before .frame-entries .ensures .0) (sym (c .before .before .before .before .before .before .before .before .before .before .before .before .before .before .before .before .has-room .ensures) ∙ not-false _ (c .before .before .before .before .before .before .before .before .before .before .before .before .before .before .before .if1 .left)) o,
+    )
 
 accepted-requires : tie.Need-accepted-requires
 accepted-requires c κs = search needs

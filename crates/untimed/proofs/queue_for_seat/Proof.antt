@@ -1,3 +1,4 @@
+-- The tests of the model, in its order, on the seat that was found. Assumes nothing.
 use mathlib.Core.Path.{sym, ap, _∙_}
 use native.Mathlib.Omega.{arith}
 use Prim.Native.Nat.{ℕ}

@@ -1,3 +1,4 @@
+-- The frame of the device that was found, where there is room for it. Assumes nothing.
 use mathlib.Core.Path.{sym, ap, _∙_}
 use native.Mathlib.Omega.{arith}
 use borrow.Author.Tests.{not-true, not-false}
@@ -47,9 +48,13 @@ returns c =
 frame-requires : tie.Need-frame-requires
 frame-requires c κs =
     let a = c .before .before .before .before .before .before .before .before .before .before .before .before .before .before .before .args in
-    let f = sym (c .before .before .before .before .before .before .before .before .before .before .find-device .ensures) ∙ ap slotTold (c .before .before .before .before .before .before .before .before .k .given .1) in
-    (c .before .before .before .before .before .before .before .before .before .before .before .before .before .before .before .pre, (device-passes (a .control .now) (λ d. eqb (d .id) (a .device)) _ f .within,
-    room-frame (a .control .now) _ (c .before .before .before .before .before .frame-entries .ensures .0) (sym (c .before .before .before .before .has-room .ensures) ∙ not-false _ (c .before .before .before .if1 .left))))
+    let f = sym (c .before .before .before .before .before .before .before .before .before .before .find-device .ensures) ∙ ap slotTold (c .before .before .before .before .before .before .before .before .k .given .1) in (
+      c .before .before .before .before .before .before .before .before .before .before .before .before .before .before .before .pre,
+      (
+        device-passes (a .control .now) (λ d. eqb (d .id) (a .device)) _ f .within,
+        room-frame (a .control .now) _ (c .before .before .before .before .before .frame-entries .ensures .0) (sym (c .before .before .before .before .has-room .ensures) ∙ not-false _ (c .before .before .before .if1 .left)),
+      ),
+    )
 
 accepted-requires : tie.Need-accepted-requires
 accepted-requires c κs = search needs

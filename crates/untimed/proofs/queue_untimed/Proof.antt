@@ -1,3 +1,4 @@
+-- The request is queued where there is room for one more. Assumes nothing.
 use mathlib.Core.Path.{sym, _∙_}
 use borrow.Author.Tests.{not-true, not-false}
 use Rattle.store.specs.View.{store}

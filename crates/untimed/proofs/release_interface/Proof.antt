@@ -1,3 +1,4 @@
+-- The interface is unlinked and the serial raised: the model has these two edits in the other order. Assumes nothing.
 use mathlib.Core.Path.{refl, sym, ap, _∙_}
 use mathlib.Core.List.{[], _∷_}
 use native.Mathlib.Omega.{arith}

@@ -1,3 +1,4 @@
+-- Destroyed takes the next serial, and the serial is raised. Assumes nothing.
 use mathlib.Core.Path.{refl, ap, _∙_}
 use mathlib.Core.List.{[]}
 use native.Mathlib.Omega.{arith}

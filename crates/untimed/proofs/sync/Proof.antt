@@ -1,4 +1,4 @@
-use mathlib.Core.Path.{_≡_}
+-- Callback done is sent for version 1 alone. Assumes nothing.
 use native.Mathlib.Omega.{arith}
 use Rattle.model.specs.Call.{Plain, Call}
 use Rattle.model.specs.Session.{view}

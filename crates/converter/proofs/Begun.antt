@@ -1,0 +1,162 @@
+-- A session's beginning: the versions that the handshake settled, set one after another. Assumes nothing.
+use Prim.Native.Nat.{ℕ, zero, suc, _+_, _≤_, _<_}
+use mathlib.Core.Path.{_≡_, refl, sym, ap, _∙_}
+use mathlib.Core.Bool.{true, false, false≢true}
+use mathlib.Core.List.{List, [], _∷_}
+use mathlib.Core.Option.{Option, none, some}
+use native.Mathlib.Omega.{arith}
+use native.Mathlib.Numerals.{add-one}
+use borrow.Author.Tests.{eq-eqb, ne-eqb}
+use lib.Ieee.{Float}
+use lib.ListN.{length, getD, set, replicate}
+use Rattle.requests.specs.Row.{rowAt}
+use Rattle.model.specs.Session.{Connection, fresh}
+use Rattle.control.specs.Table.{tab}
+use Rattle.control.specs.Control.{controlLength, deviceCount, queueHead, queueLength, connectionOf}
+use Rattle.control.specs.Sound.{Sound}
+use Rattle.control_edits.specs.Change.{Reconnected, Fresh, withVersions}
+use Rattle.store.specs.View.{Store, store, wordsLength, realsLength, textsLength, requestAt, queueRow, deviceIn, queueIn, session, Whole}
+use Rattle.store.proofs.Views.{session-of}
+use Rattle.handshake.specs.View.{versionIn, versionsOf}
+use Rattle.handshake.specs.declared.handshake.InterfaceVersion.{InterfaceVersion}
+use Rattle.handshake.specs.declared.handshake.EisHandshakeResp.{EisHandshakeResp}
+use Rattle.answers.specs.declared.Error.{Error}
+use Rattle.answers.specs.declared.Outcome.{Outcome}
+use Rattle.answers.specs.declared.Answer.{Answer}
+use Rattle.untimed.proofs.Handling.{Tells}
+use Rattle.converter.specs.Next.{hasLengths, Begins}
+
+-- ---- the first i of the versions
+
+unfoldable pub settled : ℕ → List InterfaceVersion → List (Option ℕ)
+unfolding versionIn
+settled i [] = []
+settled zero (v ∷ vs) = none ∷ settled zero vs
+settled (suc i) (v ∷ vs) = versionIn v ∷ settled i vs
+
+settled-none : (n : ℕ) (vs : List InterfaceVersion) → length vs ≡ n → replicate n none ≡ settled 0 vs
+unfolding settled
+settled-none zero [] e = refl
+settled-none zero (v ∷ vs) e = absurd (omega arith)
+settled-none (suc n) [] e = absurd (omega arith)
+settled-none (suc n) (v ∷ vs) e = ap (λ (xs : List (Option ℕ)). none ∷ xs) (settled-none n vs (omega arith))
+
+settled-all : (i : ℕ) (vs : List InterfaceVersion) → length vs ≤ i → settled i vs ≡ versionsOf vs
+unfolding settled
+settled-all i [] l = refl
+settled-all zero (v ∷ vs) l = absurd (omega arith)
+settled-all (suc i) (v ∷ vs) l = ap (λ (xs : List (Option ℕ)). versionIn v ∷ xs) (settled-all i vs (omega arith))
+
+module _ (d : InterfaceVersion) where
+  settled-set : (i : ℕ) (vs : List InterfaceVersion) → i < length vs → getD vs i d .negotiated ≡ true
+      → set (settled i vs) i (some (getD vs i d .version)) ≡ settled (suc i) vs
+  unfolding settled versionIn
+  settled-set i [] l e = absurd (omega arith)
+  settled-set zero (v ∷ vs) l e = rw e
+  settled-set (suc i) (v ∷ vs) l e = ap (λ (xs : List (Option ℕ)). versionIn v ∷ xs) (settled-set i vs (omega arith) e)
+
+  settled-skip : (i : ℕ) (vs : List InterfaceVersion) → i < length vs → getD vs i d .negotiated ≡ false → settled i vs ≡ settled (suc i) vs
+  unfolding settled versionIn
+  settled-skip i [] l e = absurd (omega arith)
+  settled-skip zero (v ∷ vs) l e = rw e
+  settled-skip (suc i) (v ∷ vs) l e = ap (λ (xs : List (Option ℕ)). versionIn v ∷ xs) (settled-skip i vs (omega arith) e)
+
+-- ---- the control words with so many set
+
+abbrev begunWith : EisHandshakeResp → List (Option ℕ) → Connection
+begunWith p vs = fresh {P = Unit {0}} (p .connection) (p .serial) (p .next) vs .connection
+
+pub record Beginning (e : List ℕ) (p : EisHandshakeResp) (i : ℕ) : Type 0 where
+  pub sound : Sound e
+  pub devices : deviceCount e ≡ 0
+  pub queued : queueLength e ≡ 0
+  pub connection : connectionOf e ≡ fresh {P = Unit {0}} (p .connection) (p .serial) (p .next) (settled i (p .interfaces)) .connection
+
+module _ (p : EisHandshakeResp) (long : length (p .interfaces) ≡ 12) where
+  pub beginning-none : {e : List ℕ} → Fresh e (p .connection) (p .serial) (p .next) → Beginning e p 0
+  beginning-none f =
+      record {
+        sound = f .sound;
+        devices = f .devices;
+        queued = f .queued;
+        connection = f .connection-is ∙ ap (begunWith p) (settled-none 12 (p .interfaces) long);
+      }
+
+  module _ (d : InterfaceVersion) {c : List ℕ} (i : ℕ) (l : i < 12) (b : Beginning c p i) where
+    pub beginning-skip : getD (p .interfaces) i d .negotiated ≡ false → Beginning c p (i + 1)
+    beginning-skip h =
+        record {
+          sound = b .sound;
+          devices = b .devices;
+          queued = b .queued;
+          connection = b .connection ∙ ap (begunWith p) (settled-skip d i (p .interfaces) (omega arith) h ∙ ap (λ (j : ℕ). settled j (p .interfaces)) (sym (add-one i)));
+        }
+
+    pub beginning-set : {e : List ℕ} → getD (p .interfaces) i d .negotiated ≡ true
+        → Reconnected c e (withVersions (set (connectionOf c .versions) i (some (getD (p .interfaces) i d .version))) (connectionOf c)) → Beginning e p (i + 1)
+    unfolding fresh
+    beginning-set h r =
+        record {
+          sound = r .sound;
+          devices = r .devices .count ∙ b .devices;
+          queued = r .queue .queued ∙ b .queued;
+          connection =
+              r .connection
+              ∙ ap (λ (n : Connection). withVersions (set (n .versions) i (some (getD (p .interfaces) i d .version))) n) (b .connection)
+              ∙ ap (begunWith p) (settled-set d i (p .interfaces) (omega arith) h ∙ ap (λ (j : ℕ). settled j (p .interfaces)) (sym (add-one i)));
+        }
+
+  -- all are set
+  pub beginning-all : {e : List ℕ} (i : ℕ) (w : List ℕ) (r : List Float) (t : List ℕ) → 12 ≤ i → Beginning e p i
+      → session (store e w r t) ≡ fresh (p .connection) (p .serial) (p .next) (versionsOf (p .interfaces))
+  unfolding session fresh queueIn tab
+  beginning-all {e} i w r t l b =
+      session-of e (rowAt w r) t (b .connection ∙ ap (begunWith p) (settled-all i (p .interfaces) (omega arith)))
+      (ap (λ (n : ℕ). tab n (deviceIn e (rowAt w r) t)) (b .devices))
+      (ap (λ (n : ℕ). tab n (λ j. requestAt t (rowAt w r (queueRow (queueHead e) j)))) (b .queued))
+
+-- ---- the lengths
+
+module _ (s : Store) where
+  pub not-control : (length (s .control) ≡ controlLength → ⊥) → hasLengths s ≡ false
+  unfolding hasLengths
+  not-control h = rw (ne-eqb (length (s .control)) controlLength h)
+
+  module _ (c : length (s .control) ≡ controlLength) where
+    pub not-words : (length (s .words) ≡ wordsLength → ⊥) → hasLengths s ≡ false
+    unfolding hasLengths
+    not-words h = rw (eq-eqb (length (s .control)) controlLength c, ne-eqb (length (s .words)) wordsLength h)
+
+    module _ (w : length (s .words) ≡ wordsLength) where
+      pub not-reals : (length (s .reals) ≡ realsLength → ⊥) → hasLengths s ≡ false
+      unfolding hasLengths
+      not-reals h = rw (eq-eqb (length (s .control)) controlLength c, eq-eqb (length (s .words)) wordsLength w, ne-eqb (length (s .reals)) realsLength h)
+
+      module _ (r : length (s .reals) ≡ realsLength) where
+        pub not-texts : (length (s .texts) ≡ textsLength → ⊥) → hasLengths s ≡ false
+        unfolding hasLengths
+        not-texts h =
+            rw (
+              eq-eqb (length (s .control)) controlLength c,
+              eq-eqb (length (s .words)) wordsLength w,
+              eq-eqb (length (s .reals)) realsLength r,
+              ne-eqb (length (s .texts)) textsLength h,
+            )
+
+        pub all-lengths : length (s .texts) ≡ textsLength → hasLengths s ≡ true
+        unfolding hasLengths
+        all-lengths h =
+            rw (
+              eq-eqb (length (s .control)) controlLength c,
+              eq-eqb (length (s .words)) wordsLength w,
+              eq-eqb (length (s .reals)) realsLength r,
+              eq-eqb (length (s .texts)) textsLength h,
+            )
+
+module _ (s : Store) (p : EisHandshakeResp) (a : Answer) where
+  pub begins-bad : hasLengths s ≡ false → Tells a (Outcome.Refused Error.BadState) 0 → Begins s s p a
+  begins-bad b t = record { count = t .1; damaged = λ h. (t .0, refl); begun = λ h. absurd (false≢true (sym b ∙ h)) }
+
+  pub begins-done : {e : Store} → hasLengths s ≡ true → Tells a Outcome.Accepted 0 → Whole e
+      → session e ≡ fresh (p .connection) (p .serial) (p .next) (versionsOf (p .interfaces)) → Begins s e p a
+  begins-done b t w v = record { count = t .1; damaged = λ h. absurd (false≢true (sym h ∙ b)); begun = λ h. (t .0, (w, v)) }

@@ -1,0 +1,4 @@
+pub mod Timed
+pub mod Plain
+pub mod Given
+pub mod Begun

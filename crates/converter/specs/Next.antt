@@ -1,0 +1,77 @@
+-- What is promised of `next_request`, and of a session's beginning. Assumes nothing.
+use Prim.Native.Nat.{ℕ}
+use mathlib.Core.Path.{_≡_}
+use mathlib.Core.Bool.{Bool, true, false, _&&_}
+use lib.Dec.{eqb}
+use mathlib.Core.List.{List, [], _∷_, _++_}
+use lib.ListN.{length, take}
+use Rattle.wire.specs.Bits.{splice}
+use Rattle.model.specs.Call.{Load, Plain, Call, split}
+use Rattle.model.specs.Session.{Request, fresh}
+use Rattle.model.specs.Plan as plan
+use Rattle.model.specs.Step.{Step, refuses, step}
+use Rattle.requests.specs.Request.{textLength}
+use Rattle.store.specs.View.{Store, session, requestIn, wordsLength, realsLength, textsLength, isWhole, Whole}
+use Rattle.control.specs.Control.{controlLength}
+use Rattle.handshake.specs.View.{versionsOf}
+use Rattle.handshake.specs.declared.handshake.EisHandshakeResp.{EisHandshakeResp}
+use Rattle.answers.specs.Answer.{errorOf}
+use Rattle.answers.specs.Meets.{turn}
+use Rattle.answers.specs.declared.Error.{Error}
+use Rattle.answers.specs.declared.Outcome.{Outcome}
+use Rattle.answers.specs.declared.Answer.{Answer}
+use Rattle.converter.specs.declared.request.NextRequest.{NextRequest}
+
+abbrev pub nextOutcome : NextRequest → plan.Outcome
+nextOutcome (NextRequest.Given r) = plan.Outcome.given
+nextOutcome NextRequest.None = plan.Outcome.none
+nextOutcome (NextRequest.Refused e) = errorOf e
+
+-- what the answer and the buffer tell of the request that was given: a text is the buffer's first bytes
+abbrev pub givenIn : NextRequest → (buffer : List ℕ) → List (Request Load)
+givenIn (NextRequest.Given r) buffer = requestIn r (take (textLength r) buffer) ∷ []
+givenIn NextRequest.None buffer = []
+givenIn (NextRequest.Refused e) buffer = []
+
+abbrev pub textIn : Load → List ℕ
+textIn (Load.Text text) = text
+textIn Load.None = []
+textIn (Load.Point x y) = []
+textIn (Load.ButtonPress b s) = []
+textIn (Load.KeyPress k s) = []
+textIn (Load.Discrete x y) = []
+textIn (Load.Axes x y) = []
+
+-- the text of what is given
+unfoldable pub givenText : List (Request Load) → List ℕ
+givenText [] = []
+givenText (Request.timed d t i ∷ rs) = textIn (i .load) ++ givenText rs
+givenText (Request.untimed r ∷ rs) = givenText rs
+
+-- the answer is the step's
+pub record Gives (s e : Store) (buffer later : List ℕ) (to : Step Load) (r : NextRequest) : Type 0 where
+  pub whole : Whole e
+  pub view : session e ≡ to .session
+  pub outcome : nextOutcome r ≡ to .outcome
+  pub gave : givenIn r later ≡ to .gave
+  -- "a text goes to the lent buffer, of which the rest keeps its bytes"
+  pub bytes : later ≡ splice buffer 0 (givenText (to .gave))
+  pub kept : refuses (to .outcome) ≡ true → e ≡ s
+
+pub record Delivered (s e : Store) (buffer later : List ℕ) (r : NextRequest) : Type 0 where
+  pub damaged : isWhole s ≡ false → (r ≡ NextRequest.Refused Error.BadState) × ((e ≡ s) × (later ≡ buffer))
+  -- whatever the clock is
+  pub handled : (clock : ℕ) → isWhole s ≡ true → Gives s e buffer later (step (split (turn (Call.plain Plain.nextRequest) clock buffer)) (session s)) r
+
+-- "Both lists start from the same session, as a successful Finish leaves it": the connection's id, the serial, the next id and the versions that it settled.
+-- Slices of another length are no session's, and are left as they were
+unfoldable pub hasLengths : Store → Bool
+hasLengths s =
+    eqb (length (s .control)) controlLength
+    && (eqb (length (s .words)) wordsLength && (eqb (length (s .reals)) realsLength && eqb (length (s .texts)) textsLength))
+
+pub record Begins (s e : Store) (response : EisHandshakeResp) (r : Answer) : Type 0 where
+  pub count : r .count ≡ 0
+  pub damaged : hasLengths s ≡ false → (r .outcome ≡ Outcome.Refused Error.BadState) × (e ≡ s)
+  pub begun : hasLengths s ≡ true → (r .outcome ≡ Outcome.Accepted)
+      × (Whole e × (session e ≡ fresh (response .connection) (response .serial) (response .next) (versionsOf (response .interfaces))))

@@ -1,0 +1,2 @@
+pub mod eis;
+pub mod request;
