@@ -1,12 +1,13 @@
-// A line of a script, carried out. So far the calls of the handshake are; a session's calls end the trail.
+// A line of a script, carried out: the calls of the handshake here, those of a session in `session`.
 use crate::event;
+use crate::session;
+use crate::show;
 use eiproto::eiproto_enum::ContextType;
 use eiproto::eiproto_enum::ContextTypeOf;
 use handshake::handshake::Answer;
 use handshake::handshake::EisHandshaker;
 use handshake::handshake::Outcome;
 use handshake::handshake::Request;
-use libc::STDOUT_FILENO;
 use script::Args;
 use script::Line;
 use script::Text;
@@ -18,8 +19,10 @@ ghost use Prim.Native.Nat.{_≤_};
 pub struct Run {
     // The number of the last line.
     pub line: u64,
-    // The length of the lent `out`.
+    // The length of the lent `out`, that of the text buffer, and the clock.
     pub out: u64,
+    pub buffer: u64,
+    pub clock: u64,
     pub started: bool,
     pub finished: bool,
     pub handshaker: EisHandshaker,
@@ -36,6 +39,8 @@ pub fn new_run(explain: bool) -> Run {
     Run {
         line: 0,
         out: 4096,
+        buffer: 254,
+        clock: 0,
         started: false,
         finished: false,
         handshaker,
@@ -44,16 +49,12 @@ pub fn new_run(explain: bool) -> Run {
     }
 }
 
-fn text(s: &[u8]) {
-    io::write_all(STDOUT_FILENO, s);
-}
-
-// The length of the `out` that a call is lent: what the script says, within what the program has. No call writes so much.
-fn room(run: Run, most: usize) -> usize
+// The length of a buffer that a call is lent: what the script says, within what the program has. No call writes so much.
+pub fn room(said: u64, most: usize) -> usize
     ensures { λ r. ⌜ r ≤ most ⌝ }
 {
-    if run.out < most as u64 {
-        run.out as usize
+    if said < most as u64 {
+        said as usize
     } else {
         most
     }
@@ -61,9 +62,9 @@ fn room(run: Run, most: usize) -> usize
 
 // The trail ends: the line is no call, or comes where no such call can be made.
 fn end(run: Run) -> Run {
-    text(b"error line ");
-    io::print_decimal(STDOUT_FILENO, run.line);
-    text(b"\n");
+    show::text(b"error line ");
+    show::decimal(run.line);
+    show::text(b"\n");
     let mut ended = run;
     ended.ended = true;
     ended
@@ -83,27 +84,31 @@ pub fn no_call(run: Run) -> Run {
     end(counted(run))
 }
 
-// The answer and the records of a call, of which `out` has `count` bytes.
-fn show(run: Run, a: Answer, out: &[u8]) {
-    let outcome = a.outcome;
-    match outcome {
-        Outcome::Accepted => text(b"accepted"),
-        Outcome::Finished => text(b"accepted"),
-        Outcome::Refused(e) => {
-            text(b"refused ");
-            io::print_decimal(STDOUT_FILENO, e.number() as u64);
-        }
-    }
-    let count = a.count;
+// The records of a call, of which `out` has `count` bytes.
+pub fn records(run: Run, out: &[u8], count: usize) {
     let from: usize = 0;
     if count <= out.len() {
         let bytes = &out[from..count];
         event::trail(bytes);
-        text(b"\n");
+        show::text(b"\n");
         if run.explain {
             event::explain(bytes);
         }
     }
+}
+
+// The answer of a call of the handshake.
+fn answer(run: Run, a: Answer, out: &[u8]) {
+    let outcome = a.outcome;
+    match outcome {
+        Outcome::Accepted => show::text(b"accepted"),
+        Outcome::Finished => show::text(b"accepted"),
+        Outcome::Refused(e) => {
+            show::text(b"refused ");
+            show::decimal(e.number() as u64);
+        }
+    }
+    records(run, out, a.count);
 }
 
 fn is_finished(a: Answer) -> bool {
@@ -121,6 +126,8 @@ fn after(run: Run, a: Answer) -> Run {
     Run {
         line: run.line,
         out: run.out,
+        buffer: run.buffer,
+        clock: run.clock,
         started: true,
         finished: is_finished(a),
         handshaker,
@@ -131,9 +138,9 @@ fn after(run: Run, a: Answer) -> Run {
 
 fn start_in(run: Run, serial: u32, out: &mut [u8]) -> Run {
     let from: usize = 0;
-    let n = room(run, out.len());
+    let n = room(run.out, out.len());
     let a = EisHandshaker::new(serial, &mut out[from..n]);
-    show(run, a, out);
+    answer(run, a, out);
     after(run, a)
 }
 
@@ -142,81 +149,106 @@ fn start(run: Run, serial: u32) -> Run {
     start_in(run, serial, &mut out)
 }
 
-fn request_in(run: Run, request: Request, text: &[u8], out: &mut [u8]) -> Run {
+// The session begins where the handshake ends.
+fn open(control: &mut [u64], words: &mut [u64], reals: &mut [f32], texts: &mut [u8], a: Answer) {
+    if is_finished(a) {
+        let response = a.response;
+        converter::request::new(control, words, reals, texts, response);
+    }
+}
+
+fn request_in(
+    run: Run,
+    control: &mut [u64],
+    words: &mut [u64],
+    reals: &mut [f32],
+    texts: &mut [u8],
+    request: Request,
+    text: &[u8],
+    out: &mut [u8],
+) -> Run {
     let from: usize = 0;
-    let n = room(run, out.len());
+    let n = room(run.out, out.len());
     let h = run.handshaker;
     let a = h.handle_request(request, text, &mut out[from..n]);
-    show(run, a, out);
+    answer(run, a, out);
+    open(control, words, reals, texts, a);
     after(run, a)
 }
 
-// A client's request, with the text that it carries, if any.
-fn request(run: Run, request: Request, text: &[u8]) -> Run {
-    if !run.started {
-        return end(run);
-    }
-    if run.finished {
-        return end(run);
-    }
+// A request of the handshake, before the session.
+fn request(
+    run: Run,
+    control: &mut [u64],
+    words: &mut [u64],
+    reals: &mut [f32],
+    texts: &mut [u8],
+    request: Request,
+    text: &[u8],
+) -> Run {
     let mut out = [0u8; 4096];
-    request_in(run, request, text, &mut out)
+    request_in(run, control, words, reals, texts, request, text, &mut out)
 }
 
-// The same with its text read from the line.
-fn text_in(run: Run, r: Request, line: &[u8], t: Text, buf: &mut [u8]) -> Run {
-    let from: usize = 0;
-    let n = script::text_into(line, t, buf);
-    if n <= buf.len() {
-        return request(run, r, &buf[from..n]);
-    }
-    end(run)
-}
-
-// A text is at most half as long as its line.
-fn request_with(run: Run, r: Request, line: &[u8], value: Value) -> Run {
-    let mut buf = [0u8; 32768];
-    match value {
-        Value::Text(t) => text_in(run, r, line, t, &mut buf),
-        _ => request(run, r, b""),
-    }
-}
-
-fn context_type(run: Run, number: u32) -> Run {
-    match ContextType::parse(number) {
-        ContextTypeOf::Case(context) => request(run, Request::ContextType { context }, b""),
-        ContextTypeOf::InvalidVariant(_) => end(run),
-    }
-}
-
-fn call(run: Run, line: &[u8], verb: Verb, args: Args) -> Run {
+// What the handshake makes of a client's line.
+fn shake(
+    run: Run,
+    control: &mut [u64],
+    words: &mut [u64],
+    reals: &mut [f32],
+    texts: &mut [u8],
+    verb: Verb,
+    args: Args,
+    text: &[u8],
+) -> Run {
     let a = args.a;
     let b = args.b;
     match verb {
-        Verb::Start => start(run, script::u32_of(a)),
-        Verb::HandshakeHandshakeVersion => request(
-            run,
-            Request::HandshakeVersion {
-                version: script::u32_of(a),
-            },
-            b"",
-        ),
-        Verb::HandshakeName => request_with(run, Request::Name, line, a),
-        Verb::HandshakeContextType => context_type(run, script::u32_of(a)),
-        Verb::HandshakeInterfaceVersion => {
-            request_with(
+        Verb::HandshakeHandshakeVersion => {
+            let version = script::u32_of(a);
+            request(
                 run,
-                Request::InterfaceVersion {
-                    version: script::u32_of(b),
-                },
-                line,
-                a,
+                control,
+                words,
+                reals,
+                texts,
+                Request::HandshakeVersion { version },
+                text,
             )
         }
-        Verb::HandshakeFinish => request(run, Request::Finish, b""),
-        Verb::TextUtf8 => request_with(run, Request::Other, line, b),
-        Verb::NextRequest
-        | Verb::AddSeat
+        Verb::HandshakeName => request(run, control, words, reals, texts, Request::Name, text),
+        Verb::HandshakeContextType => match ContextType::parse(script::u32_of(a)) {
+            ContextTypeOf::Case(context) => request(
+                run,
+                control,
+                words,
+                reals,
+                texts,
+                Request::ContextType { context },
+                text,
+            ),
+            ContextTypeOf::InvalidVariant(_) => end(run),
+        },
+        Verb::HandshakeInterfaceVersion => {
+            let version = script::u32_of(b);
+            request(
+                run,
+                control,
+                words,
+                reals,
+                texts,
+                Request::InterfaceVersion { version },
+                text,
+            )
+        }
+        Verb::HandshakeFinish => request(run, control, words, reals, texts, Request::Finish, text),
+        _ => request(run, control, words, reals, texts, Request::Other, text),
+    }
+}
+
+fn is_station(verb: Verb) -> bool {
+    match verb {
+        Verb::AddSeat
         | Verb::AddDevice
         | Verb::RemoveSeat
         | Verb::RemoveDevice
@@ -229,22 +261,153 @@ fn call(run: Run, line: &[u8], verb: Verb, args: Args) -> Run {
         | Verb::LastSerial
         | Verb::HasInterface
         | Verb::InterfaceVersion
-        | Verb::HasCapability => end(run),
-        _ => request(run, Request::Other, b""),
+        | Verb::HasCapability => true,
+        _ => false,
     }
 }
 
-// The clock and the text buffer are a session's.
+fn is_next(verb: Verb) -> bool {
+    if let Verb::NextRequest = verb {
+        true
+    } else {
+        false
+    }
+}
+
+// A call with its text, if it has one.
+fn with_text(
+    run: Run,
+    control: &mut [u64],
+    words: &mut [u64],
+    reals: &mut [f32],
+    texts: &mut [u8],
+    verb: Verb,
+    args: Args,
+    given: bool,
+    text: &[u8],
+) -> Run {
+    if !run.started {
+        return end(run);
+    }
+    if is_station(verb) {
+        if !run.finished {
+            return end(run);
+        }
+        session::station(run, control, words, reals, texts, verb, args, given, text);
+        return run;
+    }
+    if is_next(verb) {
+        if !run.finished {
+            return end(run);
+        }
+        session::next(run, control, words, reals, texts);
+        return run;
+    }
+    if !run.finished {
+        return shake(run, control, words, reals, texts, verb, args, text);
+    }
+    session::client(run, control, words, reals, texts, verb, args, text);
+    run
+}
+
+fn with_text_in(
+    run: Run,
+    control: &mut [u64],
+    words: &mut [u64],
+    reals: &mut [f32],
+    texts: &mut [u8],
+    verb: Verb,
+    args: Args,
+    line: &[u8],
+    t: Text,
+    buf: &mut [u8],
+) -> Run {
+    let from: usize = 0;
+    let n = script::text_into(line, t, buf);
+    if n <= buf.len() {
+        return with_text(
+            run,
+            control,
+            words,
+            reals,
+            texts,
+            verb,
+            args,
+            true,
+            &buf[from..n],
+        );
+    }
+    end(run)
+}
+
+// The text of a line stands first or second. A text is at most half as long as its line.
+fn call(
+    run: Run,
+    control: &mut [u64],
+    words: &mut [u64],
+    reals: &mut [f32],
+    texts: &mut [u8],
+    line: &[u8],
+    verb: Verb,
+    args: Args,
+) -> Run {
+    let first = args.a;
+    let second = args.b;
+    if let Verb::Start = verb {
+        return start(run, script::u32_of(first));
+    }
+    let mut buf = [0u8; 32768];
+    if let Value::Text(t) = first {
+        return with_text_in(
+            run,
+            control,
+            words,
+            reals,
+            texts,
+            verb,
+            args,
+            line,
+            t,
+            &mut buf,
+        );
+    }
+    if let Value::Text(t) = second {
+        return with_text_in(
+            run,
+            control,
+            words,
+            reals,
+            texts,
+            verb,
+            args,
+            line,
+            t,
+            &mut buf,
+        );
+    }
+    with_text(run, control, words, reals, texts, verb, args, false, b"")
+}
+
 fn setting(run: Run, verb: Verb, args: Args) -> Run {
-    let a = args.a;
+    let first = args.a;
+    let n = script::u64_of(first);
     let mut set = run;
-    if let Verb::Out = verb {
-        set.out = script::u64_of(a);
+    match verb {
+        Verb::Out => set.out = n,
+        Verb::Buffer => set.buffer = n,
+        _ => set.clock = n,
     }
     set
 }
 
-pub fn take(run: Run, line: &[u8]) -> Run {
+pub fn take(
+    run: Run,
+    control: &mut [u64],
+    words: &mut [u64],
+    reals: &mut [f32],
+    texts: &mut [u8],
+    line: &[u8],
+) -> Run {
     if run.ended {
         return run;
     }
@@ -252,7 +415,7 @@ pub fn take(run: Run, line: &[u8]) -> Run {
     match script::parse(line) {
         Line::Blank => here,
         Line::Setting { verb, args } => setting(here, verb, args),
-        Line::Call { verb, args } => call(here, line, verb, args),
+        Line::Call { verb, args } => call(here, control, words, reals, texts, line, verb, args),
         Line::NoCall => end(here),
     }
 }

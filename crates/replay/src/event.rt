@@ -47,7 +47,7 @@ fn first(s: &[u8], n: usize) {
 }
 
 // Bytes in hexadecimal, two digits each.
-fn hexadecimal(bytes: &[u8]) {
+pub fn hexadecimal(bytes: &[u8]) {
     let mut digits = [0u8; 1024];
     let mut i: usize = 0;
     while i < bytes.len() {

@@ -22,15 +22,32 @@ struct Begun {
 }
 
 // A line: one that was cut is no call.
-fn take(run: Run, line: &[u8], cut: bool) -> Run {
+fn take(
+    run: Run,
+    control: &mut [u64],
+    words: &mut [u64],
+    reals: &mut [f32],
+    texts: &mut [u8],
+    line: &[u8],
+    cut: bool,
+) -> Run {
     if cut {
         return call::no_call(run);
     }
-    call::take(run, line)
+    call::take(run, control, words, reals, texts, line)
 }
 
 // Goes through the lines that end in what is filled.
-fn take_lines(buf: &[u8], filled: usize, cut: bool, run: Run) -> Begun
+fn take_lines(
+    buf: &[u8],
+    filled: usize,
+    cut: bool,
+    run: Run,
+    control: &mut [u64],
+    words: &mut [u64],
+    reals: &mut [f32],
+    texts: &mut [u8],
+) -> Begun
     requires { ⌜ filled ≤ length (now buf) ⌝ }
     ensures { λ r. ⌜ r .at ≤ filled ⌝ }
 {
@@ -40,7 +57,7 @@ fn take_lines(buf: &[u8], filled: usize, cut: bool, run: Run) -> Begun
     while at < filled {
         match script::line_end(buf, at, filled) {
             LineEnd::At { end, next } => {
-                done = take(done, &buf[at..end], gone);
+                done = take(done, control, words, reals, texts, &buf[at..end], gone);
                 gone = false;
                 at = next;
             }
@@ -72,11 +89,20 @@ fn move_down(buf: &mut [u8], at: usize, filled: usize)
 }
 
 // Takes the lines that have ended and makes room for more. A line that fills the buffer is dropped, and what follows of it.
-fn take_filled(buf: &mut [u8], filled: usize, cut: bool, run: Run) -> Turn
+fn take_filled(
+    buf: &mut [u8],
+    filled: usize,
+    cut: bool,
+    run: Run,
+    control: &mut [u64],
+    words: &mut [u64],
+    reals: &mut [f32],
+    texts: &mut [u8],
+) -> Turn
     requires { ⌜ filled ≤ length (now buf) ⌝ }
     ensures { λ r. ⌜ r .filled ≤ length (now (buf .exit)) ⌝ }
 {
-    let begun = take_lines(buf, filled, cut, run);
+    let begun = take_lines(buf, filled, cut, run, control, words, reals, texts);
     let at = begun.at;
     let after = begun.run;
     move_down(buf, at, filled);
@@ -98,7 +124,16 @@ fn take_filled(buf: &mut [u8], filled: usize, cut: bool, run: Run) -> Turn
 }
 
 // Reads once. At the end of the input a last line that no newline ends is taken.
-fn read_some(buf: &mut [u8], filled: usize, cut: bool, run: Run) -> Turn
+fn read_some(
+    buf: &mut [u8],
+    filled: usize,
+    cut: bool,
+    run: Run,
+    control: &mut [u64],
+    words: &mut [u64],
+    reals: &mut [f32],
+    texts: &mut [u8],
+) -> Turn
     requires { ⌜ filled ≤ length (now buf) ⌝ }
     ensures { λ r. ⌜ r .filled ≤ length (now (buf .exit)) ⌝ }
 {
@@ -106,7 +141,7 @@ fn read_some(buf: &mut [u8], filled: usize, cut: bool, run: Run) -> Turn
     if got <= 0 {
         let from: usize = 0;
         if 0 < filled {
-            let last = take(run, &buf[from..filled], cut);
+            let last = take(run, control, words, reals, texts, &buf[from..filled], cut);
             return Turn {
                 filled: 0,
                 cut,
@@ -122,17 +157,24 @@ fn read_some(buf: &mut [u8], filled: usize, cut: bool, run: Run) -> Turn
         };
     }
     let count = io::count(got, &buf[filled..]);
-    take_filled(buf, filled + count, cut, run)
+    take_filled(buf, filled + count, cut, run, control, words, reals, texts)
 }
 
 // A proved loop has to end, and nothing says that the input does. So the loop counts its turns down, from a number that no run uses up.
-pub fn read_all(buf: &mut [u8], run: Run) {
+pub fn read_all(
+    buf: &mut [u8],
+    run: Run,
+    control: &mut [u64],
+    words: &mut [u64],
+    reals: &mut [f32],
+    texts: &mut [u8],
+) {
     let mut filled: usize = 0;
     let mut cut = false;
     let mut done = run;
     let mut turns = u64::MAX;
     while 0 < turns {
-        let t = read_some(buf, filled, cut, done);
+        let t = read_some(buf, filled, cut, done, control, words, reals, texts);
         done = t.run;
         if !t.more {
             return;

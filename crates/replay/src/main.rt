@@ -3,6 +3,9 @@
 mod call;
 mod event;
 mod lines;
+mod request;
+mod session;
+mod show;
 
 // Whether the program was started with --explain.
 fn explains() -> bool {
@@ -14,5 +17,17 @@ fn explains() -> bool {
 fn main() {
     // A line of 65,536 bytes and a newline.
     let mut buf = [0u8; 65537];
-    lines::read_all(&mut buf, call::new_run(explains()));
+    // The slices of the session.
+    let mut control = [0u64; 224];
+    let mut words = [0u64; 3840];
+    let mut reals = [0.0f32; 1536];
+    let mut texts = [0u8; 8192];
+    lines::read_all(
+        &mut buf,
+        call::new_run(explains()),
+        &mut control,
+        &mut words,
+        &mut reals,
+        &mut texts,
+    );
 }

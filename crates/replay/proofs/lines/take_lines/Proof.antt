@@ -4,15 +4,16 @@ use Rattle.replay.proofs.lines.take_lines.Statement.{statement}
 use Rattle.replay.proofs.lines.take_lines.Tie as tie
 use Rattle.script.proofs.Lines.{end-bounds}
 use borrow.Author.Needs.{needs}
-use mathlib.Core.Path.{sym, _∙_}
+use lib.ListN.{length}
+use mathlib.Core.Path.{_≡_, sym, _∙_}
 use native.Mathlib.Omega.{arith}
 
 abbrev Inv-loop : tie.InvT-loop
-Inv-loop buf filled cut at₀ gone₀ done₀ at gone done =
-    at ≤ filled
+Inv-loop buf filled cut control₀ words₀ reals₀ texts₀ at₀ gone₀ done₀ control words reals texts at gone done =
+    (at ≤ filled) × (length control ≡ length control₀) × (length words ≡ length words₀) × (length reals ≡ length reals₀) × (length texts ≡ length texts₀)
 
 abbrev μ-loop : tie.MeasureT-loop
-μ-loop buf filled cut at₀ gone₀ done₀ at gone done =
+μ-loop buf filled cut control₀ words₀ reals₀ texts₀ at₀ gone₀ done₀ control words reals texts at gone done =
     filled - at
 
 loop-holds : tie.Need-loop-holds Inv-loop μ-loop
@@ -26,32 +27,56 @@ enum-known-end c = search needs
 
 sub-take : tie.Need-sub-take Inv-loop μ-loop
 sub-take c =
-    end-bounds (c .before .before .before .before .before .before .before .args .buf .now) (c .before .before .before .before .before .loop .at) (c .before .before .before .before .before .before .before .args .filled) (c .before .end .given .0 .0) (c .before .end .given .0 .1 .0) (sym (c .before .before .before .line-end .ensures) ∙ c .before .end .given .1) .0
+    end-bounds (c .before .before .before .before .before .before .before .before .before .before .before .before .before .before .before .args .buf .now) (c .before .before .before .before .before .before .before .before .before .loop .at) (c .before .before .before .before .before .before .before .before .before .before .before .before .before .before .before .args .filled) (c .before .before .before .before .before .end .given .0 .0) (c .before .before .before .before .before .end .given .0 .1 .0) (sym (c .before .before .before .before .before .before .before .line-end .ensures) ∙ c .before .before .before .before .before .end .given .1) .0
 
 part-take-start : tie.Need-part-take-start Inv-loop μ-loop
 part-take-start c =
-    end-bounds (c .before .before .before .before .before .before .before .args .buf .now) (c .before .before .before .before .before .loop .at) (c .before .before .before .before .before .before .before .args .filled) (c .before .end .given .0 .0) (c .before .end .given .0 .1 .0) (sym (c .before .before .before .line-end .ensures) ∙ c .before .end .given .1) .0
+    end-bounds (c .before .before .before .before .before .before .before .before .before .before .before .before .before .before .before .args .buf .now) (c .before .before .before .before .before .before .before .before .before .loop .at) (c .before .before .before .before .before .before .before .before .before .before .before .before .before .before .before .args .filled) (c .before .before .before .before .before .end .given .0 .0) (c .before .before .before .before .before .end .given .0 .1 .0) (sym (c .before .before .before .before .before .before .before .line-end .ensures) ∙ c .before .before .before .before .before .end .given .1) .0
 
 part-take-end : tie.Need-part-take-end Inv-loop μ-loop
 part-take-end c =
-    omega (arith, end-bounds (c .before .before .before .before .before .before .before .args .buf .now) (c .before .before .before .before .before .loop .at) (c .before .before .before .before .before .before .before .args .filled) (c .before .end .given .0 .0) (c .before .end .given .0 .1 .0) (sym (c .before .before .before .line-end .ensures) ∙ c .before .end .given .1))
+    omega (arith, end-bounds (c .before .before .before .before .before .before .before .before .before .before .before .before .before .before .before .args .buf .now) (c .before .before .before .before .before .before .before .before .before .loop .at) (c .before .before .before .before .before .before .before .before .before .before .before .before .before .before .before .args .filled) (c .before .before .before .before .before .end .given .0 .0) (c .before .before .before .before .before .end .given .0 .1 .0) (sym (c .before .before .before .before .before .before .before .line-end .ensures) ∙ c .before .before .before .before .before .end .given .1))
 
 take-requires : tie.Need-take-requires Inv-loop μ-loop
 take-requires c κs = search needs
 
 loop-less : tie.Need-loop-less Inv-loop μ-loop
 loop-less c =
-    omega (arith, end-bounds (c .before .before .before .before .before .before .before .before .before .args .buf .now) (c .before .before .before .before .before .before .before .loop .at) (c .before .before .before .before .before .before .before .before .before .args .filled) (c .before .before .before .end .given .0 .0) (c .before .before .before .end .given .0 .1 .0) (sym (c .before .before .before .before .before .line-end .ensures) ∙ c .before .before .before .end .given .1))
+    omega (arith, end-bounds (c .before .before .before .before .before .before .before .before .before .before .before .before .before .before .before .before .before .before .before .before .before .before .before .before .before .args .buf .now) (c .before .before .before .before .before .before .before .before .before .before .before .before .before .before .before .before .before .before .before .loop .at) (c .before .before .before .before .before .before .before .before .before .before .before .before .before .before .before .before .before .before .before .before .before .before .before .before .before .args .filled) (c .before .before .before .before .before .before .before .before .before .before .before .before .before .before .before .end .given .0 .0) (c .before .before .before .before .before .before .before .before .before .before .before .before .before .before .before .end .given .0 .1 .0) (sym (c .before .before .before .before .before .before .before .before .before .before .before .before .before .before .before .before .before .line-end .ensures) ∙ c .before .before .before .before .before .before .before .before .before .before .before .before .before .before .before .end .given .1))
 
 loop-again : tie.Need-loop-again Inv-loop μ-loop
 loop-again c =
-    omega (arith, end-bounds (c .before .before .before .before .before .before .before .before .before .args .buf .now) (c .before .before .before .before .before .before .before .loop .at) (c .before .before .before .before .before .before .before .before .before .args .filled) (c .before .before .before .end .given .0 .0) (c .before .before .before .end .given .0 .1 .0) (sym (c .before .before .before .before .before .line-end .ensures) ∙ c .before .before .before .end .given .1))
+    let e = end-bounds (c .before .before .before .before .before .before .before .before .before .before .before .before .before .before .before .before .before .before .before .before .before .before .before .before .before .args .buf .now) (c .before .before .before .before .before .before .before .before .before .before .before .before .before .before .before .before .before .before .before .loop .at) (c .before .before .before .before .before .before .before .before .before .before .before .before .before .before .before .before .before .before .before .before .before .before .before .before .before .args .filled) (c .before .before .before .before .before .before .before .before .before .before .before .before .before .before .before .end .given .0 .0) (c .before .before .before .before .before .before .before .before .before .before .before .before .before .before .before .end .given .0 .1 .0) (sym (c .before .before .before .before .before .before .before .before .before .before .before .before .before .before .before .before .before .line-end .ensures) ∙ c .before .before .before .before .before .before .before .before .before .before .before .before .before .before .before .end .given .1) in search (needs, e)
 
 enum-told : tie.Need-enum-told Inv-loop μ-loop
 enum-told c = search needs
 
+same-length : tie.Need-same-length Inv-loop μ-loop
+same-length c = search needs
+
+same-length-2 : tie.Need-same-length-2 Inv-loop μ-loop
+same-length-2 c = search needs
+
+same-length-3 : tie.Need-same-length-3 Inv-loop μ-loop
+same-length-3 c = search needs
+
+same-length-4 : tie.Need-same-length-4 Inv-loop μ-loop
+same-length-4 c = search needs
+
 returns : tie.Need-returns Inv-loop μ-loop
 returns c = search needs
+
+same-length-5 : tie.Need-same-length-5 Inv-loop μ-loop
+same-length-5 c = search needs
+
+same-length-6 : tie.Need-same-length-6 Inv-loop μ-loop
+same-length-6 c = search needs
+
+same-length-7 : tie.Need-same-length-7 Inv-loop μ-loop
+same-length-7 c = search needs
+
+same-length-8 : tie.Need-same-length-8 Inv-loop μ-loop
+same-length-8 c = search needs
 
 returns-2 : tie.Need-returns-2 Inv-loop μ-loop
 returns-2 c = search needs
@@ -72,5 +97,13 @@ take-lines-spec =
     loop-less
     loop-again
     enum-told
+    same-length
+    same-length-2
+    same-length-3
+    same-length-4
     returns
+    same-length-5
+    same-length-6
+    same-length-7
+    same-length-8
     returns-2)

@@ -1,0 +1,54 @@
+#!/usr/bin/env python3
+"""Holds the program replay to the oracle on random sessions.
+
+usage: compare_sessions.py ORACLE FIRST LAST [CALLS [REPLAY]]     run at the repository's root, after `rt check replay`
+
+ORACLE is the oracle's folder (gen.py and target/release/oracle in it). For each seed from FIRST to LAST, one script of about CALLS calls (400) for each of
+gen.py's six profiles. Trails are compared line by line; the first line that differs of each script is printed with its call. What the answers were is
+counted, so that it can be seen what the scripts reached. gen.py goes through sets, so its scripts are the same at each run only with PYTHONHASHSEED=0, which
+is set here.
+"""
+import collections
+import os
+import subprocess
+import sys
+
+PROFILES = ["mixed", "limits", "touch", "text", "removal", "frames"]
+
+
+def calls_of(script):
+    return [line for line in script.splitlines() if line and not line.startswith("#") and line.split()[0] not in ("now", "out", "buffer")]
+
+
+def main():
+    oracle, first, last = sys.argv[1], int(sys.argv[2]), int(sys.argv[3])
+    count = sys.argv[4] if len(sys.argv) > 4 else "400"
+    replay = sys.argv[5] if len(sys.argv) > 5 else "target/bin/replay"
+    env = dict(os.environ, PYTHONHASHSEED="0")
+    answers = collections.Counter()
+    scripts = calls = different = 0
+    for seed in range(first, last + 1):
+        for profile in PROFILES:
+            made = subprocess.run([f"{oracle}/gen.py", str(seed), count, "--profile", profile], env=env, capture_output=True, check=True)
+            theirs = subprocess.run([f"{oracle}/target/release/oracle"], input=made.stdout, capture_output=True)
+            ours = subprocess.run([replay], input=made.stdout, capture_output=True)
+            if theirs.returncode:
+                sys.exit(f"seed {seed} {profile}: the oracle ended with {theirs.returncode}")
+            a, b = theirs.stdout.decode().splitlines(), ours.stdout.decode().splitlines()
+            scripts += 1
+            calls += len(a)
+            for line in a:
+                word = line.split(" |")[0].split()
+                answers[" ".join(word[:2]) if word[0] == "refused" else "a number" if word[0].isdigit() else word[0]] += 1
+            if a != b:
+                different += 1
+                place = next((i for i, pair in enumerate(zip(a, b)) if pair[0] != pair[1]), min(len(a), len(b)))
+                print(f"seed {seed} {profile}, call {place + 1}: {calls_of(made.stdout.decode())[place]}")
+                print(f"  oracle: {a[place] if place < len(a) else '(nothing)'}\n  replay: {b[place] if place < len(b) else '(nothing)'}")
+    print(f"{scripts} scripts, {calls} calls, {different} scripts that differ")
+    for answer, n in sorted(answers.items()):
+        print(f"  {answer}: {n}")
+    sys.exit(1 if different else 0)
+
+
+main()
