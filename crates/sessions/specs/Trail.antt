@@ -1,14 +1,14 @@
--- Lists of calls of the code, each as its contract has it, and demand 3's first half told of them. proofs/Trails.antt proves the statements. Assumes nothing.
+-- Lists of calls of the code, each as its contract has it, and demand 3 told of them. proofs/Trails.antt proves the statements. Assumes nothing.
 use Prim.Native.Nat.{ℕ}
 use mathlib.Core.Path.{_≡_}
 use mathlib.Core.Bool.{Bool, true, false}
-use mathlib.Core.List.{List, [], _∷_, map}
+use mathlib.Core.List.{List, [], _∷_, _++_, map}
 use mathlib.Core.Option.{Option}
 use lib.ListN.{take}
 use Rattle.model.specs.Call.{Input, Load, Plain, Call, Turn, split}
-use Rattle.model.specs.Session.{fresh, mapRequest, blank}
+use Rattle.model.specs.Session.{Item, fresh, mapRequest, blank}
 use Rattle.model.specs.Step.{run}
-use Rattle.model.specs.Demand3.{Observed, observed, trail}
+use Rattle.model.specs.Demand3.{Observed, observed, taken, itemsOf}
 use Rattle.model.specs.Payload.{Matched}
 use Rattle.store.specs.View.{Store, session, isWhole}
 use Rattle.answers.specs.Answer.{outcomeOf}
@@ -69,3 +69,17 @@ Equal-seen =
     (c n i : ℕ) (vs : List (Option ℕ)) (s s′ : Store) (xs xs′ : List Exchange) → isWhole s ≡ true → isWhole s′ ≡ true
     → session s ≡ fresh c n i vs → session s′ ≡ fresh c n i vs → Made s xs → Made s′ xs′
     → Matched (map turnOf xs) (map turnOf xs′) → map isAsked xs ≡ map isAsked xs′ → map seen xs ≡ map seen xs′
+
+-- the timed requests that `next_request` gave for a device, in order, as its answers and the text buffers tell them
+unfoldable pub givenTo : (device : ℕ) → List Exchange → List (Item Load)
+unfolding itemsOf
+givenTo d [] = []
+givenTo d (Exchange.called call clock out later answer e ∷ xs) = givenTo d xs
+givenTo d (Exchange.asked clock buffer later answer e ∷ xs) = itemsOf d (givenIn answer later) ++ givenTo d xs
+
+-- DEMAND 3, SECOND HALF, OF THE CODE. "The n-th timed request that `next_request` gives for a device came from the n-th taken on that device", "each delivered
+-- payload is, bit for bit, that of the one request it came from": kind, touch id, length and payload; `left` is what is not given (yet)
+abbrev pub Given-in-order : Type 0
+Given-in-order =
+    (c n i : ℕ) (vs : List (Option ℕ)) (s : Store) (xs : List Exchange) (d : ℕ) → isWhole s ≡ true → session s ≡ fresh c n i vs → Made s xs
+    → (left : List (Item Load)) × (taken c n i vs d (map turnOf xs) ≡ givenTo d xs ++ left)
