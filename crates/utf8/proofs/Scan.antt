@@ -7,13 +7,15 @@ use mathlib.Core.Option.{none, some}
 use mathlib.Core.Logic.{dite}
 use native.Mathlib.Omega.{arith}
 use native.Mathlib.Decide.{decLt}
+use native.Mathlib.Nat.{le-refl}
 use native.Mathlib.Numerals.{add-one}
 use borrow.Author.Tests.{not-true, not-false}
+use lib.Bits.{bitOr, and-le-l, and-le-r, or-add-and}
 use lib.ListN.{length, getD, drop, replicate, drop-of-length-le}
 use lib.Seq.{drop-cons, drop-drop}
 use Rattle.utf8.specs.Rfc3629.{Range, UTF8-tail, UTF8-char, after, goesOn, isUtf8}
 use Rattle.utf8.specs.Lead.{begins}
-use Rattle.utf8.proofs.Rules.{never}
+use Rattle.utf8.proofs.Rules.{never, decides, decided}
 
 module _ (t : List ℕ) (i : ℕ) (h : i < length t) (v : isUtf8 t ≡ isUtf8 (drop i t)) where
   -- a first octet
@@ -57,3 +59,41 @@ tails-left (suc n) h = let e : suc n - 1 ≡ n = omega arith in rw e
 pub at-end : (t : List ℕ) (i : ℕ) → length t ≤ i → isUtf8 (drop i t) ≡ true
 unfolding isUtf8
 at-end t i h = rw drop-of-length-le
+
+-- octets that are ASCII, from i on
+pub ascii-run : (t : List ℕ) (i n : ℕ) → i + n ≤ length t → ((k : ℕ) → k < n → getD t (i + k) 0 < 128) → isUtf8 t ≡ isUtf8 (drop i t) → isUtf8 t ≡ isUtf8 (drop (i + n) t)
+unfolding isUtf8 decides
+ascii-run t i zero h a v = let e : i + 0 ≡ i = omega arith in rw e v
+ascii-run t i (suc n) h a v =
+    let b = a n (omega arith) in
+    let e : i + suc n ≡ i + n + 1 = omega arith in
+    let f = decided 0 127 (getD t (i + n) 0) (omega arith) (omega arith) (some []) UTF8-char refl in
+    rw e (first t (i + n) (omega arith) (ascii-run t i n (omega arith) (λ k l. a k (omega arith)) v) [] (sym f))
+
+or-left : (a b : ℕ) → a ≤ bitOr a b
+or-left a b =
+    let e = or-add-and a b in
+    let l = and-le-r a b in
+    omega arith
+
+or-right : (a b : ℕ) → b ≤ bitOr a b
+or-right a b =
+    let e = or-add-and a b in
+    let l = and-le-l a b in
+    omega arith
+
+-- the octet at i and n more, in one
+abbrev pub ors : List ℕ → ℕ → ℕ → ℕ
+ors t i zero = getD t i 0
+ors t i (suc n) = bitOr (ors t i n) (getD t (i + suc n) 0)
+
+-- none of them is more than that
+pub within-ors : (t : List ℕ) (i n k : ℕ) → k < suc n → getD t (i + k) 0 ≤ ors t i n
+within-ors t i zero k h = let e : i + k ≡ i = omega arith in rw e (le-refl (getD t i 0))
+within-ors t i (suc n) k h = dite (decLt k (suc n)) (λ l. before (within-ors t i n k l)) last
+  where
+    before : getD t (i + k) 0 ≤ ors t i n → getD t (i + k) 0 ≤ ors t i (suc n)
+    before a = let b = or-left (ors t i n) (getD t (i + suc n) 0) in omega arith
+
+    last : (k < suc n → ⊥) → getD t (i + k) 0 ≤ ors t i (suc n)
+    last l = let e : k ≡ suc n = omega arith in rw e (or-right (ors t i n) (getD t (i + suc n) 0))

@@ -1,6 +1,7 @@
 // UTF-8, as RFC 3629 defines it.
 ghost use mathlib.Core.Path.{_≡_};
-ghost use lib.ListN.{drop};
+ghost use Prim.Native.Nat.{ℕ, _+_, _≤_, _<_};
+ghost use lib.ListN.{length, getD, drop};
 ghost use Rattle.utf8.specs.Rfc3629.{UTF8-char, after, isUtf8};
 ghost use Rattle.utf8.specs.Lead.{asked, begins};
 
@@ -46,11 +47,41 @@ fn has_octet(text: &[u8], at: usize, low: u8, high: u8) -> bool
     }
 }
 
+// Eight octets of the text in one: it is ASCII only where each of them is.
+fn eight_or(text: &[u8], at: usize) -> u8
+    requires { ⌜ at + 8 ≤ length (now text) ⌝ }
+    ensures { λ r. ⌜ ((k : ℕ) → k < 8 → getD (now (text .entry)) (at + k) 0 ≤ r) ⌝ }
+{
+    text[at]
+        | text[at + 1]
+        | text[at + 2]
+        | text[at + 3]
+        | text[at + 4]
+        | text[at + 5]
+        | text[at + 6]
+        | text[at + 7]
+}
+
+// How many octets the text begins with that are ASCII, in whole eights: most texts are little else, and eight at once take less
+// time than eight tests.
+fn ascii_eights(text: &[u8]) -> usize
+    ensures { λ r. ⌜ r ≤ length (now (text .entry)) ⌝ ∗ ⌜ isUtf8 (now (text .entry)) ≡ isUtf8 (drop r (now (text .entry))) ⌝ }
+{
+    let mut i: usize = 0;
+    while 8 <= text.len() - i {
+        if eight_or(text, i) >= 0x80 {
+            return i;
+        }
+        i += 8;
+    }
+    i
+}
+
 // Whether the text is UTF-8.
 pub fn valid(text: &[u8]) -> bool
     ensures { λ r. ⌜ r ≡ isUtf8 (now (text .entry)) ⌝ }
 {
-    let mut i: usize = 0;
+    let mut i = ascii_eights(text);
     while i < text.len() {
         match lead_of(text[i]) {
             Lead::Alone => i += 1,

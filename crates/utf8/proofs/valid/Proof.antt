@@ -26,23 +26,26 @@ abbrev μ-loop : tie.MeasureT-loop
 
 -- behind a first octet that others follow
 follows : (c : tie.After-low Inv-loop2 μ-loop2 Inv-loop μ-loop)
-    → isUtf8 (c .before .before .before .before .before .before .before .args .text .now)
-    ≡ goesOn ((c .low .given .0 .0, c .low .given .0 .1 .0) ∷ replicate (c .low .given .0 .1 .1 .0) UTF8-tail) (drop (c .before .before .before .before .before .loop .i + 1) (c .before .before .before .before .before .before .before .args .text .now))
+    → isUtf8 (c .before .before .before .before .before .before .before .before .args .text .now)
+    ≡ goesOn ((c .low .given .0 .0, c .low .given .0 .1 .0) ∷ replicate (c .low .given .0 .1 .1 .0) UTF8-tail) (drop (c .before .before .before .before .before .loop .i + 1) (c .before .before .before .before .before .before .before .before .args .text .now))
 unfolding asked
 follows c =
     let l = c .low .given in
     let j = c .before .before .before .before .before .loop in
-    first (c .before .before .before .before .before .before .before .args .text .now) (j .i) (c .before .before .before .before .loop-test .taken) (j .inv .1) ((l .0 .0, l .0 .1 .0) ∷ replicate (l .0 .1 .1 .0) UTF8-tail)
+    first (c .before .before .before .before .before .before .before .before .args .text .now) (j .i) (c .before .before .before .before .loop-test .taken) (j .inv .1) ((l .0 .0, l .0 .1 .0) ∷ replicate (l .0 .1 .1 .0) UTF8-tail)
     (sym (ap asked (l .1)) ∙ c .before .before .lead-of .ensures)
 
 -- before one of the octets that are left
 left-one : (c : tie.In-loop2 Inv-loop2 μ-loop2 Inv-loop μ-loop)
-    → isUtf8 (c .before .before .before .before .before .before .before .before .before .before .before .before .args .text .now)
-    ≡ goesOn (UTF8-tail ∷ replicate (c .before .loop2 .left - 1) UTF8-tail) (drop (c .before .loop2 .i) (c .before .before .before .before .before .before .before .before .before .before .before .before .args .text .now))
+    → isUtf8 (c .before .before .before .before .before .before .before .before .before .before .before .before .before .args .text .now)
+    ≡ goesOn (UTF8-tail ∷ replicate (c .before .loop2 .left - 1) UTF8-tail) (drop (c .before .loop2 .i) (c .before .before .before .before .before .before .before .before .before .before .before .before .before .args .text .now))
 left-one c = rw (tails-left (c .before .loop2 .left) (omega arith)) at (c .before .loop2 .inv .2)
 
+ascii-eights-requires : tie.Need-ascii-eights-requires Inv-loop2 μ-loop2 Inv-loop μ-loop
+ascii-eights-requires c κs = search needs
+
 loop-holds : tie.Need-loop-holds Inv-loop2 μ-loop2 Inv-loop μ-loop
-loop-holds c = (omega arith, refl)
+loop-holds c = let a = c .ascii-eights .ensures in (a .0, a .1)
 
 shared-slice-read-lead-of : tie.Need-shared-slice-read-lead-of Inv-loop2 μ-loop2 Inv-loop μ-loop
 shared-slice-read-lead-of c = search needs
@@ -62,7 +65,7 @@ loop-less c = search needs
 loop-again : tie.Need-loop-again Inv-loop2 μ-loop2 Inv-loop μ-loop
 unfolding asked isUtf8
 loop-again c =
-    let t = c .before .before .before .before .before .before .before .args .text .now in
+    let t = c .before .before .before .before .before .before .before .before .args .text .now in
     let j = c .before .before .before .before .before .loop in
     (omega arith, first t (j .i) (c .before .before .before .before .loop-test .taken) (j .inv .1) [] (sym (ap asked (c .enum-told .given .1)) ∙ c .before .before .lead-of .ensures))
 
@@ -77,7 +80,7 @@ has-octet-requires c κs = search needs
 
 returns : tie.Need-returns Inv-loop2 μ-loop2 Inv-loop μ-loop
 returns c =
-    let t = c .before .before .before .before .before .before .before .before .before .before .args .text .now in
+    let t = c .before .before .before .before .before .before .before .before .before .before .before .args .text .now in
     let i = c .before .before .before .before .before .before .before .before .loop .i in
     let l = c .before .before .before .low .given .0 in
     let o = c .before .has-octet in
@@ -88,7 +91,7 @@ add-i-2 c = search needs
 
 loop2-holds : tie.Need-loop2-holds Inv-loop2 μ-loop2 Inv-loop μ-loop
 loop2-holds c =
-    let t = c .before .before .before .before .before .before .before .before .before .before .args .text .now in
+    let t = c .before .before .before .before .before .before .before .before .before .before .before .args .text .now in
     let i = c .before .before .before .before .before .before .before .before .loop .i in
     let l = c .before .before .before .low .given .0 in
     let o = c .before .has-octet in
@@ -112,7 +115,7 @@ has-octet-requires-2 c κs = search needs
 returns-2 : tie.Need-returns-2 Inv-loop2 μ-loop2 Inv-loop μ-loop
 unfolding UTF8-tail
 returns-2 c =
-    let t = c .before .before .before .before .before .before .before .before .before .before .before .before .before .before .args .text .now in
+    let t = c .before .before .before .before .before .before .before .before .before .before .before .before .before .before .before .args .text .now in
     let k = c .before .before .before .loop2 in
     let o = c .before .has-octet2 in
     none-next t (k .i) UTF8-tail (o .result) (o .ensures) (replicate (k .left - 1) UTF8-tail) (left-one (c .before .before)) (c .if2 .taken)
@@ -129,7 +132,7 @@ loop2-less c = search needs
 loop2-again : tie.Need-loop2-again Inv-loop2 μ-loop2 Inv-loop μ-loop
 unfolding UTF8-tail
 loop2-again c =
-    let t = c .before .before .before .before .before .before .before .before .before .before .before .before .before .before .args .text .now in
+    let t = c .before .before .before .before .before .before .before .before .before .before .before .before .before .before .before .args .text .now in
     let k = c .before .before .before .loop2 in
     let o = c .before .has-octet2 in
     let h = there t (k .i) UTF8-tail (o .result) (o .ensures) (c .if2 .left) in
@@ -141,13 +144,13 @@ enum-told-2 c = search needs
 returns-3 : tie.Need-returns-3 Inv-loop2 μ-loop2 Inv-loop μ-loop
 unfolding asked
 returns-3 c =
-    let t = c .before .before .before .before .before .before .before .args .text .now in
+    let t = c .before .before .before .before .before .before .before .before .args .text .now in
     let j = c .before .before .before .before .before .loop in
     none-first t (j .i) (c .before .before .before .before .loop-test .taken) (j .inv .1) (sym (ap asked (c .enum-told2 .given .1)) ∙ c .before .before .lead-of .ensures)
 
 returns-4 : tie.Need-returns-4 Inv-loop2 μ-loop2 Inv-loop μ-loop
 returns-4 c =
-    let t = c .before .before .before .args .text .now in
+    let t = c .before .before .before .before .args .text .now in
     let j = c .before .loop in
     sym (j .inv .1 ∙ at-end t (j .i) (c .loop-test .left))
 
@@ -159,6 +162,7 @@ valid-spec =
     μ-loop2
     Inv-loop
     μ-loop
+    ascii-eights-requires
     loop-holds
     shared-slice-read-lead-of
     lead-of-requires
