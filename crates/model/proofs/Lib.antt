@@ -17,5 +17,3 @@ pub mod ReachableOrder
 pub mod ReachableHeld
 pub mod ReachablePlans
 pub mod Reachable
-pub mod Counted
-pub mod Steps

@@ -205,7 +205,7 @@ module _ {next : ℕ} where
   next-formed : (rs : List (Request (Unit {0}))) → Formed false next (nextOf rs)
   unfolding nextOf refuses made allowsAll
   next-formed [] = answer-formed Outcome.none
-  next-formed (r ∷ rs) = acts Outcome.given [] _ refl refl refl
+  next-formed (r ∷ rs) = acts _ [] _ refl refl refl
 
   addSeat-formed : (v : View) (name : Option (List ℕ)) (caps : ℕ) → Formed false next (addSeat v name caps)
   unfolding addSeat refuses made allowsAll

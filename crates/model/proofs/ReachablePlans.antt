@@ -209,7 +209,7 @@ module _ {P : Type 0} (s : Session P) (p : P) where
   unfolding handleSeat allQuiet
   seat-fits id caps r =
       onFound-fits (seatOf id (view s)) ignore-fits λ x.
-      cond-fits (unknownBits caps) (refuse-fits 3) (cond-fits (contains (x .capabilities) caps) (edit-fits (Edit.queue r ∷ []) refl) (refuse-fits 3))
+      cond-fits (unknownBits caps) (refuse-fits 3) (cond-fits (contains (x .capabilities) caps) (edit-fits _ refl) (refuse-fits 3))
 
   device-fits : (now id : ℕ) (r : Untimed) → Fits (handleDevice (view s) now id r)
   unfolding handleDevice allQuiet

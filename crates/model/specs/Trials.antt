@@ -1,9 +1,11 @@
--- Document 01's trial lines in one table, the starred ones first: the calls, and what they are to answer. (proofs/Trials.antt has the one proof.) Assumes nothing.
+-- Document 01's trial lines in one table, the starred ones first, then what it warns of: the calls, and what they are to answer.
+-- (proofs/Trials.antt has the one proof.) Assumes nothing.
 use Prim.Native.Nat.{ℕ, zero, suc}
 use mathlib.Core.List.{List, [], _∷_, _++_, map}
 use mathlib.Core.Option.{Option, none, some}
 use lib.ListN.{length, drop, replicate}
 use Rattle.eiproto.specs.declared.eiproto_enum.DeviceType.{DeviceType}
+use Rattle.eiproto.specs.declared.eiproto_enum.DisconnectReason.{DisconnectReason}
 use Rattle.eiproto.specs.declared.eiproto_enum.KeyState.{KeyState}
 use lib.Ieee.{nan}
 use Rattle.model.specs.Call.{Kind, Input, Load, Plain, Call, Turn}
@@ -137,6 +139,32 @@ unstarred =
     -- Queue 192 long, 64 pending, Frame: 17 (257 needed). Queue 191: taken.
     ∷ trial (queued 63 ++ (queued 63 ++ (queued 63 ++ replicate 64 key))) (frame 2 ∷ []) (says (Outcome.refused 17) ∷ [])
     ∷ trial (queued 63 ++ (queued 63 ++ (queued 62 ++ replicate 64 key))) (frame 2 ∷ []) (says Outcome.accepted ∷ [])
+    ∷ []
+
+-- what a wrong session would answer otherwise: "False friends: .."
+abbrev pub falseFriends : List Trial
+falseFriends =
+    -- "inserting the touch before finding the pending list full": the id that was refused is not held
+    trial (replicate 64 key) (down 1 ∷ frame 5 ∷ down 1 ∷ []) (says (Outcome.refused 16) ∷ says Outcome.accepted ∷ says Outcome.accepted ∷ [])
+    -- "flushing pending requests at Bind": the key still waits
+    ∷ trial (key ∷ []) (a (Plain.bind seat 0) ∷ next ∷ next ∷ frame 9 ∷ next ∷ [])
+    (says Outcome.accepted ∷ gives (Request.untimed (Untimed.Bind seat 0)) ∷ says Outcome.none ∷ says Outcome.accepted ∷ gives (keyAt 9) ∷ [])
+    -- "raising the serial for `disconnected`"
+    ∷ record {
+      serial = 7;
+      before = [];
+      calls = a (Plain.disconnected DisconnectReason.Disconnected none) ∷ a Plain.lastSerial ∷ [];
+      answers =
+          record { outcome = Outcome.accepted; bytes = 0x70 ∷ 0x13 ∷ 0xff ∷ 0 ∷ 0 ∷ 0 ∷ 0 ∷ 0 ∷ 0 ∷ 0 ∷ 0 ∷ 0 ∷ 0 ∷ 7 ∷ 0 ∷ 0 ∷ 0 ∷ 0 ∷ 0 ∷ []; given = [] }
+          ∷ says (Outcome.value 7)
+          ∷ [];
+    }
+    -- "giving a text slot back when its frame closes": it is given back with its text
+    ∷ trial (replicate 32 (utf8 1) ++ (frame 5 ∷ [])) (utf8 1 ∷ next ∷ utf8 1 ∷ [])
+    (says (Outcome.refused 18)
+    ∷ gives (Request.timed device 5 (record { kind = Kind.TextUtf8; touch = 0; size = 1; load = Load.Text (97 ∷ []) }))
+    ∷ says Outcome.accepted
+    ∷ [])
     ∷ []
 
 -- ---- what the definitions compute

@@ -10,15 +10,15 @@ use lib.Dec.{ltb}
 use lib.ListN.{length, getD, length-map}
 use borrow.Author.Tests.{lt-ltb, le-ltb}
 use Rattle.eiproto.specs.Bits.{bitsOf}
 use Rattle.model.specs.Call.{Kind, Sight, Split}
 use Rattle.model.specs.Session.{Untimed, Request, Device, Session, view}
 use Rattle.model.specs.Edit.{Amend, Edit, enact, enactAll}
 use Rattle.model.specs.Plan.{Sent, records, Outcome, Plan, answer, edit, send}
 use Rattle.model.specs.Decide.{Found, Rule, handler, pendAfter, decide}
 use Rattle.model.specs.Step.{Step, gaveAll, carriedOut, textsBy, texts, textBytes, Counts, counts, over, anyOver, limits, refuses, unchanged, settled, bytesNeeded, limited, step}
 use Rattle.model.proofs.All.{All, none, more}
 use Rattle.model.proofs.Within.{settled-refused, settled-accepted}
-use Rattle.model.proofs.Counted.{change, framedLength, framedLength-none, framedLength-some, waiting, afterPend, afterFrame, afterQueue, afterSeat, afterDevice, counts-frame, counts-queue, counts-addSeat, counts-addDevice, Lessens, lessens-same, lessens-deliver, removesAll, quietAll, quiet, pends, removed}
+use Rattle.steps.proofs.Counted.{change, framedLength, framedLength-none, framedLength-some, waiting, afterPend, afterFrame, afterQueue, afterSeat, afterDevice, counts-frame, counts-queue, counts-addSeat, counts-addDevice, Lessens, lessens-same, lessens-deliver, removesAll, quietAll, quiet, pends, removed}
 
 -- ---- the tests
 
