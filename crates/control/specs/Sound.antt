@@ -7,8 +7,8 @@ use lib.Dec.{leb, ltb, eqb}
 use lib.ListN.{length}
 use Rattle.control.specs.Control.{controlLength, seatCount, deviceCount, queueHead, queueLength, pendingAt, heldAt}
 
--- "21 BAD_STATE: a stored count above its limit, or a stored link past its table": 4 seats, 8 devices, 256 queued requests, for each of the 8 rows 64 pending
--- requests and 16 held touches; the queue's head is a place of its ring
+-- "21 BAD_STATE: a stored count above its limit, or a stored link past its table": 4 seats, 8 devices, 256 queued requests, for each device 64 pending
+-- requests and 16 held touches; the queue's head is a place of its ring. "A removed seat, device .. counts no longer": what a row behind the last holds is no count.
 
 unfoldable pub rowSound : List ℕ → ℕ → Bool
 rowSound c k = leb (pendingAt c k) 64 && leb (heldAt c k) 16
@@ -22,7 +22,7 @@ unfoldable pub isSound : List ℕ → Bool
 unfolding rowsSound
 isSound c =
     eqb (length c) controlLength
-    && (leb (seatCount c) 4 && (leb (deviceCount c) 8 && (ltb (queueHead c) 256 && (leb (queueLength c) 256 && rowsSound c 8))))
+    && (leb (seatCount c) 4 && (leb (deviceCount c) 8 && (ltb (queueHead c) 256 && (leb (queueLength c) 256 && rowsSound c (deviceCount c)))))
 
 -- the same as bounds
 pub record Sound (c : List ℕ) : Type 0 where
@@ -31,5 +31,5 @@ pub record Sound (c : List ℕ) : Type 0 where
   pub devices : deviceCount c ≤ 8
   pub head : queueHead c < 256
   pub queued : queueLength c ≤ 256
-  pub pending : (k : ℕ) → k < 8 → pendingAt c k ≤ 64
-  pub held : (k : ℕ) → k < 8 → heldAt c k ≤ 16
+  pub pending : (k : ℕ) → k < deviceCount c → pendingAt c k ≤ 64
+  pub held : (k : ℕ) → k < deviceCount c → heldAt c k ≤ 16

@@ -145,13 +145,13 @@ module _ (c d : List ℕ) (ok : Sound c) (id seat mask : ℕ) (small : mask < 12
       (omega (arith, new-word 5 (omega arith))) new-here
 
 -- one word of a row set
-module _ (c : List ℕ) (ok : Sound c) (k : ℕ) (in-table : k < 8) where
+module _ (c : List ℕ) (ok : Sound c) (k : ℕ) (in-table : k < deviceCount c) where
   pub pending-set : (n : ℕ) → n ≤ 64 → Amended c (set c (32 + 24 * k + 4) n) k (withPending n (coreAt c k))
   unfolding coreAt
   pending-set n few =
       let e = set c (32 + 24 * k + 4) n in
       let off : (j : ℕ) → (j ≡ 32 + 24 * k + 4 → ⊥) → getD e j 0 ≡ getD c j 0 = λ j h. getD-set-other c (32 + 24 * k + 4) j n 0 h in
-      let here : getD e (32 + 24 * k + 4) 0 ≡ n = getD-set-same c (32 + 24 * k + 4) n 0 (omega (arith, ok .long)) in
+      let here : getD e (32 + 24 * k + 4) 0 ≡ n = getD-set-same c (32 + 24 * k + 4) n 0 (omega (arith, ok .long, ok .devices)) in
       let word : (f : ℕ) → (f ≡ 4 → ⊥) → deviceWord e k f ≡ deviceWord c k f = λ f h. off (32 + 24 * k + f) (λ z. h (omega arith)) in
       amended c e k (withPending n (coreAt c k)) ok (length-set c (32 + 24 * k + 4) n ∙ ok .long) (λ j h. off j (λ z. h (omega arith) (omega arith)))
       (omega arith) (omega (arith, ok .held k in-table, word 5 (λ z. omega arith)))
@@ -172,7 +172,7 @@ module _ (c : List ℕ) (ok : Sound c) (k : ℕ) (in-table : k < 8) where
   linked-set b after h =
       let e = set c (32 + 24 * k + 3) after in
       let off : (j : ℕ) → (j ≡ 32 + 24 * k + 3 → ⊥) → getD e j 0 ≡ getD c j 0 = λ j h. getD-set-other c (32 + 24 * k + 3) j after 0 h in
-      let here : getD e (32 + 24 * k + 3) 0 ≡ after = getD-set-same c (32 + 24 * k + 3) after 0 (omega (arith, ok .long)) in
+      let here : getD e (32 + 24 * k + 3) 0 ≡ after = getD-set-same c (32 + 24 * k + 3) after 0 (omega (arith, ok .long, ok .devices)) in
       let word : (f : ℕ) → (f ≡ 3 → ⊥) → deviceWord e k f ≡ deviceWord c k f = λ f h. off (32 + 24 * k + f) (λ z. h (omega arith)) in
       let w0 = word 0 (λ z. omega arith) in
       let w2 = word 2 (λ z. omega arith) in

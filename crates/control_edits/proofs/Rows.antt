@@ -91,13 +91,11 @@ module _ (c d : List ℕ) (ok : Sound c) (long : length d ≡ length c) (k m : �
       getD-set-other d 4 (32 + 24 * j + f) (deviceCount c - 1) 0 (λ z. omega arith)
       ∙ s .here (32 + 24 * j + f) (32 + 24 * suc j + f) (omega arith) (omega arith) (omega arith)
 
-  -- a bound on a word of every row
-  bound : (f n : ℕ) → f < 24 → ((j : ℕ) → j < 8 → deviceWord c j f ≤ n) → (j : ℕ) → j < 8 → deviceWord rest j f ≤ n
+  -- a bound on a word of every device's row
+  bound : (f n : ℕ) → f < 24 → ((j : ℕ) → j < deviceCount c → deviceWord c j f ≤ n) → (j : ℕ) → j < deviceCount rest → deviceWord rest j f ≤ n
   bound f n l h j q =
-      dite (decLt j k) (λ a. rw (kept-word j f l (λ p r. omega arith)) (h j q))
-      (λ a.
-      dite (decLt j (k + m)) (λ b. rw (moved-word j f l (omega arith) b) (h (suc j) (omega (arith, few))))
-      (λ b. rw (kept-word j f l (λ p r. omega arith)) (h j q)))
+      dite (decLt j k) (λ a. rw (kept-word j f l (λ p r. omega arith)) (h j (omega arith)))
+      (λ a. rw (moved-word j f l (omega arith) (omega (arith, count))) (h (suc j) (omega (arith, count))))
 
   pub device-removed : Removed c rest k
   device-removed =

@@ -68,7 +68,7 @@ module _ (c e : List ℕ) (long : length c ≡ controlLength) (blank : (j : ℕ)
               devices = omega (arith, zero-at 4 (omega arith) (omega arith));
               head = omega (arith, zero-at 5 (omega arith) (omega arith));
               queued = omega (arith, zero-at 6 (omega arith) (omega arith));
-              pending = λ k l. omega (arith, zero-at (32 + 24 * k + 4) (omega arith) (omega arith));
-              held = λ k l. omega (arith, zero-at (32 + 24 * k + 5) (omega arith) (omega arith));
+              pending = λ k l. absurd (omega (arith, zero-at 4 (omega arith) (omega arith)));
+              held = λ k l. absurd (omega (arith, zero-at 4 (omega arith) (omega arith)));
             };
       }

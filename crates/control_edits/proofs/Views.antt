@@ -3,6 +3,7 @@ use Prim.Native.Nat.{ℕ, _+_, _*_, _%_, _^_, _≤_, _<_}
 use mathlib.Core.Path.{_≡_, ap, _∙_}
 use mathlib.Core.List.{List}
 use native.Mathlib.Omega.{arith}
+use borrow.Author.Count.{below-more}
 use lib.ListN.{length, getD, take}
 use Rattle.model.specs.Session.{Seat, Connection}
 use Rattle.model.specs.Edit.{connectionWith}
@@ -77,8 +78,8 @@ module _ (c e : List ℕ) where
               devices = omega (arith, ok .devices, low 4 (omega arith) (omega arith));
               head = omega (arith, ok .head, low 5 (omega arith) (omega arith));
               queued = omega (arith, ok .queued, low 6 (omega arith) (omega arith));
-              pending = λ k l. rw (high (32 + 24 * k + 4) (omega arith)) (ok .pending k l);
-              held = λ k l. rw (high (32 + 24 * k + 5) (omega arith)) (ok .held k l);
+              pending = λ k l. rw (high (32 + 24 * k + 4) (omega arith)) (ok .pending k (omega (arith, low 4 (omega arith) (omega arith))));
+              held = λ k l. rw (high (32 + 24 * k + 5) (omega arith)) (ok .held k (omega (arith, low 4 (omega arith) (omega arith))));
             };
       }
 
@@ -101,8 +102,12 @@ module _ (c e : List ℕ) where
               queued = omega (arith, ok .queued, off 6 (λ a b. omega arith));
               pending =
                   λ j l.
-                  case-eq j k (λ e. rw e p) (λ n. rw (off (32 + 24 * j + 4) (λ a b. n (omega arith))) (ok .pending j l));
-              held = λ j l. case-eq j k (λ e. rw e h) (λ n. rw (off (32 + 24 * j + 5) (λ a b. n (omega arith))) (ok .held j l));
+                  case-eq j k (λ e. rw e p)
+                  (λ n. rw (off (32 + 24 * j + 4) (λ a b. n (omega arith))) (ok .pending j (omega (arith, off 4 (λ a b. omega arith)))));
+              held =
+                  λ j l.
+                  case-eq j k (λ e. rw e h)
+                  (λ n. rw (off (32 + 24 * j + 5) (λ a b. n (omega arith))) (ok .held j (omega (arith, off 4 (λ a b. omega arith)))));
             };
       }
 
@@ -126,12 +131,12 @@ module _ (c e : List ℕ) where
               queued = omega (arith, ok .queued, off 6 (λ z. omega arith) (λ a b. omega arith));
               pending =
                   λ j l.
-                  case-eq j (deviceCount c) (λ e. rw e p)
-                  (λ q. rw (off (32 + 24 * j + 4) (λ z. omega arith) (λ a b. q (omega arith))) (ok .pending j l));
+                  below-more (λ (i : ℕ). pendingAt e i ≤ 64) (deviceCount c)
+                  (λ i q. rw (off (32 + 24 * i + 4) (λ z. omega arith) (λ a b. omega arith)) (ok .pending i q)) p j (omega arith);
               held =
                   λ j l.
-                  case-eq j (deviceCount c) (λ e. rw e h)
-                  (λ q. rw (off (32 + 24 * j + 5) (λ z. omega arith) (λ a b. q (omega arith))) (ok .held j l));
+                  below-more (λ (i : ℕ). heldAt e i ≤ 16) (deviceCount c)
+                  (λ i q. rw (off (32 + 24 * i + 5) (λ z. omega arith) (λ a b. omega arith)) (ok .held i q)) h j (omega arith);
             };
       }
 
@@ -155,7 +160,7 @@ module _ (c e : List ℕ) where
               devices = omega (arith, ok .devices, off 4 (λ z. omega arith) (λ z. omega arith));
               head = omega arith;
               queued = omega arith;
-              pending = λ k l. rw (off (32 + 24 * k + 4) (λ z. omega arith) (λ z. omega arith)) (ok .pending k l);
-              held = λ k l. rw (off (32 + 24 * k + 5) (λ z. omega arith) (λ z. omega arith)) (ok .held k l);
+              pending = λ k l. rw (off (32 + 24 * k + 4) (λ z. omega arith) (λ z. omega arith)) (ok .pending k (omega (arith, off 4 (λ z. omega arith) (λ z. omega arith))));
+              held = λ k l. rw (off (32 + 24 * k + 5) (λ z. omega arith) (λ z. omega arith)) (ok .held k (omega (arith, off 4 (λ z. omega arith) (λ z. omega arith))));
             };
       }

@@ -123,7 +123,7 @@ pub fn remove_device_row(control: &mut [u64], k: usize)
 }
 
 pub fn set_pending(control: &mut [u64], k: usize, pending: usize)
-    requires { ⌜ Sound (now control) × ((k < 8) × (pending ≤ 64)) ⌝ }
+    requires { ⌜ Sound (now control) × ((k < deviceCount (now control)) × (pending ≤ 64)) ⌝ }
     ensures { λ _. ⌜ Amended (now (control .entry)) (now (control .exit)) k (withPending pending (coreAt (now (control .entry)) k)) ⌝ }
 {
     control[DEVICES + DEVICE_WORDS * k + 4] = pending as u64;
@@ -131,7 +131,7 @@ pub fn set_pending(control: &mut [u64], k: usize, pending: usize)
 
 // The interface of a bit unlinked.
 pub fn unlink(control: &mut [u64], k: usize, bit: u32)
-    requires { ⌜ Sound (now control) × (k < 8) ⌝ }
+    requires { ⌜ Sound (now control) × (k < deviceCount (now control)) ⌝ }
     ensures { λ _. ⌜ Amended (now (control .entry)) (now (control .exit)) k (withInterfaces (map (unlinkedBit bit) (coreAt (now (control .entry)) k .interfaces)) (coreAt (now (control .entry)) k)) ⌝ }
 {
     let at = DEVICES + DEVICE_WORDS * k + 3;
@@ -143,14 +143,14 @@ pub fn unlink(control: &mut [u64], k: usize, bit: u32)
 
 // The touches that are down on the device in slot k.
 pub fn down_touch_ids(control: &[u64], k: usize) -> DownTouchIds
-    requires { ⌜ Sound (now control) × (k < 8) ⌝ }
+    requires { ⌜ Sound (now control) × (k < deviceCount (now control)) ⌝ }
     ensures { λ r. ⌜ Holds (coreAt (now (control .entry)) k .downTouchIds) r ⌝ }
 {
     let at = DEVICES + DEVICE_WORDS * k;
     let count = control[at + 5] as usize;
     let mut ids: [u32; 16] = [0; 16];
     let mut j: usize = 0;
-    while j < 16 {
+    while j < count {
         ids[j] = (control[at + (6 + j)] % 4294967296) as u32;
         j += 1;
     }
@@ -158,14 +158,14 @@ pub fn down_touch_ids(control: &[u64], k: usize) -> DownTouchIds
 }
 
 pub fn set_down_touch_ids(control: &mut [u64], k: usize, touches: DownTouchIds)
-    requires { ⌜ Sound (now control) × ((k < 8) × (touches .count ≤ 16)) ⌝ }
+    requires { ⌜ Sound (now control) × ((k < deviceCount (now control)) × (touches .count ≤ 16)) ⌝ }
     ensures { λ _. ⌜ Amended (now (control .entry)) (now (control .exit)) k (withTouches (held touches) (coreAt (now (control .entry)) k)) ⌝ }
 {
     let at = DEVICES + DEVICE_WORDS * k;
     let count = touches.count;
     control[at + 5] = count as u64;
     let mut j: usize = 0;
-    while j < 16 {
+    while j < count {
         control[at + (6 + j)] = wide(touches.ids[j]);
         j += 1;
     }

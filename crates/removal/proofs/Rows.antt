@@ -11,6 +11,7 @@ use Rattle.requests.specs.Row.{Row, cellAt, rowOf, rowAt}
 use Rattle.model.specs.Edit.{Edit, withDevices, enact, enactAll}
 use Rattle.control.specs.Control.{deviceCount, queueHead, coreAt}
 use Rattle.control.specs.Sound.{Sound}
+use Rattle.control.proofs.Sounds.{pending-bound}
 use Rattle.control.proofs.Tables.{case-eq}
 use Rattle.control_edits.specs.Change.{Removed}
 use Rattle.control_edits.proofs.Lists.{removed-devices}
@@ -61,10 +62,6 @@ row-ext w v r q i j h g =
       y = g 1 (omega arith) t;
     })
 
-pending-small : (c : List ℕ) (k : ℕ) → Sound c → k < 8 → coreAt c k .pending ≤ 64
-unfolding coreAt
-pending-small c k ok l = ok .pending k l
-
 -- the slots behind slot k moved down by one: n words and m reals
 module _ (c w v : List ℕ) (r q : List Float) (k : ℕ) {to from n at start m : ℕ} (words : Shifted (λ x. getD w x 0) (λ x. getD v x 0) to from n)
     (reals : Shifted (λ x. getD r x nan) (λ x. getD q x nan) at start m) (to-is : to ≡ 320 * k) (from-is : from ≡ 320 * (k + 1))
@@ -90,12 +87,12 @@ module _ (c w v : List ℕ) (r q : List Float) (k : ℕ) {to from n at start m :
       removed-devices (deviceIn c rows texts) (deviceIn e later texts) {k = k} l o
       (λ j b.
       device-ext c e rows later texts texts j j (o .before j b)
-      (λ i h. ap (itemAt texts) (row-kept (pendingRow j i) (λ x y. omega (arith, pending-small c j ok (omega arith))))))
+      (λ i h. ap (itemAt texts) (row-kept (pendingRow j i) (λ x y. omega (arith, pending-bound ok j (omega arith))))))
       (λ j a b.
       device-ext c e rows later texts texts j (suc j) (o .behind j a b)
       (λ i h.
       let z : 64 + pendingRow j i ≡ pendingRow (suc j) i = omega arith in
-      let p : coreAt c (suc j) .pending ≤ 64 = pending-small c (suc j) ok (omega arith) in
+      let p : coreAt c (suc j) .pending ≤ 64 = pending-bound ok (suc j) (omega arith) in
       ap (itemAt texts) (row-moved (pendingRow j i) (omega arith) (omega arith) ∙ ap rows z))) in
       let qs =
       queue-ext c e rows later texts texts (o .queue .head) (o .queue .queued)

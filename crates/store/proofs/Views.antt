@@ -1,5 +1,5 @@
 -- What the slices of a session show: its tables' lengths, what is found in them, and when two stores show the same. Assumes nothing.
-use Prim.Native.Nat.{ℕ, zero, suc, _<_}
+use Prim.Native.Nat.{ℕ, zero, suc, _≤_, _<_}
 use mathlib.Core.Path.{_≡_, refl, sym, ap, _∙_}
 use mathlib.Core.Bool.{Bool, true, false, _&&_, false≢true}
 use mathlib.Core.List.{List, [], _∷_, _++_, map}
@@ -19,7 +19,7 @@ use Rattle.control.specs.Control.{seatCount, deviceCount, queueHead, queueLengt
 use Rattle.control.specs.Sound.{Sound, isSound}
 use Rattle.control.proofs.Tables.{tab-same, tab-length, tab-at}
 use Rattle.control.proofs.Models as models
-use Rattle.control.proofs.Sounds.{sound-bounds, bounds-sound}
+use Rattle.control.proofs.Sounds.{sound-bounds, bounds-sound, pending-bound}
 use Rattle.store.specs.View.{Store, wordsLength, realsLength, textsLength, pendingRow, queueRow, requestAt, itemAt, deviceIn, queueIn, sessionIn, session, isWhole, Whole}
 use Rattle.store.specs.Enact.{Enacted}
 
@@ -156,6 +156,11 @@ module _ (s : Store) where
       ap (λ (ds : List (Device Load)). getD (map (λ d. length (d .pending)) ds) k 0) (devices-are s)
       ∙ ap (λ (ns : List ℕ). getD ns k 0) (map-tab (λ d. length (d .pending)) n (deviceAt s))
       ∙ tab-at n (λ j. length (deviceAt s j .pending)) k 0 l ∙ device-pending k
+
+  -- every pending list is within its limit
+  pub pending-few : Whole s → (k : ℕ) → k < length (session s .devices) → getD (counts (session s) .pending) k 0 ≤ 64
+  pending-few w k h =
+      let l : k < deviceCount (s .control) = omega (arith, devices-length s) in omega (arith, pending-count k l, pending-bound (w .sound) k l)
 
   -- ---- what is found
 

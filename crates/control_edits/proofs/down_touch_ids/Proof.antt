@@ -13,11 +13,11 @@ use Rattle.control_edits.proofs.down_touch_ids.Tie as tie
 
 abbrev Inv-loop : tie.InvT-loop
 Inv-loop control k at count ids₀ j₀ ids j =
-    (j ≤ 16) × ((length ids ≡ 16) × ((i : ℕ) → i < j → getD ids i 0 ≡ deviceWord control k (6 + i) % 2 ^ 32))
+    (j ≤ count) × ((count ≤ 16) × ((length ids ≡ 16) × ((i : ℕ) → i < j → getD ids i 0 ≡ deviceWord control k (6 + i) % 2 ^ 32)))
 
 abbrev μ-loop : tie.MeasureT-loop
 μ-loop control k at count ids₀ j₀ ids j =
-    16 - j
+    count - j
 
 mul-at : tie.Need-mul-at Inv-loop μ-loop
 mul-at c = search needs
@@ -36,7 +36,7 @@ shared-slice-read-count c = search needs
 
 loop-holds : tie.Need-loop-holds Inv-loop μ-loop
 loop-holds c =
-    (omega arith, (refl, λ i l. absurd (omega arith)))
+    (omega arith, (c .before .pre .0 .held (c .before .args .k) (c .before .pre .1), (refl, λ i l. absurd (omega arith))))
 
 add-ids : tie.Need-add-ids Inv-loop μ-loop
 add-ids c = search needs
@@ -72,10 +72,13 @@ loop-again c =
     let v : ℕ = deviceWord (a .control .now) (a .k) (6 + at .j) % 2 ^ 32 in (
       omega arith,
       (
-        length-set (at .ids) (at .j) v ∙ at .inv .1 .0,
-        λ i l.
-            case-eq i (at .j) (λ e. rw e (getD-set-same (at .ids) (at .j) v 0 (omega arith)))
-            (λ n. getD-set-other (at .ids) (at .j) i v 0 n ∙ at .inv .1 .1 i (omega arith)),
+        at .inv .1 .0,
+        (
+          length-set (at .ids) (at .j) v ∙ at .inv .1 .1 .0,
+          λ i l.
+              case-eq i (at .j) (λ e. rw e (getD-set-same (at .ids) (at .j) v 0 (omega arith)))
+              (λ n. getD-set-other (at .ids) (at .j) i v 0 n ∙ at .inv .1 .1 .1 i (omega arith)),
+        ),
       ),
     )
 
@@ -83,7 +86,7 @@ returns : tie.Need-returns Inv-loop μ-loop
 returns c =
     let a = c .before .before .before .args in
     let p = c .before .before .before .pre in
-    let at = c .before .loop in touches-read (a .control .now) (p .0) (a .k) (p .1) (at .ids) (at .inv .1 .0) (λ i l. at .inv .1 .1 i (omega arith))
+    let at = c .before .loop in touches-read (a .control .now) (p .0) (a .k) (p .1) (at .ids) (at .inv .1 .1 .0) (λ i l. at .inv .1 .1 .1 i (omega arith))
 
 pub down-touch-ids-spec : {M : Type 1} → statement M
 down-touch-ids-spec =

@@ -12,11 +12,11 @@ use Rattle.control_edits.proofs.set_down_touch_ids.Tie as tie
 
 abbrev Inv-loop : tie.InvT-loop
 Inv-loop control₀ k touches at count j₀ control j =
-    (j ≤ 16) × (Wrote control₀ control (32 + 24 * k + 6) j (λ i. getD (touches .ids) i 0) × ((i : ℕ) → i < j → getD (touches .ids) i 0 < 2 ^ 32))
+    (j ≤ count) × (Wrote control₀ control (32 + 24 * k + 6) j (λ i. getD (touches .ids) i 0) × ((i : ℕ) → i < j → getD (touches .ids) i 0 < 2 ^ 32))
 
 abbrev μ-loop : tie.MeasureT-loop
 μ-loop control₀ k touches at count j₀ control j =
-    16 - j
+    count - j
 
 mul-at : tie.Need-mul-at Inv-loop μ-loop
 mul-at c = search needs
