@@ -11,6 +11,7 @@ use Rattle.model.specs.Edit.{Edit, deviceWith, item, pended, emptied, framed, f
 use Rattle.control.specs.Table.{tab}
 use Rattle.control.specs.Control.{deviceCount, queueHead, queueLength, pendingAt, Core, coreAt}
 use Rattle.control.specs.Sound.{Sound}
+use Rattle.control.proofs.Sounds.{pending-bound}
 use Rattle.control.proofs.Tables.{case-eq, tab-ext, tab-same, tab-push}
 use Rattle.control.proofs.Models.{at-slot}
 use Rattle.control_edits.specs.Change.{SameDevices, Amended, Requeued, withPending}
@@ -32,10 +33,6 @@ enacted ok q = record { sound = ok; view = q }
 pub pending-is : (c : List ℕ) (k : ℕ) → coreAt c k .pending ≡ pendingAt c k
 unfolding coreAt
 pending-is c k = refl
-
-pub pending-bound : {c : List ℕ} → Sound c → (k : ℕ) → k < 8 → coreAt c k .pending ≤ 64
-unfolding coreAt
-pending-bound ok k l = ok .pending k l
 
 -- n rows copied, one after another: the pending rows are none of the queue's
 pub copied-none : (rows : ℕ → Row) (k head queued device time : ℕ) → Copied rows rows k 0 head queued device time
@@ -75,8 +72,7 @@ row-push texts {rows} {later} head n {place} {new} l at p =
 module _ {c : List ℕ} (e : List ℕ) {rows later : ℕ → Row} (texts : List ℕ) (ok : Sound c) (low : (i : ℕ) → i < 512 → later i ≡ rows i) where
   device-kept : (k : ℕ) → k < deviceCount c → coreAt e k ≡ coreAt c k → deviceIn e later texts k ≡ deviceIn c rows texts k
   device-kept k l q =
-      let k8 : k < 8 = omega (arith, ok .devices) in
-      device-ext c e rows later texts texts k k q (λ m r. ap (itemAt texts) (low (pendingRow k m) (omega (arith, pending-bound ok k k8))))
+      device-ext c e rows later texts texts k k q (λ m r. ap (itemAt texts) (low (pendingRow k m) (omega (arith, ok .devices, pending-bound ok k l))))
 
   devices-kept : SameDevices c e → tab (deviceCount e) (deviceIn e later texts) ≡ tab (deviceCount c) (deviceIn c rows texts)
   devices-kept s =
@@ -136,7 +132,7 @@ module _ {c e : List ℕ} {rows later : ℕ → Row} {k n more place : ℕ} {new
       let i : Item Load = item sight load in
       amended-session c e rows later texts texts (pended i) l a (pended-device i what)
       (λ j b ne m q.
-      let j8 : j < 8 = omega (arith, ok .devices) in ap (itemAt texts) (p .other (pendingRow j m) (λ z. ne (omega (arith, pending-bound ok j j8)))))
+      ap (itemAt texts) (p .other (pendingRow j m) (λ z. ne (omega (arith, ok .devices, pending-bound ok j b)))))
       (queue-ext c e rows later texts texts (a .queue .head) (a .queue .queued)
       (λ m b. ap (requestAt texts) (p .other (queueRow (queueHead c) m) (λ z. omega (arith, ok .devices)))))
 

@@ -53,6 +53,7 @@ pub untimed-request : (texts : List ℕ) (r : EisRequest) (slot : ℕ) (u : Unti
 unfolding requestAt entry
 untimed-request texts r slot u e = arm 0 0 r [] (textOf texts (entry r slot)) u .untimed e
 
-pub frame-request : (texts : List ℕ) (d s t slot : ℕ) → requestAt texts (entry (Frame d s t) slot) ≡ Request.untimed (Untimed.Frame d s t)
+-- the row of a Frame
+pub frame-request : (texts : List ℕ) (d s t : ℕ) {w : Row} → w ≡ entry (Frame d s t) 32 → requestAt texts w ≡ Request.untimed (Untimed.Frame d s t)
 unfolding requestIn
-frame-request texts d s t slot = untimed-request texts (Frame d s t) slot (Untimed.Frame d s t) refl
+frame-request texts d s t e = ap (requestAt texts) e ∙ untimed-request texts (Frame d s t) 32 (Untimed.Frame d s t) refl

@@ -1,11 +1,13 @@
 // The pending lists of the devices and the queue, in place: 64 rows for each of 8 devices, then a ring of 256. Which rows these are is known
 // here and in specs alone.
+use requests::cell;
+use requests::cell::Cell;
 use requests::request::EisRequest;
 use requests::row;
 ghost use mathlib.Core.Path.{_≡_};
 ghost use mathlib.Core.List.{List, [], _∷_};
 ghost use Prim.Native.Nat.{ℕ, _+_, _≤_, _<_};
-ghost use Rattle.requests.specs.Row.{rowAt, entry};
+ghost use Rattle.requests.specs.Row.{rowAt, rowOf};
 ghost use Rattle.model.specs.Call.{Load, Sight};
 ghost use Rattle.model.specs.Session.{Untimed, Request};
 ghost use Rattle.model.specs.Edit.{Edit, item};
@@ -33,7 +35,7 @@ pub fn has_room(control: &[u64], n: usize) -> bool
 
 // The entries that a frame of the device in slot k needs.
 pub fn frame_entries(control: &[u64], k: usize) -> usize
-    requires { ⌜ Sound (now control) × (k < 8) ⌝ }
+    requires { ⌜ Sound (now control) × (k < deviceCount (now control)) ⌝ }
     ensures { λ r. ⌜ (r ≡ frameEntries (coreAt (now (control .entry)) k .pending)) × (r ≤ 65) ⌝ }
 {
     let n = control::pending_count(control, k);
@@ -48,20 +50,13 @@ fn queue_row(head: usize, j: usize) -> usize
     QUEUE + (head + j) % QUEUED
 }
 
-// A request more in the pending list of the device in slot k; `slot` is that of its text, if it has one.
-pub fn pend(
-    control: &mut [u64],
-    words: &mut [u64],
-    reals: &mut [f32],
-    k: usize,
-    request: EisRequest,
-    slot: usize,
-)
+// A request more in the pending list of the device in slot k.
+pub fn pend(control: &mut [u64], words: &mut [u64], reals: &mut [f32], k: usize, request: Cell)
     requires { ⌜ Lent (now control) (now words) (now reals) × ((k < deviceCount (now control)) × (pendingAt (now control) k < 64)) ⌝ }
-    ensures { λ _. ⌜ ((texts : List ℕ) (sight : Sight) (load : Load) → item sight load ≡ itemAt texts (entry request slot) → Enacted (store (now (control .entry)) (now (words .entry)) (now (reals .entry)) texts) (store (now (control .exit)) (now (words .exit)) (now (reals .exit)) texts) (Edit.pend k sight ∷ []) load) ⌝ }
+    ensures { λ _. ⌜ ((texts : List ℕ) (sight : Sight) (load : Load) → item sight load ≡ itemAt texts (rowOf request) → Enacted (store (now (control .entry)) (now (words .entry)) (now (reals .entry)) texts) (store (now (control .exit)) (now (words .exit)) (now (reals .exit)) texts) (Edit.pend k sight ∷ []) load) ⌝ }
 {
     let n = control::pending_count(control, k);
-    row::put(words, reals, PENDING * k + n, request, slot);
+    row::put_cell(words, reals, PENDING * k + n, request);
     control_edits::set_pending(control, k, n + 1);
 }
 
@@ -124,16 +119,11 @@ pub fn frame(
     let queued = control::queue_length(control);
     let device = control::device_id(control, k);
     copy_pending(words, reals, k, n, head, queued, device, time);
-    row::put(
+    row::put_cell(
         words,
         reals,
         queue_row(head, queued + n),
-        EisRequest::Frame {
-            device,
-            last_serial: serial,
-            time,
-        },
-        32,
+        cell::frame(device, serial, time),
     );
     control_edits::set_queue(control, head, queued + n + 1);
     control_edits::set_pending(control, k, 0);

@@ -13,7 +13,7 @@ use lib.Seq.{getD-drop, getD-set-same, set-getD}
 use Rattle.eiproto.specs.Enum.{buttonStateNumber, keyStateNumber}
 use Rattle.eiproto.specs.declared.eiproto_enum.ButtonState.{ButtonState}
 use Rattle.eiproto.specs.declared.eiproto_enum.KeyState.{KeyState}
-use Rattle.requests.specs.declared.row.Cell.{Cell}
+use Rattle.requests.specs.declared.cell.Cell.{Cell}
 use Rattle.requests.specs.declared.request.EisRequest.{EisRequest}
 use Rattle.requests.specs.declared.request.EisRequest.the-variants.{Disconnect, ScrollStop}
 use Rattle.requests.specs.Request.{framedRequest, isText}
@@ -94,6 +94,6 @@ module _ (c : Cell) (d t : ℕ) where
   no-text : (c .kind < 8) ⊎ (21 < c .kind) → isText (requestOf c) ≡ false
   no-text o = kind-text c ∙ ne-eqb (c .kind) 21 (λ e. ⊎-elim (λ h. omega arith) (λ h. omega arith) o)
 
-  pub lost-row : (c .kind < 8) ⊎ (21 < c .kind) → entry stop 0 ≡ framedRow d t (rowOf c)
+  pub lost-row : (c .kind < 8) ⊎ (21 < c .kind) → entry stop 32 ≡ framedRow d t (rowOf c)
   unfolding rowOf entry framedRow
   lost-row o i = record { request = sym (lost o) i; slot = cond (sym (no-text o) i) (c .flag % 32) 32 }

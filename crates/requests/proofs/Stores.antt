@@ -8,7 +8,7 @@ use mathlib.Core.Logic.{dite}
 use lib.Ieee.{Float, nan}
 use lib.ListN.{length, getD, set, length-set}
 use lib.Seq.{getD-set-same, getD-set-other}
-use Rattle.requests.specs.declared.row.Cell.{Cell}
+use Rattle.requests.specs.declared.cell.Cell.{Cell}
 use Rattle.requests.specs.Row.{Put, Within, cellAt}
 
 module _ {A : Type 0} (l : List A) (b : ℕ) (v : ℕ → A) where

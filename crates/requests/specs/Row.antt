@@ -12,7 +12,7 @@ use mir.Val.{toZ}
 use Rattle.eiproto.specs.declared.eiproto_enum.ButtonState.{ButtonState}
 use Rattle.eiproto.specs.declared.eiproto_enum.KeyState.{KeyState}
 use Rattle.requests.specs.Request.{framedRequest, isText}
-use Rattle.requests.specs.declared.row.Cell.{Cell}
+use Rattle.requests.specs.declared.cell.Cell.{Cell}
 use Rattle.requests.specs.declared.request.EisRequest.{EisRequest}
 use Rattle.requests.specs.declared.request.EisRequest.the-variants.{Disconnect, Bind, DeviceClosed, RequestDevice, Frame, Ready, DeviceStartEmulating, DeviceStopEmulating, PointerMotion, PointerMotionAbsolute, Button, ScrollDelta, ScrollStop, ScrollCancel, ScrollDiscrete, KeyboardKey, TouchDown, TouchUp, TouchMotion, TouchCancel, TextKeysym, TextUtf8}
 

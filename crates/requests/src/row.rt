@@ -1,53 +1,18 @@
 // A request as a row of lent slices: five words and two reals, with no two fields in one word.
 // Any numbers mean some request, so what is read needs no test. Rows are named by their number; where they lie is known here alone.
+use crate::cell;
+use crate::cell::Cell;
 use crate::request::EisRequest;
 use eiproto::eiproto_enum::ButtonState;
 use eiproto::eiproto_enum::KeyState;
 ghost use mathlib.Core.Path.{_≡_};
-ghost use lib.Dec.{eqb};
-ghost use Rattle.requests.specs.Row.{low, amountOf, keyState, buttonState, cellOf, requestOf, rowOf, entry, framedRow, cellAt, rowAt, Within, Put};
-
-// A request's numbers, by value.
-pub struct Cell {
-    // The request's place in the enum.
-    pub kind: u64,
-    // The device, or the seat.
-    pub object: u64,
-    // The time, or the capabilities.
-    pub time: u64,
-    pub extra: u64,
-    // A further number; of a text, its slot.
-    pub flag: u64,
-    pub x: f32,
-    pub y: f32,
-}
-
-// The cell of these numbers; as a row it is what they mean, with the flag for a text's slot.
-fn cell_of(kind: u64, object: u64, time: u64, extra: u64, flag: u64, x: f32, y: f32) -> Cell
-    ensures { λ c. ⌜ rowOf c ≡ entry (requestOf (cellOf kind object time extra flag x y)) flag ⌝ }
-{
-    Cell {
-        kind,
-        object,
-        time,
-        extra,
-        flag,
-        x,
-        y,
-    }
-}
+ghost use Rattle.requests.specs.Row.{low, amountOf, keyState, buttonState, requestOf, rowOf, entry, framedRow, cellAt, rowAt, Within, Put};
 
 // The low 32 bits.
 fn low(n: u64) -> u32
     ensures { λ r. ⌜ r ≡ low n ⌝ }
 {
     (n % 4294967296) as u32
-}
-
-fn bit(b: bool) -> u64
-    ensures { λ r. ⌜ eqb r 1 ≡ b ⌝ }
-{
-    if b { 1 } else { 0 }
 }
 
 fn button_state(n: u64) -> ButtonState
@@ -70,18 +35,6 @@ fn key_state(n: u64) -> KeyState
     }
 }
 
-// The bits of a signed amount, in two's complement.
-fn amount_bits(x: i32) -> u64
-    ensures { λ r. ⌜ amountOf r ≡ x ⌝ }
-{
-    if x < 0 {
-        let k = (-1 - x) as u64;
-        4294967295 - k
-    } else {
-        x as u64
-    }
-}
-
 fn amount(n: u64) -> i32
     ensures { λ r. ⌜ r ≡ amountOf n ⌝ }
 {
@@ -99,10 +52,18 @@ pub fn encode(r: EisRequest, slot: usize) -> Cell
     ensures { λ c. ⌜ rowOf c ≡ entry r slot ⌝ }
 {
     match r {
-        EisRequest::Disconnect => cell_of(0, 0, 0, 0, 0, 0.0, 0.0),
-        EisRequest::Bind { seat, capabilities } => cell_of(1, seat, capabilities, 0, 0, 0.0, 0.0),
-        EisRequest::DeviceClosed { device } => cell_of(2, device, 0, 0, 0, 0.0, 0.0),
-        EisRequest::RequestDevice { seat, capabilities } => cell_of(
+        EisRequest::Disconnect => cell::cell_of(0, 0, 0, 0, 0, 0.0, 0.0),
+        EisRequest::Bind { seat, capabilities } => cell::cell_of(
+            1,
+            seat,
+            capabilities,
+            0,
+            0,
+            0.0,
+            0.0,
+        ),
+        EisRequest::DeviceClosed { device } => cell::cell_of(2, device, 0, 0, 0, 0.0, 0.0),
+        EisRequest::RequestDevice { seat, capabilities } => cell::cell_of(
             3,
             seat,
             capabilities,
@@ -115,138 +76,90 @@ pub fn encode(r: EisRequest, slot: usize) -> Cell
             device,
             last_serial,
             time,
-        } => cell_of(4, device, time, last_serial as u64, 0, 0.0, 0.0),
-        EisRequest::Ready { device } => cell_of(5, device, 0, 0, 0, 0.0, 0.0),
+        } => cell::frame(device, last_serial, time),
+        EisRequest::Ready { device } => cell::cell_of(5, device, 0, 0, 0, 0.0, 0.0),
         EisRequest::DeviceStartEmulating {
             device,
             last_serial,
             sequence,
-        } => cell_of(6, device, 0, last_serial as u64, sequence as u64, 0.0, 0.0),
+        } => cell::cell_of(6, device, 0, last_serial as u64, sequence as u64, 0.0, 0.0),
         EisRequest::DeviceStopEmulating {
             device,
             last_serial,
-        } => cell_of(7, device, 0, last_serial as u64, 0, 0.0, 0.0),
+        } => cell::cell_of(7, device, 0, last_serial as u64, 0, 0.0, 0.0),
         EisRequest::PointerMotion {
             device,
             time,
             dx,
             dy,
-        } => cell_of(8, device, time, 0, 0, dx, dy),
+        } => cell::pointer_motion(device, time, dx, dy),
         EisRequest::PointerMotionAbsolute {
             device,
             time,
             dx_absolute,
             dy_absolute,
-        } => cell_of(9, device, time, 0, 0, dx_absolute, dy_absolute),
+        } => cell::pointer_motion_absolute(device, time, dx_absolute, dy_absolute),
         EisRequest::Button {
             device,
             time,
             button,
             state,
-        } => cell_of(
-            10,
-            device,
-            time,
-            button as u64,
-            state.number() as u64,
-            0.0,
-            0.0,
-        ),
+        } => cell::button(device, time, button, state),
         EisRequest::ScrollDelta {
             device,
             time,
             dx,
             dy,
-        } => cell_of(11, device, time, 0, 0, dx, dy),
-        EisRequest::ScrollStop { device, time, x, y } => cell_of(
-            12,
-            device,
-            time,
-            bit(x),
-            bit(y),
-            0.0,
-            0.0,
-        ),
-        EisRequest::ScrollCancel { device, time, x, y } => cell_of(
-            13,
-            device,
-            time,
-            bit(x),
-            bit(y),
-            0.0,
-            0.0,
-        ),
+        } => cell::scroll_delta(device, time, dx, dy),
+        EisRequest::ScrollStop { device, time, x, y } => cell::scroll_stop(device, time, x, y),
+        EisRequest::ScrollCancel { device, time, x, y } => cell::scroll_cancel(device, time, x, y),
         EisRequest::ScrollDiscrete {
             device,
             time,
             discrete_dx,
             discrete_dy,
-        } => cell_of(
-            14,
-            device,
-            time,
-            amount_bits(discrete_dx),
-            amount_bits(discrete_dy),
-            0.0,
-            0.0,
-        ),
+        } => cell::scroll_discrete(device, time, discrete_dx, discrete_dy),
         EisRequest::KeyboardKey {
             device,
             time,
             key,
             state,
-        } => cell_of(
-            15,
-            device,
-            time,
-            key as u64,
-            state.number() as u64,
-            0.0,
-            0.0,
-        ),
+        } => cell::keyboard_key(device, time, key, state),
         EisRequest::TouchDown {
             device,
             time,
             touch_id,
             x,
             y,
-        } => cell_of(16, device, time, touch_id as u64, 0, x, y),
+        } => cell::touch_down(device, time, touch_id, x, y),
         EisRequest::TouchUp {
             device,
             time,
             touch_id,
-        } => cell_of(17, device, time, touch_id as u64, 0, 0.0, 0.0),
+        } => cell::touch_up(device, time, touch_id),
         EisRequest::TouchMotion {
             device,
             time,
             touch_id,
             x,
             y,
-        } => cell_of(18, device, time, touch_id as u64, 0, x, y),
+        } => cell::touch_motion(device, time, touch_id, x, y),
         EisRequest::TouchCancel {
             device,
             time,
             touch_id,
-        } => cell_of(19, device, time, touch_id as u64, 0, 0.0, 0.0),
+        } => cell::touch_cancel(device, time, touch_id),
         EisRequest::TextKeysym {
             device,
             time,
             keysym,
             state,
-        } => cell_of(
-            20,
-            device,
-            time,
-            keysym as u64,
-            state.number() as u64,
-            0.0,
-            0.0,
-        ),
+        } => cell::text_keysym(device, time, keysym, state),
         EisRequest::TextUtf8 {
             device,
             time,
             length,
-        } => cell_of(21, device, time, length as u64, slot as u64, 0.0, 0.0),
+        } => cell::text_utf8(device, time, length, slot),
     }
 }
 
@@ -391,7 +304,7 @@ fn framed(c: Cell, device: u64, time: u64) -> Cell
     ensures { λ r. ⌜ rowOf r ≡ framedRow device time (rowOf c) ⌝ }
 {
     if c.kind < 8 || 21 < c.kind {
-        return cell_of(12, device, time, 0, 0, 0.0, 0.0);
+        return cell::scroll_stop(device, time, false, false);
     }
     let mut r = c;
     r.object = device;
@@ -447,12 +360,20 @@ pub fn load_slot(words: &[u64], reals: &[f32], row: usize) -> usize
     slot_of(read_cell(words, reals, row))
 }
 
+// Stores a cell in a row.
+pub fn put_cell(words: &mut [u64], reals: &mut [f32], row: usize, c: Cell)
+    requires { ⌜ Within (now words) (now reals) row ⌝ }
+    ensures { λ _. ⌜ Put (rowAt (now (words .entry)) (now (reals .entry))) (rowAt (now (words .exit)) (now (reals .exit))) row (rowOf c) ⌝ }
+{
+    write_cell(words, reals, row, c);
+}
+
 // Stores a request in a row.
 pub fn put(words: &mut [u64], reals: &mut [f32], row: usize, r: EisRequest, slot: usize)
     requires { ⌜ Within (now words) (now reals) row ⌝ }
     ensures { λ _. ⌜ Put (rowAt (now (words .entry)) (now (reals .entry))) (rowAt (now (words .exit)) (now (reals .exit))) row (entry r slot) ⌝ }
 {
-    write_cell(words, reals, row, encode(r, slot));
+    put_cell(words, reals, row, encode(r, slot));
 }
 
 // Copies a pending row over another, as the frame of its device queues it.

@@ -178,7 +178,3 @@ module _ (c w : List ℕ) (r : List Float) where
         few = omega (arith, p .few, q .few);
         below = q .below;
       }
-
-pub pending-bound : (c : List ℕ) (k : ℕ) → Sound c → k < deviceCount c → coreAt c k .pending ≤ 64
-unfolding coreAt
-pending-bound c k s l = s .pending k (omega arith)

@@ -15,7 +15,7 @@ use lib.ListN.{length, getD, take, drop, set, length-append, length-drop, take-a
 use lib.Seq.{take-all, take-suc, length-take-le, take-append-le, drop-append-le, take-at, drop-at, drop-drop, getD-take, getD-drop}
 use Rattle.eiproto.specs.Bits.{every}
 use Rattle.eiproto.proofs.Bits.{every-at}
-use Rattle.requests.specs.declared.row.Cell.{Cell}
+use Rattle.requests.specs.declared.cell.Cell.{Cell}
 use Rattle.requests.specs.declared.request.EisRequest.the-variants.{Disconnect, TextUtf8}
 use Rattle.requests.specs.Request.{textLength}
 use Rattle.requests.specs.Row.{Row, meanings, requestOf, entry, rowOf, cellAt, rowAt}
@@ -162,11 +162,10 @@ module _ (texts text : List ℕ) (slot : ℕ) (small : slot < 32) (short : lengt
       sym (ap (λ (s : ℕ). take (length text) (drop (256 * s) later)) (mod-eq-of-lt small) ∙ text-here texts text (256 * slot) (omega arith)) in
       λ i. record { kind = Kind.TextUtf8; touch = 0; size = length text; load = Load.Text (p i) }
 
-  -- what `pend` of the queue does, after the text was put in its slot
-  pub text-pended : {c w e v : List ℕ} {r q : List Float} (k : ℕ) → Free c (rowAt w r) slot
-      → ((ts : List ℕ) (sight : Sight) (load : Load) → item sight load ≡ itemAt ts (entry (TextUtf8 0 0 (length text)) slot)
-      → Enacted (store c w r ts) (store e v q ts) (Edit.pend k sight ∷ []) load)
+  -- what `pend` of the queue does with it, after the text was put in its slot
+  pub text-pended : {c w e v : List ℕ} {r q : List Float} {row : Row} (k : ℕ) → Free c (rowAt w r) slot → row ≡ entry (TextUtf8 0 0 (length text)) slot
+      → ((ts : List ℕ) (sight : Sight) (load : Load) → item sight load ≡ itemAt ts row → Enacted (store c w r ts) (store e v q ts) (Edit.pend k sight ∷ []) load)
       → Enacted (store c w r texts) (store e v q later) (Edit.pend k (sight (Input.Utf8 text)) ∷ []) (Load.Text text)
-  text-pended {c} {w} {r = r} k free told =
-      let done = told later (sight (Input.Utf8 text)) (Load.Text text) text-item in
+  text-pended {c} {w} {r = r} k free is told =
+      let done = told later (sight (Input.Utf8 text)) (Load.Text text) (text-item ∙ ap (itemAt later) (sym is)) in
       record { sound = done .sound; view = done .view ∙ ap (enactAll (Edit.pend k (sight (Input.Utf8 text)) ∷ []) (Load.Text text)) (session-kept c w r free) }

@@ -1,5 +1,5 @@
 // The texts that lie beside their requests: 32 slots of 256 bytes. A slot is in use while a pending or queued request has its text there.
-use requests::request::EisRequest;
+use requests::cell;
 use requests::row;
 ghost use mathlib.Core.Path.{_≡_};
 ghost use mathlib.Core.Bool.{false};
@@ -131,12 +131,8 @@ pub fn pend_text(
 {
     put_text(texts, slot, text);
     // Its device and its time come with its frame.
-    let request = EisRequest::TextUtf8 {
-        device: 0,
-        time: 0,
-        length: text.len() as u8,
-    };
-    queue::pend(control, words, reals, k, request, slot);
+    let request = cell::text_utf8(0, 0, text.len() as u8, slot);
+    queue::pend(control, words, reals, k, request);
 }
 
 // Copies the first n bytes of a slot to a buffer, whose other bytes are as they were.

@@ -20,7 +20,7 @@ use Rattle.model.specs.Edit.{Amend}
 use Rattle.model.specs.Plan.{Outcome, Plan, answer, refuse, ignore}
 use Rattle.model.specs.Decide.{Found, Rule, Handler, handledBy, handler, pendAfter, ifHeld, handle, handleTimed, linksIn, deviceForInterface, onFound, decide}
 use Rattle.model.specs.Step.{textsBy, texts, counts, unchanged, carriedOut, step}
-use Rattle.model.proofs.Steps.{step-answer, step-pend-full, step-pend-texts, step-pend}
+use Rattle.steps.proofs.Steps.{step-answer, step-pend-full, step-pend-texts, step-pend}
 use Rattle.control.specs.Table.{first}
 use Rattle.control.specs.Control.{deviceCount, pendingAt, coreAt, coresOf}
 use Rattle.control.proofs.Models.{device-passes}

@@ -18,7 +18,7 @@ use Rattle.model.specs.Plan.{records, refusal, answer, refuse, edit}
 use Rattle.model.specs.Plan as plan
 use Rattle.model.specs.Decide.{handler, pendAfter, handle}
 use Rattle.model.specs.Step.{textsBy, texts, Counts, counts, refuses, step}
-use Rattle.model.proofs.Counted.{counts-amend}
+use Rattle.steps.proofs.Counted.{counts-amend}
 use Rattle.control.specs.Control.{deviceCount, pendingAt, coreAt}
 use Rattle.store.specs.View.{Store, store, session, Whole, Lent}
 use Rattle.store.specs.Enact.{Enacted, Enacts}

@@ -3,7 +3,7 @@ use answers::Answer;
 use answers::Error;
 use control::Slot;
 use eiproto::event::DeviceCapability;
-use requests::request::EisRequest;
+use requests::cell::Cell;
 ghost use mathlib.Core.Path.{_≡_};
 ghost use mathlib.Core.Bool.{true, false};
 ghost use mathlib.Core.List.{List, [], _∷_};
@@ -12,7 +12,7 @@ ghost use lib.ListN.{length};
 ghost use Rattle.eiproto.specs.Capability.{capabilityIndex};
 ghost use Rattle.utf8.specs.Rfc3629.{isUtf8};
 ghost use Rattle.touches.specs.Touches.{member};
-ghost use Rattle.requests.specs.Row.{entry};
+ghost use Rattle.requests.specs.Row.{rowOf};
 ghost use Rattle.model.specs.Call.{Kind, Input, Sight, bare, touching, Load, Call};
 ghost use Rattle.model.specs.Edit.{Amend, item};
 ghost use Rattle.model.specs.Decide.{Found, Rule, handledBy, handler, linksIn, ifHeld, handle};
@@ -126,16 +126,16 @@ pub fn queue_request(
     words: &mut [u64],
     reals: &mut [f32],
     decision: Decision,
-    request: EisRequest,
+    request: Cell,
 ) -> Answer
     requires { ⌜ Lent (now control) (now words) (now reals) × ((k : ℕ) → decision ≡ Decision.Queued k → (k < deviceCount (now control)) × (pendingAt (now control) k < 64)) ⌝ }
-    ensures { λ r. ⌜ ((texts out : List ℕ) (i : Sight) (load : Load) → item i load ≡ itemAt texts (entry request 32) → Whole (store (now (control .entry)) (now (words .entry)) (now (reals .entry)) texts) → Meets (store (now (control .entry)) (now (words .entry)) (now (reals .entry)) texts) (store (now (control .exit)) (now (words .exit)) (now (reals .exit)) texts) out out (decidedStep decision [] i load (session (store (now (control .entry)) (now (words .entry)) (now (reals .entry)) texts))) r) ⌝ }
+    ensures { λ r. ⌜ ((texts out : List ℕ) (i : Sight) (load : Load) → item i load ≡ itemAt texts (rowOf request) → Whole (store (now (control .entry)) (now (words .entry)) (now (reals .entry)) texts) → Meets (store (now (control .entry)) (now (words .entry)) (now (reals .entry)) texts) (store (now (control .exit)) (now (words .exit)) (now (reals .exit)) texts) out out (decidedStep decision [] i load (session (store (now (control .entry)) (now (words .entry)) (now (reals .entry)) texts))) r) ⌝ }
 {
     match decision {
         Decision::Ignored => Answer::accepted(),
         Decision::Refused(e) => Answer::refused(e),
         Decision::Queued(k) => {
-            queue::pend(control, words, reals, k, request, NO_TEXT);
+            queue::pend(control, words, reals, k, request);
             Answer::accepted()
         }
     }
@@ -148,17 +148,17 @@ pub fn queue_down(
     reals: &mut [f32],
     decision: Decision,
     touch: u32,
-    request: EisRequest,
+    request: Cell,
 ) -> Answer
     requires { ⌜ Lent (now control) (now words) (now reals) × ((k : ℕ) → decision ≡ Decision.Queued k → ((k < deviceCount (now control)) × (pendingAt (now control) k < 64)) × ((length (coreAt (now control) k .downTouchIds) < 16) × (member touch (coreAt (now control) k .downTouchIds) ≡ false))) ⌝ }
-    ensures { λ r. ⌜ ((texts out : List ℕ) (i : Sight) (load : Load) → item i load ≡ itemAt texts (entry request 32) → Whole (store (now (control .entry)) (now (words .entry)) (now (reals .entry)) texts) → Meets (store (now (control .entry)) (now (words .entry)) (now (reals .entry)) texts) (store (now (control .exit)) (now (words .exit)) (now (reals .exit)) texts) out out (decidedStep decision (Amend.touchDown touch ∷ []) i load (session (store (now (control .entry)) (now (words .entry)) (now (reals .entry)) texts))) r) ⌝ }
+    ensures { λ r. ⌜ ((texts out : List ℕ) (i : Sight) (load : Load) → item i load ≡ itemAt texts (rowOf request) → Whole (store (now (control .entry)) (now (words .entry)) (now (reals .entry)) texts) → Meets (store (now (control .entry)) (now (words .entry)) (now (reals .entry)) texts) (store (now (control .exit)) (now (words .exit)) (now (reals .exit)) texts) out out (decidedStep decision (Amend.touchDown touch ∷ []) i load (session (store (now (control .entry)) (now (words .entry)) (now (reals .entry)) texts))) r) ⌝ }
 {
     match decision {
         Decision::Ignored => Answer::accepted(),
         Decision::Refused(e) => Answer::refused(e),
         Decision::Queued(k) => {
             store::touch_down(control, k, touch);
-            queue::pend(control, words, reals, k, request, NO_TEXT);
+            queue::pend(control, words, reals, k, request);
             Answer::accepted()
         }
     }
@@ -171,17 +171,17 @@ pub fn queue_up(
     reals: &mut [f32],
     decision: Decision,
     touch: u32,
-    request: EisRequest,
+    request: Cell,
 ) -> Answer
     requires { ⌜ Lent (now control) (now words) (now reals) × ((k : ℕ) → decision ≡ Decision.Queued k → (k < deviceCount (now control)) × (pendingAt (now control) k < 64)) ⌝ }
-    ensures { λ r. ⌜ ((texts out : List ℕ) (i : Sight) (load : Load) → item i load ≡ itemAt texts (entry request 32) → Whole (store (now (control .entry)) (now (words .entry)) (now (reals .entry)) texts) → Meets (store (now (control .entry)) (now (words .entry)) (now (reals .entry)) texts) (store (now (control .exit)) (now (words .exit)) (now (reals .exit)) texts) out out (decidedStep decision (Amend.touchUp touch ∷ []) i load (session (store (now (control .entry)) (now (words .entry)) (now (reals .entry)) texts))) r) ⌝ }
+    ensures { λ r. ⌜ ((texts out : List ℕ) (i : Sight) (load : Load) → item i load ≡ itemAt texts (rowOf request) → Whole (store (now (control .entry)) (now (words .entry)) (now (reals .entry)) texts) → Meets (store (now (control .entry)) (now (words .entry)) (now (reals .entry)) texts) (store (now (control .exit)) (now (words .exit)) (now (reals .exit)) texts) out out (decidedStep decision (Amend.touchUp touch ∷ []) i load (session (store (now (control .entry)) (now (words .entry)) (now (reals .entry)) texts))) r) ⌝ }
 {
     match decision {
         Decision::Ignored => Answer::accepted(),
         Decision::Refused(e) => Answer::refused(e),
         Decision::Queued(k) => {
             store::touch_up(control, k, touch);
-            queue::pend(control, words, reals, k, request, NO_TEXT);
+            queue::pend(control, words, reals, k, request);
             Answer::accepted()
         }
     }
@@ -225,6 +225,3 @@ pub fn queue_utf8(
         Slot::Unknown => Answer::accepted(),
     }
 }
-
-// The slot of a request that has no text.
-const NO_TEXT: usize = 32;

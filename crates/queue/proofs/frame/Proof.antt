@@ -5,7 +5,8 @@ use Prim.Native.Nat.{_+_, _≤_, _<_}
 use Rattle.requests.specs.Row.{rowAt}
 use Rattle.queue.proofs.Room.{frame-room}
 use Rattle.queue.proofs.Entries.{frame-request}
-use Rattle.queue.proofs.Edits.{pending-bound, enacted, framed-none, framed-some}
+use Rattle.control.proofs.Sounds.{pending-bound}
+use Rattle.queue.proofs.Edits.{enacted, framed-none, framed-some}
 use Rattle.queue.proofs.frame.Statement.{statement}
 use Rattle.queue.proofs.frame.Tie as tie
 
@@ -55,7 +56,7 @@ copy-pending-requires : tie.Need-copy-pending-requires
 copy-pending-requires c κs =
     let q = c .before .before .before .before in
     let p = start q .pre in
-    let short = pending-bound (p .0 .sound) (start q .args .k) (slot-low q) in (
+    let short = pending-bound (p .0 .sound) (start q .args .k) (p .1 .0) in (
       p .0 .words-long,
       (p .0 .reals-long, (slot-low q, (omega (arith, q .before .before .before .before .before .pending-count .ensures, short), (head-low q, omega (arith, fits q))))),
     )
@@ -66,20 +67,30 @@ add-queue-row c = omega (arith, fits (c .before .before .before .before .before 
 queue-row-requires : tie.Need-queue-row-requires
 queue-row-requires c κs = let q = c .before .before .before .before .before .before .before .before .before .before .before in (head-low q, omega (arith, fits q))
 
-put-requires : tie.Need-put-requires
-put-requires c κs = search needs
+frame-requires : tie.Need-frame-requires
+frame-requires c κs = search needs
+
+put-cell-requires : tie.Need-put-cell-requires
+put-cell-requires c κs =
+    let copy = c .before .before .before .before .before .before .before .before in
+    let p = start (copy .before .before .before .before .before) .pre in
+    let row = c .before .queue-row .ensures .1 in
+    let kept = copy .copy-pending .kept in
+    (omega (arith, row, kept .0, p .0 .words-long), omega (arith, row, kept .1 .0, p .0 .reals-long))
 
 add-set-queue : tie.Need-add-set-queue
-add-set-queue c = omega (arith, fits (c .before .before .before .before .before .before .before .before .before .before .before .before .before .before .before .before .before .before))
+add-set-queue c = omega (arith, fits (c .before .before .before .before .before .before .before .before .before .before .before .before .before .before .before .before .before .before .before))
 
 add-set-queue-2 : tie.Need-add-set-queue-2
-add-set-queue-2 c = omega (arith, fits (c .before .before .before .before .before .before .before .before .before .before .before .before .before .before .before .before .before .before))
+add-set-queue-2 c = omega (arith, fits (c .before .before .before .before .before .before .before .before .before .before .before .before .before .before .before .before .before .before .before))
 
 set-queue-requires : tie.Need-set-queue-requires
-set-queue-requires c κs = let q = c .before .before .before .before .before .before .before .before .before .before .before .before .before .before .before .before .before .before in (start q .pre .0 .sound, (head-low q, omega (arith, fits q)))
+set-queue-requires c κs = let q = c .before .before .before .before .before .before .before .before .before .before .before .before .before .before .before .before .before .before .before in (start q .pre .0 .sound, (head-low q, omega (arith, fits q)))
 
 set-pending-requires : tie.Need-set-pending-requires
-set-pending-requires c κs = (c .before .before .before .set-queue .ensures .sound, (slot-low (c .before .before .before .before .before .before .before .before .before .before .before .before .before .before .before .before .before .before .before .before .before .before), omega arith))
+set-pending-requires c κs =
+    let e = c .before .before .before .set-queue .ensures in
+    (e .sound, (omega (arith, e .devices .count, start (c .before .before .before .before .before .before .before .before .before .before .before .before .before .before .before .before .before .before .before .before .before .before .before) .pre .1 .0), omega arith))
 
 same-length-2 : tie.Need-same-length-2
 same-length-2 c = search needs
@@ -93,7 +104,7 @@ same-length-4 c = search needs
 returns-2 : tie.Need-returns-2
 returns-2 c =
     let put = c .before .before .before .before .before .before .before .before .before .before .before .before in
-    let copy = put .before .before .before .before .before .before .before .before in
+    let copy = put .before .before .before .before .before .before .before .before .before in
     let device = copy .before .before .before .device-id in
     let q = copy .before .before .before .before .before in
     let a = start q .args in
@@ -101,9 +112,9 @@ returns-2 c =
     let e = c .before .before .set-pending .ensures in
     λ texts load.
     enacted (e .sound)
-    (framed-some (p .0 .sound) (copy .copy-pending .ensures) (put .put .ensures) (c .before .before .before .before .before .before .set-queue .ensures) e (p .1 .0) (q .before .before .before .before .before .pending-count .ensures) (some q)
-    (q .before .before .queue-head .ensures) (q .queue-length .ensures) (fits q) (device .ensures) (omega (arith, put .before .queue-row .ensures .0)) (omega arith) (omega arith) texts
-    (a .serial) (frame-request texts (device .result) (a .serial) (a .time) _) load)
+    (framed-some (p .0 .sound) (copy .copy-pending .ensures) (put .put-cell .ensures) (c .before .before .before .before .before .before .set-queue .ensures) e (p .1 .0) (q .before .before .before .before .before .pending-count .ensures) (some q)
+    (q .before .before .queue-head .ensures) (q .queue-length .ensures) (fits q) (device .ensures) (omega (arith, put .before .before .queue-row .ensures .0)) (omega arith) (omega arith) texts
+    (a .serial) (frame-request texts (device .result) (a .serial) (a .time) (put .before .frame .ensures)) load)
 
 pub frame-spec : {M : Type 1} → statement M
 frame-spec =
@@ -118,7 +129,8 @@ frame-spec =
     copy-pending-requires
     add-queue-row
     queue-row-requires
-    put-requires
+    frame-requires
+    put-cell-requires
     add-set-queue
     add-set-queue-2
     set-queue-requires

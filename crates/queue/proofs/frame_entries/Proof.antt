@@ -3,7 +3,7 @@ use native.Mathlib.Omega.{arith}
 use mathlib.Core.Path.{sym, ap, _∙_}
 use Rattle.queue.specs.Queue.{frameEntries}
 use Rattle.queue.proofs.Room.{entries-none, entries-some}
-use Rattle.queue.proofs.Edits.{pending-bound}
+use Rattle.control.proofs.Sounds.{pending-bound}
 use borrow.Author.Needs.{needs}
 use Rattle.queue.proofs.frame_entries.Statement.{statement}
 use Rattle.queue.proofs.frame_entries.Tie as tie

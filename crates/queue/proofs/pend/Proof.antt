@@ -8,15 +8,15 @@ use Rattle.queue.proofs.pend.Tie as tie
 pending-count-requires : tie.Need-pending-count-requires
 pending-count-requires c κs = search needs
 
-mul-put : tie.Need-mul-put
-mul-put c = search needs
+mul-put-cell : tie.Need-mul-put-cell
+mul-put-cell c = search needs
 
-add-put : tie.Need-add-put
-add-put c =
+add-put-cell : tie.Need-add-put-cell
+add-put-cell c =
     let a = c .before .before .before .before .before .before .before .args in omega (arith, c .before .before .pending-count .ensures, pending-is (a .control .now) (a .k), c .before .before .before .before .before .before .before .pre .0 .sound .devices, c .before .before .before .before .before .before .before .pre .1)
 
-put-requires : tie.Need-put-requires
-put-requires c κs =
+put-cell-requires : tie.Need-put-cell-requires
+put-cell-requires c κs =
     let a = c .before .before .before .before .before .before .before .args in
     let p = c .before .before .before .before .before .before .before .pre in
     let e = c .before .before .pending-count .ensures in
@@ -33,7 +33,7 @@ set-pending-requires : tie.Need-set-pending-requires
 set-pending-requires c κs =
     let a = c .before .before .before .before .before .before .before .before .before .before .before .before .before .args in
     let p = c .before .before .before .before .before .before .before .before .before .before .before .before .before .pre in
-    (p .0 .sound, (omega (arith, p .0 .sound .devices, p .1 .0), omega (arith, c .before .before .before .before .before .before .before .before .pending-count .ensures, pending-is (a .control .now) (a .k), p .1 .1)))
+    (p .0 .sound, (p .1 .0, omega (arith, c .before .before .before .before .before .before .before .before .pending-count .ensures, pending-is (a .control .now) (a .k), p .1 .1)))
 
 same-length : tie.Need-same-length
 same-length c = search needs
@@ -52,7 +52,7 @@ returns c =
     let n = c .before .before .before .before .before .before .before .before .before .before .before .pending-count .ensures in
     let q = c .before .before .set-pending .ensures in
     enacted (q .sound)
-    (pended-more (p .0 .sound) (c .before .before .before .before .before .before .before .before .put .ensures) q (p .1 .0) n (omega (arith, n, pending-is (a .control .now) (a .k), p .1 .1)) (omega arith) (omega arith) texts sight load
+    (pended-more (p .0 .sound) (c .before .before .before .before .before .before .before .before .put-cell .ensures) q (p .1 .0) n (omega (arith, n, pending-is (a .control .now) (a .k), p .1 .1)) (omega arith) (omega arith) texts sight load
     what)
 
 pub pend-spec : {M : Type 1} → statement M
@@ -60,9 +60,9 @@ pend-spec =
     tie.close
     (tie.spec
     pending-count-requires
-    mul-put
-    add-put
-    put-requires
+    mul-put-cell
+    add-put-cell
+    put-cell-requires
     add-set-pending
     set-pending-requires
     same-length

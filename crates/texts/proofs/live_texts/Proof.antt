@@ -1,6 +1,7 @@
 -- The devices before k are passed, at most 64 requests each; then the queue. Assumes nothing.
 use Prim.Native.Nat.{_-_, _≤_}
-use Rattle.texts.proofs.Scans.{Passed, passed-none, passed-step, passed-live, pending-bound}
+use Rattle.control.proofs.Sounds.{pending-bound}
+use Rattle.texts.proofs.Scans.{Passed, passed-none, passed-step, passed-live}
 use borrow.Author.Needs.{needs}
 use native.Mathlib.Omega.{arith}
 use Rattle.texts.proofs.live_texts.Statement.{statement}
@@ -29,7 +30,7 @@ pending-texts-requires c κs =
     let a = c .before .before .before .before .before .before .before .args in
     let at = c .before .before .loop in
     let n = c .pending-count .ensures in
-    let m = pending-bound (a .control .now) (at .k) (c .before .before .before .before .before .before .before .pre .sound) (omega arith) in
+    let m = pending-bound (c .before .before .before .before .before .before .before .pre .sound) (at .k) (omega arith) in
     let p = at .inv .1 in
     (c .before .before .before .before .before .before .before .pre .words-long, (c .before .before .before .before .before .before .before .pre .reals-long, (omega arith, (omega arith, (omega (arith, p .most), p .below)))))
 
@@ -44,7 +45,7 @@ loop-again c =
     let a = c .before .before .before .before .before .before .before .before .args in
     let at = c .before .before .before .loop in
     let n = c .before .pending-count .ensures in
-    let m = pending-bound (a .control .now) (at .k) (c .before .before .before .before .before .before .before .before .pre .sound) (omega arith) in
+    let m = pending-bound (c .before .before .before .before .before .before .before .before .pre .sound) (at .k) (omega arith) in
     (omega arith, passed-step (a .control .now) (a .words .now) (a .reals .now) (at .k) _ n (omega arith) (at .inv .1) (c .pending-texts .ensures))
 
 queue-head-requires : tie.Need-queue-head-requires Inv-loop μ-loop

@@ -14,8 +14,11 @@ use Rattle.texts.proofs.pend_text.Tie as tie
 put-text-requires : tie.Need-put-text-requires
 put-text-requires c κs = search needs
 
-cast-t13 : tie.Need-cast-t13
-cast-t13 c = search needs
+cast-text-utf8 : tie.Need-cast-text-utf8
+cast-text-utf8 c = search needs
+
+text-utf8-requires : tie.Need-text-utf8-requires
+text-utf8-requires c κs = search needs
 
 pend-requires : tie.Need-pend-requires
 pend-requires c κs = search needs
@@ -34,20 +37,23 @@ same-length-4 c = search needs
 
 returns : tie.Need-returns
 returns c =
-    let a = c .before .before .before .before .before .before .before .before .before .before .before .before .before .before .before .before .before .before .before .args in
-    let p = c .before .before .before .before .before .before .before .before .before .before .before .before .before .before .before .before .before .before .before .pre in
-    let last = c .before .before .before .before .before .before .pend .last in
+    let start = c .before .before .before .before .before .before .before .before .before .before .before .before .before .before .before .before .before .before .before .before in
+    let a = start .args in
+    let p = start .pre in
+    let pend = c .before .before .before .before .before .before .pend in
+    let last = pend .last in
     subst
     (λ (ts : List ℕ). Enacted (store (a .control .now) (a .words .now) (a .reals .now) (a .texts .now)) (store (last .0) (last .1 .0) (last .1 .1 .0) ts) (Edit.pend (a .k) (sight (Input.Utf8 (a .text .now))) ∷ []) (Load.Text (a .text .now)))
-    (sym (c .before .before .before .before .before .before .before .before .before .before .before .before .put-text .ensures))
-    (text-pended (a .texts .now) (a .text .now) (a .slot) (p .1 .1 .1 .1 .0) (p .1 .1 .1 .0) (p .0 .texts-long) (a .k) (p .1 .1 .1 .1 .1) (c .before .before .before .before .before .before .pend .ensures))
+    (sym (c .before .before .before .before .before .before .before .before .before .before .before .before .before .put-text .ensures))
+    (text-pended (a .texts .now) (a .text .now) (a .slot) (p .1 .1 .1 .1 .0) (p .1 .1 .1 .0) (p .0 .texts-long) (a .k) (p .1 .1 .1 .1 .1) (c .before .before .before .before .before .before .before .before .before .before .text-utf8 .ensures) (pend .ensures))
 
 pub pend-text-spec : {M : Type 1} → statement M
 pend-text-spec =
     tie.close
     (tie.spec
     put-text-requires
-    cast-t13
+    cast-text-utf8
+    text-utf8-requires
     pend-requires
     same-length
     same-length-2

@@ -19,7 +19,7 @@ enum-known-k c = search needs
 down-touch-ids-requires : tie.Need-down-touch-ids-requires
 down-touch-ids-requires c κs =
     let k = sym (c .before .before .before .device-for-interface .ensures) ∙ ap slotTold (c .before .k .given .1) in
-    (c .before .before .before .before .before .pre, omega (arith, c .before .before .before .before .before .pre .devices, linked-within DeviceCapability.Touch (c .before .before .before .before .before .args .touchscreen) (c .before .before .before .before .before .args .control .now) k))
+    (c .before .before .before .before .before .pre, linked-within DeviceCapability.Touch (c .before .before .before .before .before .args .touchscreen) (c .before .before .before .before .before .args .control .now) k)
 
 contains-requires : tie.Need-contains-requires
 contains-requires c κs = search needs

@@ -1,7 +1,7 @@
 -- What was written is what was read, framed. Assumes nothing.
 use borrow.Author.Needs.{needs}
 use mathlib.Core.Path.{ap, _∙_}
-use Rattle.requests.specs.declared.row.Cell.{Cell}
+use Rattle.requests.specs.declared.cell.Cell.{Cell}
 use Rattle.requests.specs.Row.{rowAt, rowOf, framedRow}
 use Rattle.requests.proofs.Stores.{mapped}
 use Rattle.requests.proofs.row.copy_framed.Statement.{statement}

@@ -1,7 +1,7 @@
 -- What was read is the cell, and it has the slot. Assumes nothing.
 use borrow.Author.Needs.{needs}
 use mathlib.Core.Path.{ap, _∙_}
-use Rattle.requests.specs.declared.row.Cell.{Cell}
+use Rattle.requests.specs.declared.cell.Cell.{Cell}
 use Rattle.requests.specs.Row.{rowAt, rowOf}
 use Rattle.requests.proofs.row.load_slot.Statement.{statement}
 use Rattle.requests.proofs.row.load_slot.Tie as tie

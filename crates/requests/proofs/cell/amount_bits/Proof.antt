@@ -2,8 +2,8 @@
 use native.Mathlib.Omega.{arith}
 use borrow.Author.Needs.{needs}
 use Rattle.requests.proofs.Amounts.{turned-fits, turned-cast, turned-small, negative-bits, natural-cast, natural-bits}
-use Rattle.requests.proofs.row.amount_bits.Statement.{statement}
-use Rattle.requests.proofs.row.amount_bits.Tie as tie
+use Rattle.requests.proofs.cell.amount_bits.Statement.{statement}
+use Rattle.requests.proofs.cell.amount_bits.Tie as tie
 
 pub amount-bits-spec : {M : Type 1} → statement M
 amount-bits-spec = tie.close (tie.spec

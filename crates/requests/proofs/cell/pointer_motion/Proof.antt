@@ -1,0 +1,11 @@
+-- The meaning of its kind. Assumes nothing.
+use borrow.Author.Needs.{needs}
+use Rattle.requests.specs.Row.{requestOf, entry}
+use Rattle.requests.proofs.cell.pointer_motion.Statement.{statement}
+use Rattle.requests.proofs.cell.pointer_motion.Tie as tie
+
+pub pointer-motion-spec : {M : Type 1} → statement M
+unfolding requestOf entry
+pointer-motion-spec = tie.close (tie.spec
+    (λ c κs. search needs)
+    (λ c. c .cell-of .ensures))
