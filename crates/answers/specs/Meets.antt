@@ -1,12 +1,12 @@
 -- What is promised of every call on a running session. Assumes nothing.
 use Prim.Native.Nat.{ℕ}
 use mathlib.Core.Path.{_≡_}
-use mathlib.Core.Bool.{Bool, true, false}
+use mathlib.Core.Bool.{true, false}
 use mathlib.Core.List.{List}
 use lib.Ieee.{Float}
 use lib.ListN.{length}
 use Rattle.wire.specs.Bits.{splice}
-use Rattle.model.specs.Call.{Input, Load, Plain, Call, Turn, split}
+use Rattle.model.specs.Call.{Input, Load, Call, Turn, split}
 use Rattle.model.specs.Plan.{records}
 use Rattle.model.specs.Step.{Step, refuses, step}
 use Rattle.store.specs.View.{Store, store, session, isWhole, Whole}

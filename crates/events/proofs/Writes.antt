@@ -33,11 +33,13 @@ records-one object e text = append-nil (eventRecord object e text)
 pub one-length : (object : ℕ) (e : Event) (text : List ℕ) → length (records (record { object = object; event = e; text = text } ∷ [])) ≡ recordLength e text
 one-length object e text = ap length (records-one object e text) ∙ length-record object e text
 
+-- events, then others
+pub append-length : (xs ys : List Sent) → length (records (xs ++ ys)) ≡ length (records xs) + length (records ys)
+append-length xs ys = ap length (records-append xs ys) ∙ length-append (records xs) (records ys)
+
 -- one event, then others
 pub cons-length : (object : ℕ) (e : Event) (n : ℕ) (es : List Sent) → recordLength e [] ≡ n → length (records (on object e ∷ es)) ≡ n + length (records es)
-cons-length object e n es h =
-    ap length (records-append (on object e ∷ []) es) ∙ length-append (records (on object e ∷ [])) (records es)
-    ∙ ap (λ (k : ℕ). k + length (records es)) (one-length object e [] ∙ h)
+cons-length object e n es h = append-length (on object e ∷ []) es ∙ ap (λ (k : ℕ). k + length (records es)) (one-length object e [] ∙ h)
 
 pub sends-none : (out : List ℕ) (at : ℕ) → Sends out out at [] at
 unfolding records

@@ -25,8 +25,8 @@ use Rattle.model.specs.Plan as plan
 use Rattle.model.specs.Plan.{Sent, on, records, answer, refuse, ignore, edit, send, refusal}
 use Rattle.model.specs.Decide.{linksIn, onFound, sendNext, handleSync, handleSeat, handleDevice, handleFrame, handleRelease, destroyed, decidePlain, decide}
 use Rattle.model.specs.Step.{Counts, counts, refuses, step}
-use Rattle.model.proofs.Counted.{framedLength, afterFrame, counts-frame, quietAll, quiet-none}
-use Rattle.model.proofs.Steps.{step-answer, step-sent, step-sent-short, step-queue, step-queue-full, step-frame, step-frame-full, step-flush, step-flush-full}
+use Rattle.steps.proofs.Counted.{framedLength, afterFrame, counts-frame, quietAll, quiet-none}
+use Rattle.steps.proofs.Steps.{step-answer, step-sent, step-sent-short, step-queue, step-queue-full, step-frame, step-frame-full, step-flush, step-flush-full}
 use Rattle.control.specs.Table.{first}
 use Rattle.control.specs.Control.{deviceCount, queueLength, seatAt, connectionOf, pendingAt, coreAt, coresOf}
 use Rattle.store.specs.View.{Store, store, session, Whole}

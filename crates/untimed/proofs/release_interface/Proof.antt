@@ -6,7 +6,7 @@ use Rattle.model.specs.Call.{Load, Plain, Call}
 use Rattle.model.specs.Session.{Connection, view}
 use Rattle.model.specs.Edit.{Amend, Edit, raised}
 use Rattle.model.specs.Decide.{linksIn}
-use Rattle.model.proofs.Counted.{quiet-amend}
+use Rattle.steps.proofs.Counted.{quiet-amend}
 use Rattle.control.specs.Answer.{slotTold}
 use Rattle.control.proofs.Models.{device-passes}
 use Rattle.store.specs.View.{store, session}

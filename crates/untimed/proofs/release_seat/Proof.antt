@@ -5,7 +5,7 @@ use native.Mathlib.Omega.{arith}
 use Rattle.model.specs.Call.{Plain, Call}
 use Rattle.model.specs.Session.{view}
 use Rattle.model.specs.Edit.{raised}
-use Rattle.model.proofs.Counted.{quiet-raise}
+use Rattle.steps.proofs.Counted.{quiet-raise}
 use Rattle.store.specs.View.{store, session}
 use Rattle.untimed.proofs.Handling.{whole-rows, seat-plan, destroyed-short, destroyed-done}
 use borrow.Author.Needs.{needs}
