@@ -21,7 +21,7 @@ use Rattle.model.specs.Plan as plan
 use Rattle.model.specs.Plan.{answer, refusal}
 use Rattle.model.specs.Decide.{nextOf, decidePlain, decide}
 use Rattle.model.specs.Step.{Step, textBytes, carriedOut, refuses, unchanged, step}
-use Rattle.model.proofs.Steps.{deliverPlan, step-answer, step-deliver, step-deliver-short, deliver-gave}
+use Rattle.steps.proofs.Steps.{deliverPlan, step-answer, step-deliver, step-deliver-short, deliver-gave}
 use Rattle.control.specs.Table.{tab}
 use Rattle.control.specs.Control.{queueHead, queueLength}
 use Rattle.store.specs.View.{Store, queueRow, requestIn, textOf, requestAt, queueIn, session, isWhole, Whole}

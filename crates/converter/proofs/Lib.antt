@@ -1,4 +1,3 @@
-pub mod Timed
-pub mod Plain
+pub mod Answering
 pub mod Given
 pub mod Begun

@@ -8,7 +8,7 @@ use Rattle.model.specs.Call.{Load}
 use Rattle.control.specs.Control.{queueHead, queueLength}
 use Rattle.store.specs.View.{store, queueRow}
 use Rattle.store.proofs.Views.{whole-parts}
-use Rattle.converter.proofs.Plain.{lent}
+use Rattle.converter.proofs.Answering.{lent}
 use Rattle.converter.proofs.Given.{text-room, given-none, given-short, given-done, delivered-bad, delivered}
 use borrow.Author.Needs.{needs}
 use Rattle.converter.proofs.request.next_request.Statement.{statement}

@@ -1,0 +1,39 @@
+-- The decision, and what is made pending by it. Assumes nothing.
+use Rattle.timed_handlers.proofs.Timed.{timed-rows}
+use borrow.Author.Needs.{needs}
+use Rattle.timed_handlers.proofs.queue_request.Statement.{statement}
+use Rattle.timed_handlers.proofs.queue_request.Tie as tie
+
+decide-requires : tie.Need-decide-requires
+decide-requires c κs =
+    c .before .before .before .before .pre .0 .sound
+
+queue-request-requires : tie.Need-queue-request-requires
+queue-request-requires c κs =
+    let pre = c .before .before .before .before .before .before .before .before .pre in
+    (pre .0, (c .before .before .before .decide .ensures (pre .1 .kind) 0 (pre .1 .handled)) .slot)
+
+same-length : tie.Need-same-length
+same-length c = search needs
+
+same-length-2 : tie.Need-same-length-2
+same-length-2 c = search needs
+
+same-length-3 : tie.Need-same-length-3
+same-length-3 c = search needs
+
+returns : tie.Need-returns
+returns c =
+    let a = c .before .before .before .before .before .before .before .before .before .before .before .before .before .before .before .args in
+    λ kind version input h is. timed-rows (a .interface) version input (c .before .before .before .before .before .before .before .before .before .before .decide .ensures kind version h) is (c .before .before .before .before .before .before .queue-request .ensures)
+
+pub queue-request-spec : {M : Type 1} → statement M
+queue-request-spec =
+    tie.close
+    (tie.spec
+    decide-requires
+    queue-request-requires
+    same-length
+    same-length-2
+    same-length-3
+    returns)

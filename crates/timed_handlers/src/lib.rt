@@ -1,0 +1,315 @@
+// The handlers of src/request.rs for the interfaces that timed requests come in by. The device and the time of a timed request come with its frame.
+use answers::Answer;
+use answers::Error;
+use eiproto::event::DeviceCapability;
+use handlers::eis::ButtonRequest;
+use handlers::eis::KeyboardRequest;
+use handlers::eis::PointerAbsoluteRequest;
+use handlers::eis::PointerRequest;
+use handlers::eis::ScrollRequest;
+use handlers::eis::TextRequest;
+use handlers::eis::TouchscreenRequest;
+use requests::cell;
+use requests::cell::Cell;
+ghost use mathlib.Core.Path.{_≡_};
+ghost use mathlib.Core.List.{List};
+ghost use Prim.Native.Nat.{ℕ};
+ghost use Rattle.requests.specs.Row.{rowOf};
+ghost use Rattle.model.specs.Call.{Kind, Input, bare, sight, load, Call};
+ghost use Rattle.model.specs.Edit.{item};
+ghost use Rattle.model.specs.Decide.{Rule, handledBy, handler};
+ghost use Rattle.store.specs.View.{store, itemAt, Lent, Whole};
+ghost use Rattle.answers.specs.Meets.{Handled, HandledRows};
+ghost use Rattle.handlers.specs.Call.{pointerCall, pointerAbsoluteCall, scrollCall, buttonCall, keyboardCall, touchscreenCall, textCall};
+ghost use Rattle.timed_handlers.specs.Waits.{Waits, Queues};
+
+// A request of which nothing is asked but a known interface, made pending.
+fn queue_request(
+    control: &mut [u64],
+    words: &mut [u64],
+    reals: &mut [f32],
+    capability: DeviceCapability,
+    interface: u64,
+    request: Cell,
+) -> Answer
+    requires { ⌜ Lent (now control) (now words) (now reals) × Queues capability ⌝ }
+    ensures { λ r. ⌜ ((kind : Kind) (version : ℕ) (input : Input) → handler kind ≡ handledBy capability Rule.queued → Waits input request (bare kind) → (out : List ℕ) (clock : ℕ) → HandledRows (now (control .entry)) (now (words .entry)) (now (reals .entry)) (now (control .exit)) (now (words .exit)) (now (reals .exit)) out out (Call.timed interface version input) clock r) ⌝ }
+{
+    let decision = timed::decide(control, capability, interface);
+    timed::queue_request(control, words, reals, decision, request)
+}
+
+pub fn handle_keyboard_request(
+    control: &mut [u64],
+    words: &mut [u64],
+    reals: &mut [f32],
+    keyboard: u64,
+    request: KeyboardRequest,
+    out: &mut [u8],
+) -> Answer
+    requires { ⌜ Lent (now control) (now words) (now reals) ⌝ }
+    ensures { λ r. ⌜ ((version clock : ℕ) → HandledRows (now (control .entry)) (now (words .entry)) (now (reals .entry)) (now (control .exit)) (now (words .exit)) (now (reals .exit)) (now (out .entry)) (now (out .exit)) (keyboardCall request keyboard version) clock r) ⌝ }
+{
+    match request {
+        KeyboardRequest::Release => untimed::release_interface(
+            control,
+            DeviceCapability::Keyboard,
+            keyboard,
+            out,
+        ),
+        KeyboardRequest::Key { key, state } => {
+            let request = cell::keyboard_key(0, 0, key, state);
+            queue_request(
+                control,
+                words,
+                reals,
+                DeviceCapability::Keyboard,
+                keyboard,
+                request,
+            )
+        }
+    }
+}
+
+pub fn handle_pointer_request(
+    control: &mut [u64],
+    words: &mut [u64],
+    reals: &mut [f32],
+    pointer: u64,
+    request: PointerRequest,
+    out: &mut [u8],
+) -> Answer
+    requires { ⌜ Lent (now control) (now words) (now reals) ⌝ }
+    ensures { λ r. ⌜ ((version clock : ℕ) → HandledRows (now (control .entry)) (now (words .entry)) (now (reals .entry)) (now (control .exit)) (now (words .exit)) (now (reals .exit)) (now (out .entry)) (now (out .exit)) (pointerCall request pointer version) clock r) ⌝ }
+{
+    match request {
+        PointerRequest::Release => untimed::release_interface(
+            control,
+            DeviceCapability::Pointer,
+            pointer,
+            out,
+        ),
+        PointerRequest::MotionRelative { x, y } => {
+            let request = cell::pointer_motion(0, 0, x, y);
+            queue_request(
+                control,
+                words,
+                reals,
+                DeviceCapability::Pointer,
+                pointer,
+                request,
+            )
+        }
+    }
+}
+
+pub fn handle_pointer_absolute_request(
+    control: &mut [u64],
+    words: &mut [u64],
+    reals: &mut [f32],
+    pointer_absolute: u64,
+    request: PointerAbsoluteRequest,
+    out: &mut [u8],
+) -> Answer
+    requires { ⌜ Lent (now control) (now words) (now reals) ⌝ }
+    ensures { λ r. ⌜ ((version clock : ℕ) → HandledRows (now (control .entry)) (now (words .entry)) (now (reals .entry)) (now (control .exit)) (now (words .exit)) (now (reals .exit)) (now (out .entry)) (now (out .exit)) (pointerAbsoluteCall request «pointer_absolute» version) clock r) ⌝ }
+{
+    match request {
+        PointerAbsoluteRequest::Release => untimed::release_interface(
+            control,
+            DeviceCapability::PointerAbsolute,
+            pointer_absolute,
+            out,
+        ),
+        PointerAbsoluteRequest::MotionAbsolute { x, y } => {
+            let request = cell::pointer_motion_absolute(0, 0, x, y);
+            queue_request(
+                control,
+                words,
+                reals,
+                DeviceCapability::PointerAbsolute,
+                pointer_absolute,
+                request,
+            )
+        }
+    }
+}
+
+pub fn handle_button_request(
+    control: &mut [u64],
+    words: &mut [u64],
+    reals: &mut [f32],
+    interface: u64,
+    request: ButtonRequest,
+    out: &mut [u8],
+) -> Answer
+    requires { ⌜ Lent (now control) (now words) (now reals) ⌝ }
+    ensures { λ r. ⌜ ((version clock : ℕ) → HandledRows (now (control .entry)) (now (words .entry)) (now (reals .entry)) (now (control .exit)) (now (words .exit)) (now (reals .exit)) (now (out .entry)) (now (out .exit)) (buttonCall request interface version) clock r) ⌝ }
+{
+    match request {
+        ButtonRequest::Release => untimed::release_interface(
+            control,
+            DeviceCapability::Button,
+            interface,
+            out,
+        ),
+        ButtonRequest::Button { button, state } => {
+            let request = cell::button(0, 0, button, state);
+            queue_request(
+                control,
+                words,
+                reals,
+                DeviceCapability::Button,
+                interface,
+                request,
+            )
+        }
+    }
+}
+
+// "ScrollStop with `is_cancel` not 0 becomes ScrollCancel; `x` and `y` become true when not 0."
+fn scroll_stop(x: u32, y: u32, is_cancel: u32) -> Cell
+    ensures { λ r. ⌜ ((texts : List ℕ) → item (sight (Input.ScrollStop x y «is_cancel»)) (load (Input.ScrollStop x y «is_cancel»)) ≡ itemAt texts (rowOf r)) ⌝ }
+{
+    if is_cancel != 0 {
+        cell::scroll_cancel(0, 0, x != 0, y != 0)
+    } else {
+        cell::scroll_stop(0, 0, x != 0, y != 0)
+    }
+}
+
+pub fn handle_scroll_request(
+    control: &mut [u64],
+    words: &mut [u64],
+    reals: &mut [f32],
+    scroll: u64,
+    request: ScrollRequest,
+    out: &mut [u8],
+) -> Answer
+    requires { ⌜ Lent (now control) (now words) (now reals) ⌝ }
+    ensures { λ r. ⌜ ((version clock : ℕ) → HandledRows (now (control .entry)) (now (words .entry)) (now (reals .entry)) (now (control .exit)) (now (words .exit)) (now (reals .exit)) (now (out .entry)) (now (out .exit)) (scrollCall request scroll version) clock r) ⌝ }
+{
+    match request {
+        ScrollRequest::Release => untimed::release_interface(
+            control,
+            DeviceCapability::Scroll,
+            scroll,
+            out,
+        ),
+        ScrollRequest::Scroll { x, y } => {
+            let request = cell::scroll_delta(0, 0, x, y);
+            queue_request(
+                control,
+                words,
+                reals,
+                DeviceCapability::Scroll,
+                scroll,
+                request,
+            )
+        }
+        ScrollRequest::ScrollDiscrete { x, y } => {
+            let request = cell::scroll_discrete(0, 0, x, y);
+            queue_request(
+                control,
+                words,
+                reals,
+                DeviceCapability::Scroll,
+                scroll,
+                request,
+            )
+        }
+        ScrollRequest::ScrollStop { x, y, is_cancel } => {
+            let request = scroll_stop(x, y, is_cancel);
+            queue_request(
+                control,
+                words,
+                reals,
+                DeviceCapability::Scroll,
+                scroll,
+                request,
+            )
+        }
+    }
+}
+
+pub fn handle_touchscreen_request(
+    control: &mut [u64],
+    words: &mut [u64],
+    reals: &mut [f32],
+    touchscreen: u64,
+    version: u32,
+    request: TouchscreenRequest,
+    out: &mut [u8],
+) -> Answer
+    requires { ⌜ Lent (now control) (now words) (now reals) ⌝ }
+    ensures { λ r. ⌜ ((clock : ℕ) → HandledRows (now (control .entry)) (now (words .entry)) (now (reals .entry)) (now (control .exit)) (now (words .exit)) (now (reals .exit)) (now (out .entry)) (now (out .exit)) (touchscreenCall request touchscreen version) clock r) ⌝ }
+{
+    match request {
+        TouchscreenRequest::Release => untimed::release_interface(
+            control,
+            DeviceCapability::Touch,
+            touchscreen,
+            out,
+        ),
+        TouchscreenRequest::Down { touchid, x, y } => {
+            let decision = timed::decide_down(control, touchscreen, touchid);
+            let request = cell::touch_down(0, 0, touchid, x, y);
+            timed::queue_down(control, words, reals, decision, touchid, request)
+        }
+        TouchscreenRequest::Motion { touchid, x, y } => {
+            let decision = timed::decide_held(control, touchscreen, touchid);
+            let request = cell::touch_motion(0, 0, touchid, x, y);
+            timed::queue_request(control, words, reals, decision, request)
+        }
+        TouchscreenRequest::Up { touchid } => {
+            let decision = timed::decide_held(control, touchscreen, touchid);
+            let request = cell::touch_up(0, 0, touchid);
+            timed::queue_up(control, words, reals, decision, touchid, request)
+        }
+        TouchscreenRequest::Cancel { touchid } => {
+            let decision = timed::decide_cancel(control, touchscreen, version, touchid);
+            let request = cell::touch_cancel(0, 0, touchid);
+            timed::queue_up(control, words, reals, decision, touchid, request)
+        }
+    }
+}
+
+pub fn handle_text_request(
+    control: &mut [u64],
+    words: &mut [u64],
+    reals: &mut [f32],
+    texts: &mut [u8],
+    interface: u64,
+    request: TextRequest,
+    text: &[u8],
+    out: &mut [u8],
+) -> Answer
+    requires { ⌜ Whole (store (now control) (now words) (now reals) (now texts)) ⌝ }
+    ensures { λ r. ⌜ ((version clock : ℕ) → Handled (store (now (control .entry)) (now (words .entry)) (now (reals .entry)) (now (texts .entry))) (store (now (control .exit)) (now (words .exit)) (now (reals .exit)) (now (texts .exit))) (now (out .entry)) (now (out .exit)) (textCall request interface version (now (text .entry))) clock r) ⌝ }
+{
+    match request {
+        TextRequest::Release => untimed::release_interface(
+            control,
+            DeviceCapability::Text,
+            interface,
+            out,
+        ),
+        TextRequest::Keysym { keysym, state } => {
+            let request = cell::text_keysym(0, 0, keysym, state);
+            queue_request(
+                control,
+                words,
+                reals,
+                DeviceCapability::Text,
+                interface,
+                request,
+            )
+        }
+        TextRequest::Utf8 => {
+            if !utf8::valid(text) {
+                return Answer::refused(Error::BadUtf8);
+            }
+            timed::queue_utf8(control, words, reals, texts, interface, text)
+        }
+    }
+}
