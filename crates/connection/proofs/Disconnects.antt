@@ -6,7 +6,7 @@ use mathlib.Core.List.{List, [], _∷_, _++_}
 use mathlib.Core.Option.{Option}
 use native.Mathlib.Omega.{arith}
 use lib.Ieee.{Float}
-use lib.ListN.{length, getD}
+use lib.ListN.{length}
 use Rattle.eiproto.specs.declared.eiproto_enum.DisconnectReason.{DisconnectReason}
 use Rattle.eiproto.specs.Enum.{disconnectReasonNumber}
 use Rattle.wire.specs.declared.event.Event.{Event}
@@ -17,27 +17,26 @@ use Rattle.model.specs.Session.{Connection, Session, view}
 use Rattle.model.specs.Edit.{Edit, raised, connectionWith, withConnection, enact, enactAll}
 use Rattle.model.specs.Plan.{Sent, records, refusal, Plan, send}
 use Rattle.model.specs.Decide.{destroyed, seatsObjects, removeSeats, explanationText, explained, disconnected, decidePlain, decide}
-use Rattle.model.specs.Step.{counts, refuses, step}
-use Rattle.model.proofs.Counted.{removes-seats}
-use Rattle.model.proofs.Steps.{step-remove, step-remove-short}
-use Rattle.control.specs.Control.{deviceCount, connectionOf, coreAt}
+use Rattle.model.specs.Step.{refuses, step}
+use Rattle.steps.proofs.Counted.{removes-seats}
+use Rattle.steps.proofs.Steps.{step-remove, step-remove-short}
+use Rattle.control.specs.Control.{connectionOf}
 use Rattle.store.specs.View.{Store, store, sessionIn, session, Whole}
 use Rattle.store.specs.Enact.{Enacts, EnactsRows}
-use Rattle.store.proofs.Views.{enacted-join, view-connection, devices-length, pending-count}
+use Rattle.store.proofs.Views.{enacted-join, view-connection, pending-few}
 use Rattle.events.specs.declared.Mark.{Mark}
 use Rattle.events.specs.Events.{Sends, Destroys, bareDevices}
-use Rattle.events.proofs.Writes.{one-length, sends-join, destroyed-length}
+use Rattle.events.proofs.Writes.{append-length, one-length, sends-join, destroyed-length}
 use Rattle.events.proofs.Seen.{seats-objects-seen}
 use Rattle.answers.specs.declared.Error.{Error}
 use Rattle.answers.specs.declared.Outcome.{Outcome}
 use Rattle.answers.specs.declared.Answer.{Answer}
 use Rattle.answers.specs.Answer.{outcomeOf}
 use Rattle.answers.specs.Meets.{turn, Handled}
-use Rattle.answers.proofs.Meetings.{meets-done}
+use Rattle.answers.proofs.Meetings.{meets-done, whole-after, over-handled, told-handled}
 use Rattle.connection.specs.Call.{optional, Checks}
 use Rattle.connection.specs.declared.Checked.{Checked}
-use Rattle.connection.proofs.Calls.{told-handled, over-handled}
-use Rattle.connection.proofs.Seats.{append-length}
+use Rattle.connection.proofs.Removals.{last-is}
 
 -- ---- the event: a text that is not given is no part of it
 
@@ -68,10 +67,6 @@ destroys-sends : {out later : List ℕ} {mark r : Mark} {objects : List ℕ} →
     → Sends out later (mark .at) (destroyed (mark .serial) objects) (r .at)
 destroys-sends {mark = mark} {objects = objects} d =
     record { bytes = d .bytes; next = omega (arith, d .at, destroyed-length (mark .serial) objects) }
-
-pub last-is : {out later : List ℕ} {mark v : Mark} {objects : List ℕ} {n : ℕ} → Destroys out later mark objects v → mark .serial ≡ n
-    → v .serial ≡ raised (length objects) n
-last-is {objects = objects} p e = p .serial ∙ ap (raised (length objects)) e
 
 -- the seats are not the serial's matter
 raised-seats : {c d : List ℕ} {n : ℕ} → Enacts c d (Edit.raise n ∷ []) → connectionOf d .seats ≡ connectionOf c .seats
@@ -128,12 +123,6 @@ module _ (s : Store) (w : Whole s) (out : List ℕ) (clock : ℕ) (reason : Disc
         (ap (λ (c : Connection). seatsObjects (c .seats) (view (session s) .devices)) (view-connection s) ∙ seats-objects-seen s (connection .seats))
         ∙ ap (λ (n : ℕ). planOf n (optional given text) connection gone) (sym numbered)
 
-    pended : (k : ℕ) → k < length (session s .devices) → getD (counts (session s) .pending) k 0 ≤ 64
-    unfolding coreAt
-    pended k h =
-        let l : k < deviceCount (s .control) = omega (arith, devices-length s) in
-        omega (arith, pending-count s k l, w .sound .pending k (omega (arith, w .sound .devices)))
-
     ends-length : length (records ends) ≡ recordLength (Event.Disconnected 0 number given) text
     ends-length =
         ap length (sym (lent-records given text (connection .id) last number)) ∙ one-length (connection .id) (Event.Disconnected last number given) text
@@ -151,7 +140,7 @@ module _ (s : Store) (w : Whole s) (out : List ℕ) (clock : ℕ) (reason : Disc
     unfolding split
     disconnected-short {r} h =
         over-handled s out call clock (Outcome.Refused Error.ShortOut) r w
-        (step-remove-short t (session s) told edits planned (removes-seats _ _) pended (omega (arith, told-length)))
+        (step-remove-short t (session s) told edits planned (removes-seats _ _) (pending-few s w) (omega (arith, told-length)))
 
     module _ (room : 14 * length gone + recordLength (Event.Disconnected 0 number given) text ≤ length out) {m : List ℕ} {mark v : Mark}
         (p : Destroys out m mark gone v) (start : mark .at ≡ 0) (serial : mark .serial ≡ connection .lastSerial) (l : length m ≡ length out) where
@@ -175,6 +164,6 @@ module _ (s : Store) (w : Whole s) (out : List ℕ) (clock : ℕ) (reason : Disc
           let both = enacted-join (raises (s .words) (s .reals) (s .texts) (t .load)) (rw (raised-seats raises) at (removes (s .texts) (t .load))) in
           let written = sends o q in
           meets-done s e out later (step t (session s)) (send told edits) (t .load) r
-          (record { sound = both .sound; words-long = words ∙ w .words-long; reals-long = reals ∙ w .reals-long; texts-long = w .texts-long })
-          (step-remove t (session s) told edits planned (removes-seats _ _) pended (omega (arith, told-length)))
+          (whole-after s w (both .sound) words reals)
+          (step-remove t (session s) told edits planned (removes-seats _ _) (pending-few s w) (omega (arith, told-length)))
           both refl (ap outcomeOf (answers .0)) (omega (arith, answers .1, written .next)) (written .bytes)

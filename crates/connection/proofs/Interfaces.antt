@@ -19,7 +19,7 @@ use Rattle.answers.specs.declared.Outcome.{Outcome}
 use Rattle.answers.specs.declared.Answer.{Answer}
 use Rattle.answers.specs.Answer.{outcomeOf}
 use Rattle.answers.specs.Meets.{Handled}
-use Rattle.connection.proofs.Calls.{told-handled}
+use Rattle.answers.proofs.Meetings.{told-handled}
 
 utf8-fine : (name : List ℕ) (p : Plan) → isUtf8 name ≡ true → checkUtf8 name p ≡ p
 unfolding checkUtf8

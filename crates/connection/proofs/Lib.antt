@@ -1,5 +1,5 @@
-pub mod Calls
 pub mod Texts
 pub mod Seats
+pub mod Removals
 pub mod Disconnects
 pub mod Interfaces

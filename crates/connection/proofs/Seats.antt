@@ -1,17 +1,17 @@
 -- A new seat: its events, and the call by its limits. Assumes nothing.
 use Prim.Native.Nat.{ℕ, _+_, _≤_, _<_}
-use mathlib.Core.Path.{_≡_, refl, ap, _∙_}
-use mathlib.Core.Bool.{true}
+use mathlib.Core.Path.{_≡_, refl, sym, ap, _∙_}
+use mathlib.Core.Bool.{Bool, true, false}
 use mathlib.Core.List.{List, [], _∷_, _++_}
 use mathlib.Core.Option.{Option}
 use native.Mathlib.Omega.{arith}
-use borrow.Author.Tests.{lt-leb}
-use lib.ListN.{length, length-append}
+use borrow.Author.Tests.{lt-leb, leb-false}
+use lib.ListN.{length}
 use Rattle.eiproto.specs.Bits.{bitsOf}
 use Rattle.eiproto.specs.Capability.{unknownBits}
 use Rattle.eiproto.specs.Interface.{eiSeat}
 use Rattle.wire.specs.declared.event.Event.{Event}
-use Rattle.wire.specs.Bits.{splice, widths}
+use Rattle.wire.specs.Bits.{widths}
 use Rattle.wire.specs.Record.{layout, textOf, fixedLength, recordLength}
 use Rattle.model.specs.Call.{Input, Load, Plain, Call, Split, mapCall, split}
 use Rattle.model.specs.Session.{Connection, View, view}
@@ -19,36 +19,26 @@ use Rattle.model.specs.Edit.{Edit}
 use Rattle.model.specs.Plan.{Sent, on, records, refusal, refuse}
 use Rattle.model.specs.Decide.{version, versionOr1, checkCapabilities, nameEvents, capabilityEvents, addSeat, decidePlain, decide}
 use Rattle.model.specs.Step.{refuses, step}
-use Rattle.model.proofs.Steps.{seatPlan, step-seat-full, step-seat-spent, step-seat-short, step-seat}
+use Rattle.steps.proofs.Steps.{seatPlan, step-seat-full, step-seat-spent, step-seat-short, step-seat}
 use Rattle.control.specs.Control.{seatCount, connectionOf}
 use Rattle.store.specs.View.{Store, store, session, Whole}
 use Rattle.store.specs.Enact.{Enacts}
 use Rattle.store.proofs.Views.{connection-is, view-connection, seats-length}
 use Rattle.events.specs.Events.{Sends}
-use Rattle.events.proofs.Writes.{one-length, cons-length, sends-join}
+use Rattle.events.proofs.Writes.{append-length, one-length, cons-length, sends-join}
 use Rattle.answers.specs.declared.Error.{Error}
 use Rattle.answers.specs.declared.Outcome.{Outcome}
 use Rattle.answers.specs.declared.Answer.{Answer}
 use Rattle.answers.specs.Meets.{turn, Handled}
-use Rattle.answers.proofs.Meetings.{meets-done}
+use Rattle.answers.proofs.Meetings.{meets-done, whole-after, over-handled, told-handled}
 use Rattle.connection.specs.Call.{Checks, seatEvents}
 use Rattle.connection.specs.declared.Checked.{Checked}
-use Rattle.connection.proofs.Calls.{told-handled, over-handled}
-
--- the bytes of events and of others behind them
-pub append-length : (xs ys : List Sent) → length (records (xs ++ ys)) ≡ length (records xs) + length (records ys)
-append-length xs ys =
-    let out : List ℕ = records xs ++ records ys in
-    let first : Sends out (splice out 0 (records xs)) 0 xs (length (records xs)) = record { bytes = refl; next = omega arith } in
-    let second : Sends (splice out 0 (records xs)) _ (length (records xs)) ys (length (records xs) + length (records ys)) = record { bytes = refl; next = refl } in
-    let both = sends-join (omega (arith, length-append (records xs) (records ys))) first second in
-    omega (arith, both .next)
 
 seat-text : (id version : ℕ) (text : List ℕ) → recordLength (Event.Seat id version) text ≡ fixedLength (Event.Seat id version)
 unfolding recordLength textOf layout
 seat-text id version text = omega arith
 
-done-text : (text : List ℕ) → recordLength Event.Done text ≡ fixedLength Event.Done
+pub done-text : (text : List ℕ) → recordLength Event.Done text ≡ fixedLength Event.Done
 unfolding recordLength textOf layout
 done-text text = omega arith
 
@@ -112,6 +102,9 @@ unfolding fixedLength layout widths
 done-fixed = refl
 
 -- ---- the call
+
+pub bits-known : (caps : ℕ) {b : Bool} → b ≡ unknownBits caps → b ≡ false → caps < 128
+bits-known caps e z = leb-false 128 caps (sym e ∙ z)
 
 seat-plan : (v : View) (name : Option (List ℕ)) (caps : ℕ) → Checks name Checked.Fine → caps < 128
     → addSeat v name caps ≡ seatPlan (v .connection .nextId) caps (seatEvents (v .connection) (v .connection .nextId) (versionOr1 (version (v .connection) eiSeat)) name caps)
@@ -177,6 +170,6 @@ module _ (s : Store) (w : Whole s) (out : List ℕ) (clock : ℕ) (name : Option
             let k = ap (λ (c : Connection). c .nextId) (connection-is s) in
             let enacted = done (s .words) (s .reals) (s .texts) (t .load) in
             meets-done s e out later (step t (session s)) (seatPlan id caps told) (t .load) _
-            (record { sound = enacted .sound; words-long = w .words-long; reals-long = w .reals-long; texts-long = w .texts-long })
+            (whole-after s w (enacted .sound) refl refl)
             (step-seat t (session s) planned (omega (arith, seats-length s)) (omega arith) room)
             enacted refl refl (omega (arith, sends .next)) (sends .bytes)

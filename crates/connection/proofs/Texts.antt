@@ -10,7 +10,7 @@ use Rattle.utf8.specs.Rfc3629.{isUtf8}
 use Rattle.wire.specs.declared.event.Event.{Event}
 use Rattle.wire.specs.Bits.{widths}
 use Rattle.wire.specs.Record.{layout, textOf, fixedLength, recordLength}
-use Rattle.model.specs.Plan.{Sent, records, refuse, answer}
+use Rattle.model.specs.Plan.{Sent, records, refuse}
 use Rattle.model.specs.Decide.{checkUtf8, checkName, checkOptional, nameEvents}
 use Rattle.answers.specs.declared.Error.{Error}
 use Rattle.events.proofs.Writes.{one-length}

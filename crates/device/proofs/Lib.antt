@@ -1,4 +1,2 @@
-pub mod Calls
 pub mod Plans
 pub mod Devices
-pub mod Added

@@ -4,7 +4,7 @@ use mathlib.Core.List.{List, [], _∷_}
 use Rattle.wire.specs.declared.event.Event.{Event}
 use Rattle.model.specs.Call.{Plain}
 use Rattle.model.specs.Edit.{Amend, Edit}
-use Rattle.device.specs.declared.device.Notice.{Notice}
+use Rattle.device.specs.declared.Notice.{Notice}
 
 -- the call that tells a device something
 abbrev pub noticeCall : Notice → (device : ℕ) → Plain

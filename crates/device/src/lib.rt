@@ -1,2 +1,228 @@
-pub mod device;
-pub mod seat;
+// The methods of `Device` of src/request.rs.
+use answers::Answer;
+use answers::Error;
+use answers::Outcome;
+use control::Slot;
+use eiproto::event::DeviceCapability;
+use events::Mark;
+use wire::event;
+use wire::event::Event;
+ghost use mathlib.Core.Path.{_≡_};
+ghost use mathlib.Core.List.{List};
+ghost use Prim.Native.Nat.{ℕ, _<_};
+ghost use Rattle.model.specs.Call.{Plain, Call};
+ghost use Rattle.control.specs.Control.{deviceCount};
+ghost use Rattle.control.specs.Sound.{Sound};
+ghost use Rattle.store.specs.View.{store};
+ghost use Rattle.store.specs.Enact.{Enacts};
+ghost use Rattle.answers.specs.Meets.{Answered};
+ghost use Rattle.device.specs.Notice.{noticeCall, noticeEvent, noticeEdits};
+
+// `Device::remove`: its interfaces by capability bit, then itself. What it has pending is dropped, what is queued stays.
+pub fn remove_device(
+    control: &mut [u64],
+    words: &mut [u64],
+    reals: &mut [f32],
+    texts: &[u8],
+    device: u64,
+    out: &mut [u8],
+) -> Answer
+    ensures { λ r. ⌜ ((clock : ℕ) → Answered (store (now (control .entry)) (now (words .entry)) (now (reals .entry)) (now (texts .entry))) (store (now (control .exit)) (now (words .exit)) (now (reals .exit)) (now (texts .entry))) (now (out .entry)) (now (out .exit)) (Call.plain (Plain.removeDevice device)) clock r) ⌝ }
+{
+    if !store::whole(control, words, reals, texts) {
+        return Answer::refused(Error::BadState);
+    }
+    match control::find_device(control, device) {
+        Slot::At(k) => {
+            if out.len() < events::DESTROYED_LENGTH * events::device_objects(control, k) {
+                return Answer::refused(Error::ShortOut);
+            }
+            let serial = control::last_serial(control);
+            let mark = events::write_device(control, k, out, Mark { at: 0, serial });
+            store::raise(control, mark.serial);
+            removal::remove_device(control, words, reals, k);
+            Answer::sent(mark.at)
+        }
+        Slot::Unknown => Answer::refused(Error::UnknownHandle),
+    }
+}
+
+// An event that a known device is told, with the next serial.
+pub enum Notice {
+    Resumed,
+    Paused,
+    StartEmulating { sequence: u32 },
+    StopEmulating,
+    Frame { time: u64 },
+}
+
+fn event_of(notice: Notice, serial: u32) -> Event
+    ensures { λ r. ⌜ r ≡ noticeEvent notice serial ⌝ }
+{
+    match notice {
+        Notice::Resumed => Event::Resumed { serial },
+        Notice::Paused => Event::Paused { serial },
+        Notice::StartEmulating { sequence } => Event::StartEmulating { serial, sequence },
+        Notice::StopEmulating => Event::StopEmulating { serial },
+        Notice::Frame { time } => Event::Frame { serial, time },
+    }
+}
+
+// "`paused` empties the held touches": the one notice that changes its device.
+fn enact(control: &mut [u64], k: usize, notice: Notice)
+    requires { ⌜ Sound (now control) × (k < deviceCount (now control)) ⌝ }
+    ensures { λ _. ⌜ Enacts (now (control .entry)) (now (control .exit)) (noticeEdits notice k) ⌝ }
+{
+    match notice {
+        Notice::Paused => store::clear_touches(control, k),
+        Notice::Resumed => {}
+        Notice::StartEmulating { .. } => {}
+        Notice::StopEmulating => {}
+        Notice::Frame { .. } => {}
+    }
+}
+
+fn notify(
+    control: &mut [u64],
+    words: &[u64],
+    reals: &[f32],
+    texts: &[u8],
+    device: u64,
+    notice: Notice,
+    out: &mut [u8],
+) -> Answer
+    ensures { λ r. ⌜ ((clock : ℕ) → Answered (store (now (control .entry)) (now (words .entry)) (now (reals .entry)) (now (texts .entry))) (store (now (control .exit)) (now (words .entry)) (now (reals .entry)) (now (texts .entry))) (now (out .entry)) (now (out .exit)) (Call.plain (noticeCall notice device)) clock r) ⌝ }
+{
+    if !store::whole(control, words, reals, texts) {
+        return Answer::refused(Error::BadState);
+    }
+    match control::find_device(control, device) {
+        Slot::At(k) => {
+            let serial = control_edits::next_serial(control::last_serial(control));
+            let told = event_of(notice, serial);
+            if out.len() < event::fixed_length(told) {
+                return Answer::refused(Error::ShortOut);
+            }
+            let count = events::send(out, 0, device, told, b"");
+            store::raise(control, serial);
+            enact(control, k, notice);
+            Answer::sent(count)
+        }
+        Slot::Unknown => Answer::refused(Error::UnknownHandle),
+    }
+}
+
+pub fn resumed(
+    control: &mut [u64],
+    words: &[u64],
+    reals: &[f32],
+    texts: &[u8],
+    device: u64,
+    out: &mut [u8],
+) -> Answer
+    ensures { λ r. ⌜ ((clock : ℕ) → Answered (store (now (control .entry)) (now (words .entry)) (now (reals .entry)) (now (texts .entry))) (store (now (control .exit)) (now (words .entry)) (now (reals .entry)) (now (texts .entry))) (now (out .entry)) (now (out .exit)) (Call.plain (Plain.resumed device)) clock r) ⌝ }
+{
+    notify(control, words, reals, texts, device, Notice::Resumed, out)
+}
+
+pub fn paused(
+    control: &mut [u64],
+    words: &[u64],
+    reals: &[f32],
+    texts: &[u8],
+    device: u64,
+    out: &mut [u8],
+) -> Answer
+    ensures { λ r. ⌜ ((clock : ℕ) → Answered (store (now (control .entry)) (now (words .entry)) (now (reals .entry)) (now (texts .entry))) (store (now (control .exit)) (now (words .entry)) (now (reals .entry)) (now (texts .entry))) (now (out .entry)) (now (out .exit)) (Call.plain (Plain.paused device)) clock r) ⌝ }
+{
+    notify(control, words, reals, texts, device, Notice::Paused, out)
+}
+
+pub fn start_emulating(
+    control: &mut [u64],
+    words: &[u64],
+    reals: &[f32],
+    texts: &[u8],
+    device: u64,
+    sequence: u32,
+    out: &mut [u8],
+) -> Answer
+    ensures { λ r. ⌜ ((clock : ℕ) → Answered (store (now (control .entry)) (now (words .entry)) (now (reals .entry)) (now (texts .entry))) (store (now (control .exit)) (now (words .entry)) (now (reals .entry)) (now (texts .entry))) (now (out .entry)) (now (out .exit)) (Call.plain (Plain.startEmulating device sequence)) clock r) ⌝ }
+{
+    notify(
+        control,
+        words,
+        reals,
+        texts,
+        device,
+        Notice::StartEmulating { sequence },
+        out,
+    )
+}
+
+pub fn stop_emulating(
+    control: &mut [u64],
+    words: &[u64],
+    reals: &[f32],
+    texts: &[u8],
+    device: u64,
+    out: &mut [u8],
+) -> Answer
+    ensures { λ r. ⌜ ((clock : ℕ) → Answered (store (now (control .entry)) (now (words .entry)) (now (reals .entry)) (now (texts .entry))) (store (now (control .exit)) (now (words .entry)) (now (reals .entry)) (now (texts .entry))) (now (out .entry)) (now (out .exit)) (Call.plain (Plain.stopEmulating device)) clock r) ⌝ }
+{
+    notify(
+        control,
+        words,
+        reals,
+        texts,
+        device,
+        Notice::StopEmulating,
+        out,
+    )
+}
+
+pub fn frame(
+    control: &mut [u64],
+    words: &[u64],
+    reals: &[f32],
+    texts: &[u8],
+    device: u64,
+    time: u64,
+    out: &mut [u8],
+) -> Answer
+    ensures { λ r. ⌜ ((clock : ℕ) → Answered (store (now (control .entry)) (now (words .entry)) (now (reals .entry)) (now (texts .entry))) (store (now (control .exit)) (now (words .entry)) (now (reals .entry)) (now (texts .entry))) (now (out .entry)) (now (out .exit)) (Call.plain (Plain.frame device time)) clock r) ⌝ }
+{
+    notify(
+        control,
+        words,
+        reals,
+        texts,
+        device,
+        Notice::Frame { time },
+        out,
+    )
+}
+
+// `Device::has_capability`: whether the device lists an interface for it, linked or not.
+pub fn has_capability(
+    control: &[u64],
+    words: &[u64],
+    reals: &[f32],
+    texts: &[u8],
+    device: u64,
+    capability: DeviceCapability,
+) -> Answer
+    ensures { λ r. ⌜ ((clock : ℕ) (out : List ℕ) → Answered (store (now (control .entry)) (now (words .entry)) (now (reals .entry)) (now (texts .entry))) (store (now (control .entry)) (now (words .entry)) (now (reals .entry)) (now (texts .entry))) out out (Call.plain (Plain.hasCapability device capability)) clock r) ⌝ }
+{
+    if !store::whole(control, words, reals, texts) {
+        return Answer::refused(Error::BadState);
+    }
+    match control::find_device(control, device) {
+        Slot::At(k) => Answer::told(Outcome::Truth(control::has_capability(
+            control,
+            k,
+            DeviceCapability::lowest(DeviceCapability::mask(capability)),
+        ))),
+        Slot::Unknown => Answer::refused(Error::UnknownHandle),
+    }
+}

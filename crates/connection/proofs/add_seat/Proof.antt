@@ -1,13 +1,12 @@
 -- 21, 10 or 11, 13, then the limits. Assumes nothing.
 use mathlib.Core.Path.{sym, _∙_}
-use borrow.Author.Tests.{leb-false}
 use borrow.Author.Needs.{needs}
 use Rattle.store.specs.View.{Store, store}
 use Rattle.store.proofs.Views.{whole-parts}
+use Rattle.answers.proofs.Meetings.{whole-failed, whole-passed, damaged-answered, whole-answered}
 use Rattle.connection.specs.Call.{optional}
-use Rattle.connection.proofs.Calls.{whole-failed, whole-passed, damaged-answered, whole-answered}
 use Rattle.connection.proofs.Texts.{checks-as}
-use Rattle.connection.proofs.Seats.{seat-refused, seat-unknown}
+use Rattle.connection.proofs.Seats.{bits-known, seat-refused, seat-unknown}
 use Rattle.connection.proofs.add_seat.Statement.{statement}
 use Rattle.connection.proofs.add_seat.Tie as tie
 
@@ -58,7 +57,7 @@ add-seat-at-requires : tie.Need-add-seat-at-requires
 add-seat-at-requires c κs =
     let a = c .before .before .before .before .before .before .before .before .before .before .before .before .before .before .before .before .args in
     let s : Store = store (a .control .now) (a .words .now) (a .reals .now) (a .texts .now) in
-    (whole-parts s (whole-passed s (c .before .before .before .before .before .before .before .before .whole .ensures) (c .before .before .before .before .before .before .before .if1 .left)) .sound, (leb-false 128 (a .capabilities) (sym (c .before .before .before .has-unknown .ensures) ∙ c .before .before .if2 .left), checks-as (optional (a .given) (a .name .now)) (c .before .before .before .before .enum-told .given .1) (c .before .before .before .before .before .before .check-optional .ensures)))
+    (whole-parts s (whole-passed s (c .before .before .before .before .before .before .before .before .whole .ensures) (c .before .before .before .before .before .before .before .if1 .left)) .sound, (bits-known (a .capabilities) (c .before .before .before .has-unknown .ensures) (c .before .before .if2 .left), checks-as (optional (a .given) (a .name .now)) (c .before .before .before .before .enum-told .given .1) (c .before .before .before .before .before .before .check-optional .ensures)))
 
 same-length-3 : tie.Need-same-length-3
 same-length-3 c = search needs

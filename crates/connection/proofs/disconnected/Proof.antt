@@ -2,9 +2,10 @@
 use borrow.Author.Needs.{needs}
 use Rattle.store.specs.View.{Store, store}
 use Rattle.store.proofs.Views.{whole-parts}
+use Rattle.answers.proofs.Meetings.{whole-failed, whole-passed, damaged-answered, whole-answered}
 use Rattle.connection.specs.Call.{optional}
-use Rattle.connection.proofs.Calls.{whole-failed, whole-passed, damaged-answered, whole-answered}
 use Rattle.connection.proofs.Texts.{checks-as}
+use Rattle.connection.proofs.Removals.{whole-lent}
 use Rattle.connection.proofs.Disconnects.{disconnected-refused}
 use Rattle.connection.proofs.disconnected.Statement.{statement}
 use Rattle.connection.proofs.disconnected.Tie as tie
@@ -46,8 +47,7 @@ disconnected-at-requires : tie.Need-disconnected-at-requires
 disconnected-at-requires c κs =
     let a = c .before .before .before .before .before .before .before .before .before .before .before .before .before .before .before .before .before .before .args in
     let s : Store = store (a .control .now) (a .words .now) (a .reals .now) (a .texts .now) in
-    let whole = whole-parts s (whole-passed s (c .before .before .before .before .before .before .before .before .whole .ensures) (c .before .before .before .before .before .before .before .if1 .left)) in
-    (record { sound = whole .sound; words-long = whole .words-long; reals-long = whole .reals-long }, checks-as (optional (a .given) (a .explanation .now)) (c .before .before .before .before .enum-told .given .1) (c .before .before .before .before .before .before .check-optional .ensures))
+    (whole-lent s (whole-passed s (c .before .before .before .before .before .before .before .before .whole .ensures) (c .before .before .before .before .before .before .before .if1 .left)), checks-as (optional (a .given) (a .explanation .now)) (c .before .before .before .before .enum-told .given .1) (c .before .before .before .before .before .before .check-optional .ensures))
 
 same-length-4 : tie.Need-same-length-4
 same-length-4 c = search needs

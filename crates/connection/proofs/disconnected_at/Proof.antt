@@ -1,16 +1,16 @@
--- Room for all events, then the events, then the edits: the last serial, and every seat taken out. Assumes nothing.
+-- Room for all events, then the events, then the edits: the last serial, and every seat taken out. `w` is the place where the seats are
+-- written. Assumes nothing.
 use Prim.Native.Nat.{_*_}
 use mathlib.Core.Path.{refl}
-use mathlib.Core.List.{[]}
 use native.Mathlib.Omega.{arith}
 use borrow.Author.Needs.{needs}
 use lib.ListN.{length}
-use Rattle.model.specs.Call.{Load}
 use Rattle.model.specs.Decide.{seatsObjects}
 use Rattle.control.specs.Control.{connectionOf}
 use Rattle.store.specs.View.{store}
 use Rattle.events.specs.Events.{bareDevices}
-use Rattle.connection.proofs.Disconnects.{sample-most, end-fits, last-is, disconnected-short, disconnected-done}
+use Rattle.connection.proofs.Removals.{last-is, lent-after}
+use Rattle.connection.proofs.Disconnects.{sample-most, end-fits, disconnected-short, disconnected-done}
 use Rattle.connection.proofs.disconnected_at.Statement.{statement}
 use Rattle.connection.proofs.disconnected_at.Tie as tie
 
@@ -58,21 +58,19 @@ write-seats-requires c κs =
 
 send-requires : tie.Need-send-requires
 send-requires c κs =
-    let a = c .before .before .before .before .before .before .before .before .before .before .before .before .before .before .before .before .before .before .before .before .args in
-    end-fits (a .given) (a .explanation .now) _ _ {gone = 14 * length (seatsObjects (connectionOf (a .control .now) .seats) (bareDevices (a .control .now)))} {n = length (a .out .now)} (omega (arith, c .before .before .before .before .before .before .before .before .before .record-length .ensures, c .before .before .before .before .before .before .before .before .before .before .before .before .seats-objects .ensures .0)) (omega (arith, c .before .before .before .write-seats .ensures .at)) (omega (arith, c .before .before .before .write-seats .kept .1 .0))
+    let w = c .before .before .before in
+    let a = w .before .before .before .before .before .before .before .before .before .before .before .before .before .before .before .before .before .args in
+    end-fits (a .given) (a .explanation .now) _ _ {gone = 14 * length (seatsObjects (connectionOf (a .control .now) .seats) (bareDevices (a .control .now)))} {n = length (a .out .now)} (omega (arith, w .before .before .before .before .before .before .record-length .ensures, w .before .before .before .before .before .before .before .before .before .seats-objects .ensures .0)) (omega (arith, w .write-seats .ensures .at)) (omega (arith, w .write-seats .kept .1 .0))
 
 raise-requires : tie.Need-raise-requires
 raise-requires c κs =
-    c .before .before .before .before .before .before .before .before .before .before .before .before .before .before .before .before .before .before .before .before .before .before .before .before .pre .0 .sound
+    let w = c .before .before .before .before .before .before .before in
+    w .before .before .before .before .before .before .before .before .before .before .before .before .before .before .before .before .before .pre .0 .sound
 
 remove-seats-requires : tie.Need-remove-seats-requires
 remove-seats-requires c κs =
-    let a = c .before .before .before .before .before .before .before .before .before .before .before .before .before .before .before .before .before .before .before .before .before .before .before .before .before .before .before .before .before .before .args in
-    record {
-      sound = c .before .before .before .before .before .raise .ensures (length (seatsObjects (connectionOf (a .control .now) .seats) (bareDevices (a .control .now)))) (last-is (c .before .before .before .before .before .before .before .before .before .before .before .before .before .write-seats .ensures) (c .before .before .before .before .before .before .before .before .before .before .before .before .before .before .before .before .before .before .before .before .last-serial .ensures)) [] [] [] Load.None .sound;
-      words-long = c .before .before .before .before .before .before .before .before .before .before .before .before .before .before .before .before .before .before .before .before .before .before .before .before .before .before .before .before .before .before .pre .0 .words-long;
-      reals-long = c .before .before .before .before .before .before .before .before .before .before .before .before .before .before .before .before .before .before .before .before .before .before .before .before .before .before .before .before .before .before .pre .0 .reals-long;
-    }
+    let w = c .before .before .before .before .before .before .before .before .before .before .before .before .before in
+    lent-after (w .before .before .before .before .before .before .before .before .before .before .before .before .before .before .before .before .before .pre .0) (c .before .before .before .before .before .raise .ensures _ (last-is (w .write-seats .ensures) (w .before .before .before .before .before .before .before .last-serial .ensures)))
 
 sent-requires : tie.Need-sent-requires
 sent-requires c κs = search needs
@@ -91,11 +89,12 @@ same-length-5 c = search needs
 
 returns-2 : tie.Need-returns-2
 returns-2 c =
-    let a = c .before .before .before .before .before .before .before .before .before .before .before .before .before .before .before .before .before .before .before .before .before .before .before .before .before .before .before .before .before .before .before .before .before .before .before .before .before .before .args in
+    let w = c .before .before .before .before .before .before .before .before .before .before .before .before .before .before .before .before .before .before .before .before .before in
+    let a = w .before .before .before .before .before .before .before .before .before .before .before .before .before .before .before .before .before .args in
     λ clock texts whole.
-    disconnected-done (store (a .control .now) (a .words .now) (a .reals .now) texts) whole (a .out .now) clock (a .reason) (a .given) (a .explanation .now) (c .before .before .before .before .before .before .before .before .before .before .before .before .before .before .before .before .before .before .before .before .before .before .before .before .before .before .before .before .before .before .before .before .before .before .before .before .before .before .pre .1) (c .before .before .before .before .before .before .before .before .before .before .before .before .before .before .before .before .before .before .before .before .before .before .before .before .before .before .before .before .before .before .before .before .number .result) (c .before .before .before .before .before .before .before .before .before .before .before .before .before .before .before .before .before .before .before .before .before .before .before .before .before .before .before .before .before .before .before .before .number .ensures)
-    (omega (arith, c .before .before .before .before .before .before .before .before .before .before .before .before .before .before .before .before .before .before .before .before .before .before .before .before .before .before .before .record-length .ensures, c .before .before .before .before .before .before .before .before .before .before .before .before .before .before .before .before .before .before .before .before .before .before .before .before .before .before .before .before .before .before .seats-objects .ensures .0)) (c .before .before .before .before .before .before .before .before .before .before .before .before .before .before .before .before .before .before .before .before .before .write-seats .ensures) refl (c .before .before .before .before .before .before .before .before .before .before .before .before .before .before .before .before .before .before .before .before .before .before .before .before .before .before .before .before .last-serial .ensures) (omega (arith, c .before .before .before .before .before .before .before .before .before .before .before .before .before .before .before .before .before .before .before .before .before .write-seats .kept .1 .0))
-    (c .before .before .before .before .before .before .before .before .before .before .before .before .before .before .before .before .before .before .before .before .before .before .before .before .connection-id .ensures) (c .before .before .before .before .before .before .before .before .before .before .before .before .before .before .before .before .before .send .ensures) (c .before .before .before .before .before .before .before .before .before .before .before .before .before .raise .ensures (length (seatsObjects (connectionOf (a .control .now) .seats) (bareDevices (a .control .now)))) (last-is (c .before .before .before .before .before .before .before .before .before .before .before .before .before .before .before .before .before .before .before .before .before .write-seats .ensures) (c .before .before .before .before .before .before .before .before .before .before .before .before .before .before .before .before .before .before .before .before .before .before .before .before .before .before .before .before .last-serial .ensures)))
+    disconnected-done (store (a .control .now) (a .words .now) (a .reals .now) texts) whole (a .out .now) clock (a .reason) (a .given) (a .explanation .now) (w .before .before .before .before .before .before .before .before .before .before .before .before .before .before .before .before .before .pre .1) (w .before .before .before .before .before .before .before .before .before .before .before .number .result) (w .before .before .before .before .before .before .before .before .before .before .before .number .ensures)
+    (omega (arith, w .before .before .before .before .before .before .record-length .ensures, w .before .before .before .before .before .before .before .before .before .seats-objects .ensures .0)) (w .write-seats .ensures) refl (w .before .before .before .before .before .before .before .last-serial .ensures) (omega (arith, w .write-seats .kept .1 .0))
+    (w .before .before .before .connection-id .ensures) (c .before .before .before .before .before .before .before .before .before .before .before .before .before .before .before .before .before .send .ensures) (c .before .before .before .before .before .before .before .before .before .before .before .before .before .raise .ensures (length (seatsObjects (connectionOf (a .control .now) .seats) (bareDevices (a .control .now)))) (last-is (w .write-seats .ensures) (w .before .before .before .before .before .before .before .last-serial .ensures)))
     (c .before .before .before .before .before .before .before .remove-seats .ensures) (omega (arith, c .before .before .before .before .before .before .before .remove-seats .kept)) (omega (arith, c .before .before .before .before .before .before .before .remove-seats .kept)) (c .sent .ensures)
 
 pub disconnected-at-spec : {M : Type 1} → statement M

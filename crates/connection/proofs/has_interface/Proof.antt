@@ -6,7 +6,7 @@ use Rattle.store.specs.View.{Store, store}
 use Rattle.store.proofs.Views.{whole-parts}
 use Rattle.control.specs.Answer.{versionTold}
 use Rattle.model.specs.Decide.{isSome}
-use Rattle.connection.proofs.Calls.{whole-failed, whole-passed, damaged-answered, whole-answered}
+use Rattle.answers.proofs.Meetings.{whole-failed, whole-passed, damaged-answered, whole-answered}
 use Rattle.connection.proofs.Interfaces.{has-invalid, has-told}
 use Rattle.connection.proofs.has_interface.Statement.{statement}
 use Rattle.connection.proofs.has_interface.Tie as tie

@@ -7,7 +7,7 @@ use Rattle.store.proofs.Views.{whole-parts}
 use Rattle.control.specs.Answer.{versionTold}
 use Rattle.model.specs.Decide.{versionAnswer}
 use Rattle.answers.specs.declared.Outcome.{Outcome}
-use Rattle.connection.proofs.Calls.{whole-failed, whole-passed, damaged-answered, whole-answered}
+use Rattle.answers.proofs.Meetings.{whole-failed, whole-passed, damaged-answered, whole-answered}
 use Rattle.connection.proofs.Interfaces.{version-invalid, version-told}
 use Rattle.connection.proofs.interface_version.Statement.{statement}
 use Rattle.connection.proofs.interface_version.Tie as tie

@@ -2,7 +2,7 @@
 use borrow.Author.Needs.{needs}
 use Rattle.store.specs.View.{Store, store}
 use Rattle.store.proofs.Views.{whole-parts}
-use Rattle.connection.proofs.Calls.{whole-failed, whole-passed, damaged-answered, whole-answered}
+use Rattle.answers.proofs.Meetings.{whole-failed, whole-passed, damaged-answered, whole-answered}
 use Rattle.connection.proofs.Interfaces.{serial-told}
 use Rattle.connection.proofs.last_serial.Statement.{statement}
 use Rattle.connection.proofs.last_serial.Tie as tie
