@@ -17,11 +17,8 @@ abbrev μ-loop : tie.MeasureT-loop
 loop-holds : tie.Need-loop-holds Inv-loop μ-loop
 loop-holds c = search needs
 
-add-keys : tie.Need-add-keys Inv-loop μ-loop
-add-keys c = search needs
-
-keys-requires : tie.Need-keys-requires Inv-loop μ-loop
-keys-requires c κs = search needs
+send-framed-requires : tie.Need-send-framed-requires Inv-loop μ-loop
+send-framed-requires c κs = search needs
 
 add-i : tie.Need-add-i Inv-loop μ-loop
 add-i c = search needs
@@ -54,8 +51,7 @@ pile-up-spec =
     Inv-loop
     μ-loop
     loop-holds
-    add-keys
-    keys-requires
+    send-framed-requires
     add-i
     loop-less
     loop-again

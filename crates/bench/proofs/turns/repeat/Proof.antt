@@ -17,8 +17,14 @@ abbrev μ-loop : tie.MeasureT-loop
 loop-holds : tie.Need-loop-holds Inv-loop μ-loop
 loop-holds c = search needs
 
-turn-requires : tie.Need-turn-requires Inv-loop μ-loop
-turn-requires c κs = search needs
+send-framed-requires : tie.Need-send-framed-requires Inv-loop μ-loop
+send-framed-requires c κs = search needs
+
+most-of-requires : tie.Need-most-of-requires Inv-loop μ-loop
+most-of-requires c κs = search needs
+
+next-requires : tie.Need-next-requires Inv-loop μ-loop
+next-requires c κs = search needs
 
 wrapping-add-u64-requires : tie.Need-wrapping-add-u64-requires Inv-loop μ-loop
 wrapping-add-u64-requires c κs = search needs
@@ -54,7 +60,9 @@ repeat-spec =
     Inv-loop
     μ-loop
     loop-holds
-    turn-requires
+    send-framed-requires
+    most-of-requires
+    next-requires
     wrapping-add-u64-requires
     add-i
     loop-less

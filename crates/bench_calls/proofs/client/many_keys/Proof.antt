@@ -1,7 +1,7 @@
--- `bench::turns::many_keys` is safe and ends with its keys; the slices keep their lengths. Assumes nothing.
+-- `bench_calls::client::many_keys` is safe and ends with its keys; the slices keep their lengths. Assumes nothing.
 use Prim.Native.Nat.{_≤_, _-_}
-use Rattle.bench.proofs.turns.many_keys.Statement.{statement}
-use Rattle.bench.proofs.turns.many_keys.Tie as tie
+use Rattle.bench_calls.proofs.client.many_keys.Statement.{statement}
+use Rattle.bench_calls.proofs.client.many_keys.Tie as tie
 use borrow.Author.Needs.{needs}
 use lib.ListN.{length}
 use mathlib.Core.Path.{_≡_}
@@ -17,11 +17,14 @@ abbrev μ-loop : tie.MeasureT-loop
 loop-holds : tie.Need-loop-holds Inv-loop μ-loop
 loop-holds c = search needs
 
-add-key : tie.Need-add-key Inv-loop μ-loop
-add-key c = search needs
+add-without-text : tie.Need-add-without-text Inv-loop μ-loop
+add-without-text c = search needs
 
 key-requires : tie.Need-key-requires Inv-loop μ-loop
 key-requires c κs = search needs
+
+without-text-requires : tie.Need-without-text-requires Inv-loop μ-loop
+without-text-requires c κs = search needs
 
 add-j : tie.Need-add-j Inv-loop μ-loop
 add-j c = search needs
@@ -54,8 +57,9 @@ many-keys-spec =
     Inv-loop
     μ-loop
     loop-holds
-    add-key
+    add-without-text
     key-requires
+    without-text-requires
     add-j
     loop-less
     loop-again

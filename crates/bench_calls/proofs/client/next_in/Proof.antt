@@ -1,7 +1,7 @@
--- `bench::turns::next_in` is safe and asks so often at most; the slices keep their lengths. Assumes nothing.
+-- `bench_calls::client::next_in` is safe and asks so often at most; the slices keep their lengths. Assumes nothing.
 use Prim.Native.Nat.{_≤_, _-_}
-use Rattle.bench.proofs.turns.next_in.Statement.{statement}
-use Rattle.bench.proofs.turns.next_in.Tie as tie
+use Rattle.bench_calls.proofs.client.next_in.Statement.{statement}
+use Rattle.bench_calls.proofs.client.next_in.Tie as tie
 use borrow.Author.Needs.{needs}
 use lib.ListN.{length}
 use mathlib.Core.Path.{_≡_}

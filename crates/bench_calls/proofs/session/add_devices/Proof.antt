@@ -1,7 +1,7 @@
--- `bench::turns::add_devices` is safe and ends with its devices; the slices keep their lengths. Assumes nothing.
+-- `bench_calls::session::add_devices` is safe and ends with its devices; the slices keep their lengths. Assumes nothing.
 use Prim.Native.Nat.{_≤_, _-_}
-use Rattle.bench.proofs.turns.add_devices.Statement.{statement}
-use Rattle.bench.proofs.turns.add_devices.Tie as tie
+use Rattle.bench_calls.proofs.session.add_devices.Statement.{statement}
+use Rattle.bench_calls.proofs.session.add_devices.Tie as tie
 use borrow.Author.Needs.{needs}
 use lib.ListN.{length}
 use mathlib.Core.Path.{_≡_}

@@ -1,0 +1,86 @@
+// The session that the turns of the benchmark begin with.
+use converter::request;
+use eiproto::eiproto_enum::DeviceType;
+use handshake::handshake::EisHandshaker;
+use handshake::handshake::Request as Shake;
+
+// The ids that the calls of `begin` give: the seat, then each device with its interfaces behind it.
+pub const SEAT: u64 = 0xff00000000000001;
+
+pub const DEVICE: u64 = 0xff00000000000002;
+
+fn negotiated(h: EisHandshaker, name: &[u8]) -> EisHandshaker {
+    let mut out = [0u8; 16];
+    let a = h.handle_request(Shake::InterfaceVersion { version: 9 }, name, &mut out);
+    a.handshaker
+}
+
+// The handshake, in which the interfaces that a session needs are negotiated.
+fn shaken(control: &mut [u64], words: &[u64], reals: &[f32], texts: &[u8]) {
+    let mut out = [0u8; 4096];
+    let mut h = EisHandshaker::new(7, &mut out).handshaker;
+    h = negotiated(h, b"ei_connection");
+    h = negotiated(h, b"ei_callback");
+    h = negotiated(h, b"ei_pingpong");
+    let finished = h.handle_request(Shake::Finish, b"", &mut out);
+    request::new(control, words, reals, texts, finished.response);
+}
+
+fn add_devices(
+    control: &mut [u64],
+    words: &[u64],
+    reals: &[f32],
+    texts: &[u8],
+    devices: u64,
+    capabilities: u64,
+    out: &mut [u8],
+) {
+    let mut i: u64 = 0;
+    while i < devices {
+        seat::add_device(
+            control,
+            words,
+            reals,
+            texts,
+            SEAT,
+            false,
+            b"",
+            DeviceType::Virtual,
+            capabilities,
+            out,
+        );
+        i += 1;
+    }
+}
+
+// A session with a seat and so many devices, each with these capabilities.
+pub fn begin(
+    control: &mut [u64],
+    words: &[u64],
+    reals: &[f32],
+    texts: &[u8],
+    devices: u64,
+    capabilities: u64,
+) {
+    let mut out = [0u8; 4096];
+    shaken(control, words, reals, texts);
+    connection::add_seat(
+        control,
+        words,
+        reals,
+        texts,
+        false,
+        b"",
+        capabilities,
+        &mut out,
+    );
+    add_devices(
+        control,
+        words,
+        reals,
+        texts,
+        devices,
+        capabilities,
+        &mut out,
+    );
+}
