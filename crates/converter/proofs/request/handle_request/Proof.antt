@@ -7,7 +7,8 @@ use Rattle.handlers.specs.Call.{callOf}
 use Rattle.handlers.specs.declared.eis.Request.{Request}
 use Rattle.handlers.proofs.Plain.{for-call, pingpong}
 use Rattle.interfaces.proofs.Interfaces.{handed-on}
-use Rattle.converter.proofs.Answering.{answered-bad, answered, lent}
+use Rattle.answers.proofs.Meetings.{damaged-answered}
+use Rattle.converter.proofs.Answering.{answered, lent}
 use borrow.Author.Needs.{needs}
 use Rattle.converter.proofs.request.handle_request.Statement.{statement}
 use Rattle.converter.proofs.request.handle_request.Tie as tie
@@ -33,7 +34,7 @@ same-length-4 c = search needs
 returns : tie.Need-returns
 returns c =
     let a = c .before .before .before .before .before .before .before .before .before .before .before .before .before .args in
-    answered-bad (store (a .control .now) (a .words .now) (a .reals .now) (a .texts .now)) (a .out .now) (callOf (a .request) (a .object) (a .version) (a .text .now)) (a .clock) _ (sym (c .before .before .whole .ensures) ∙ not-true _ (c .before .if1 .taken)) (c .refused .ensures)
+    damaged-answered (store (a .control .now) (a .words .now) (a .reals .now) (a .texts .now)) (a .out .now) (callOf (a .request) (a .object) (a .version) (a .text .now)) (a .clock) _ (sym (c .before .before .whole .ensures) ∙ not-true _ (c .before .if1 .taken)) (c .refused .ensures)
 
 enum-known-request : tie.Need-enum-known-request
 enum-known-request c = search needs
