@@ -15,7 +15,7 @@ use Rattle.model.specs.Step.{refuses, step}
 use Rattle.steps.proofs.Counted.{removesAll}
 use Rattle.steps.proofs.Steps.{step-remove, step-remove-short}
 use Rattle.control.specs.Control.{connectionOf}
-use Rattle.store.specs.View.{Store, store, session, isWhole, Lent}
+use Rattle.store.specs.View.{Store, store, session, isWhole}
 use Rattle.store.specs.Enact.{Enacts, EnactsRows}
 use Rattle.store.proofs.Views.{whole-parts, enacted-join, view-connection, pending-few}
 use Rattle.events.specs.declared.Mark.{Mark}
@@ -32,15 +32,6 @@ use Rattle.answers.proofs.Meetings.{meets-done, whole-after, whole-answered, ov
 pub last-is : {out later : List ℕ} {mark v : Mark} {objects : List ℕ} {n : ℕ} → Destroys out later mark objects v → mark .serial ≡ n
     → v .serial ≡ raised (length objects) n
 last-is {objects = objects} p e = p .serial ∙ ap (raised (length objects)) e
-
--- what the removing functions ask for, and have once the control words are edited
-pub whole-lent : (s : Store) → isWhole s ≡ true → Lent (s .control) (s .words) (s .reals)
-whole-lent s w =
-    let parts = whole-parts s w in
-    record { sound = parts .sound; words-long = parts .words-long; reals-long = parts .reals-long }
-
-pub lent-after : {c d w : List ℕ} {r : List Float} {edits : List Edit} → Lent c w r → Enacts c d edits → Lent d w r
-lent-after l done = record { sound = done [] [] [] Load.None .sound; words-long = l .words-long; reals-long = l .reals-long }
 
 -- a call that takes out objects and nothing else: `os` as the model lists them, `objects` as the control words tell them
 module _ (s : Store) (w : isWhole s ≡ true) (out : List ℕ) (call : Plain) (clock : ℕ) {os objects : List ℕ} (edits : List Edit)

@@ -4,7 +4,7 @@ use mathlib.Core.Path.{_≡_, refl}
 use mathlib.Core.Bool.{true, false}
 use mathlib.Core.List.{List, [], _∷_, _++_, map}
 use mathlib.Core.Option.{none, some}
-use lib.ListN.{replicate}
+use lib.ListN.{set, replicate}
 use Rattle.eiproto.specs.Bits.{bitsOf, bitsBelow}
 use Rattle.model.specs.Decide.{version, linksIn}
 use Rattle.control.specs.Table.{tab, first, mapOption}
@@ -28,6 +28,15 @@ sound-words = refl
 long-words : isSound (words ++ (0 ∷ [])) ≡ false
 unfolding isSound words
 long-words = refl
+
+-- 65 pending on the device is above the limit; behind the last device it is no count
+full-words : isSound (set words 36 65) ≡ false
+unfolding isSound rowsSound rowSound words
+full-words = refl
+
+spare-words : isSound (set words 60 65) ≡ true
+unfolding isSound rowsSound rowSound words
+spare-words = refl
 
 seats : connectionOf words .seats ≡ record { id = 8; capabilities = 127 } ∷ []
 unfolding connectionOf tab seatAt words

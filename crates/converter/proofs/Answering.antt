@@ -1,11 +1,10 @@
--- What the handlers ask for, where 21's test has passed, and what is answered then. Assumes nothing.
+-- What is answered where 21's test has passed. Assumes nothing.
 use Prim.Native.Nat.{ℕ}
 use mathlib.Core.Path.{_≡_}
 use mathlib.Core.Bool.{true}
 use mathlib.Core.List.{List}
-use lib.Ieee.{Float}
 use Rattle.model.specs.Call.{Input, Call}
-use Rattle.store.specs.View.{Store, store, isWhole, Whole, Lent}
+use Rattle.store.specs.View.{Store, isWhole, Whole}
 use Rattle.store.proofs.Views.{whole-parts}
 use Rattle.answers.specs.Meets.{Handled, Answered}
 use Rattle.answers.specs.declared.Answer.{Answer}
@@ -14,7 +13,3 @@ use Rattle.answers.proofs.Meetings.{whole-answered}
 pub answered : {s e : Store} {out later : List ℕ} {call : Call Input} {clock : ℕ} {r : Answer} → isWhole s ≡ true → (Whole s → Handled s e out later call clock r)
     → Answered s e out later call clock r
 answered {s} b h = whole-answered b (h (whole-parts s b))
-
-pub lent : (c w : List ℕ) (r : List Float) (t : List ℕ) → isWhole (store c w r t) ≡ true → Lent c w r
-lent c w r t b =
-    let p = whole-parts (store c w r t) b in record { sound = p .sound; words-long = p .words-long; reals-long = p .reals-long }

@@ -7,6 +7,7 @@ use mathlib.Core.Option.{none, some}
 use native.Mathlib.Omega.{arith}
 use borrow.Author.Tests.{eqb-true, eq-eqb}
 use lib.Dec.{eqb}
+use lib.Ieee.{Float}
 use lib.ListN.{length, getD}
 use Rattle.requests.specs.Row.{Row, rowAt}
 use Rattle.model.specs.Call.{Load}
@@ -20,8 +21,8 @@ use Rattle.control.specs.Sound.{Sound, isSound}
 use Rattle.control.proofs.Tables.{tab-same, tab-length, tab-at}
 use Rattle.control.proofs.Models as models
 use Rattle.control.proofs.Sounds.{sound-bounds, bounds-sound, pending-bound}
-use Rattle.store.specs.View.{Store, wordsLength, realsLength, textsLength, pendingRow, queueRow, requestAt, itemAt, deviceIn, queueIn, sessionIn, session, isWhole, Whole}
-use Rattle.store.specs.Enact.{Enacted}
+use Rattle.store.specs.View.{Store, wordsLength, realsLength, textsLength, pendingRow, queueRow, requestAt, itemAt, deviceIn, queueIn, sessionIn, session, isWhole, Whole, Lent}
+use Rattle.store.specs.Enact.{Enacted, Enacts}
 
 -- ---- damaged states
 
@@ -41,6 +42,14 @@ whole-parts s e =
       reals-long = eqb-true (length (s .reals)) realsLength (reals .0);
       texts-long = eqb-true (length (s .texts)) textsLength (reals .1);
     }
+
+-- what the functions that change rows ask for, and have again once control words are edited
+pub whole-lent : (s : Store) → isWhole s ≡ true → Lent (s .control) (s .words) (s .reals)
+whole-lent s w =
+    let parts = whole-parts s w in record { sound = parts .sound; words-long = parts .words-long; reals-long = parts .reals-long }
+
+pub lent-after : {c d w : List ℕ} {r : List Float} {edits : List Edit} → Lent c w r → Enacts c d edits → Lent d w r
+lent-after l done = record { sound = done [] [] [] Load.None .sound; words-long = l .words-long; reals-long = l .reals-long }
 
 pub whole-is : (s : Store) → Whole s → isWhole s ≡ true
 unfolding isWhole

@@ -22,7 +22,7 @@ use Rattle.steps.proofs.Counted.{counts-amend}
 use Rattle.control.specs.Control.{deviceCount, pendingAt, coreAt}
 use Rattle.store.specs.View.{Store, store, session, Whole, Lent}
 use Rattle.store.specs.Enact.{Enacted, Enacts}
-use Rattle.store.proofs.Views.{devices-length, pending-count, deviceSeen}
+use Rattle.store.proofs.Views.{lent-after, devices-length, pending-count, deviceSeen}
 use Rattle.answers.specs.Answer.{outcomeOf}
 use Rattle.answers.specs.Meets.{Meets, turn, Handled}
 use Rattle.answers.specs.declared.Error.{Error}
@@ -75,7 +75,7 @@ module _ {c e : List ℕ} {k : ℕ} {a : Amend} (h : Enacts c e (Edit.amend k a 
   -- so the pending list has room as it had
   pub amended-lent : {w : List ℕ} {r : List Float} → Lent c w r → (k < deviceCount c) × (pendingAt c k < 64) → Lent e w r × ((k < deviceCount e) × (pendingAt e k < 64))
   amended-lent lent room = (
-    record { sound = h [] [] [] Load.None .sound; words-long = lent .words-long; reals-long = lent .reals-long },
+    lent-after lent h,
     (omega (arith, devices-kept), omega (arith, pending-kept (room .0))),
   )
 

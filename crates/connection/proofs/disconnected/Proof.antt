@@ -1,11 +1,10 @@
 -- 21, 10 or 11, then the room. Assumes nothing.
 use borrow.Author.Needs.{needs}
 use Rattle.store.specs.View.{Store, store}
-use Rattle.store.proofs.Views.{whole-parts}
+use Rattle.store.proofs.Views.{whole-parts, whole-lent}
 use Rattle.answers.proofs.Meetings.{whole-failed, whole-passed, damaged-answered, whole-answered}
 use Rattle.connection.specs.Call.{optional}
 use Rattle.connection.proofs.Texts.{checks-as}
-use Rattle.connection.proofs.Removals.{whole-lent}
 use Rattle.connection.proofs.Disconnects.{disconnected-refused}
 use Rattle.connection.proofs.disconnected.Statement.{statement}
 use Rattle.connection.proofs.disconnected.Tie as tie

@@ -8,8 +8,9 @@ use lib.ListN.{length}
 use Rattle.model.specs.Decide.{seatsObjects}
 use Rattle.control.specs.Control.{connectionOf}
 use Rattle.store.specs.View.{store}
+use Rattle.store.proofs.Views.{lent-after}
 use Rattle.events.specs.Events.{bareDevices}
-use Rattle.connection.proofs.Removals.{last-is, lent-after}
+use Rattle.connection.proofs.Removals.{last-is}
 use Rattle.connection.proofs.Disconnects.{sample-most, end-fits, disconnected-short, disconnected-done}
 use Rattle.connection.proofs.disconnected_at.Statement.{statement}
 use Rattle.connection.proofs.disconnected_at.Tie as tie

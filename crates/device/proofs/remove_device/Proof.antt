@@ -8,12 +8,12 @@ use Rattle.model.specs.Edit.{Edit}
 use Rattle.steps.proofs.Counted.{removes-device}
 use Rattle.control.specs.Answer.{slotTold}
 use Rattle.store.specs.View.{Store, store}
-use Rattle.store.proofs.Views.{whole-parts, found-bound}
+use Rattle.store.proofs.Views.{whole-parts, found-bound, whole-lent, lent-after}
 use Rattle.events.proofs.Seen.{objects-seen}
 use Rattle.answers.specs.declared.Error.{Error}
 use Rattle.answers.specs.declared.Outcome.{Outcome}
 use Rattle.answers.proofs.Meetings.{whole-failed, whole-passed, damaged-answered, told-answered}
-use Rattle.connection.proofs.Removals.{last-is, whole-lent, lent-after, gone-short, gone}
+use Rattle.connection.proofs.Removals.{last-is, gone-short, gone}
 use Rattle.device.proofs.Plans.{remove-unknown, remove-plan}
 use Rattle.device.proofs.Devices.{raise-count}
 use Rattle.device.proofs.remove_device.Statement.{statement}

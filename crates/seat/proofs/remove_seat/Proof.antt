@@ -8,12 +8,12 @@ use Rattle.model.specs.Edit.{Edit}
 use Rattle.steps.proofs.Counted.{removes-seat}
 use Rattle.control.specs.Answer.{slotTold}
 use Rattle.store.specs.View.{Store, store}
-use Rattle.store.proofs.Views.{whole-parts, enacted-join}
+use Rattle.store.proofs.Views.{whole-parts, enacted-join, whole-lent, lent-after}
 use Rattle.events.proofs.Seen.{seat-objects-seen}
 use Rattle.answers.specs.declared.Error.{Error}
 use Rattle.answers.specs.declared.Outcome.{Outcome}
 use Rattle.answers.proofs.Meetings.{whole-failed, whole-passed, damaged-answered, told-answered}
-use Rattle.connection.proofs.Removals.{last-is, whole-lent, lent-after, gone-short, gone}
+use Rattle.connection.proofs.Removals.{last-is, gone-short, gone}
 use Rattle.seat.proofs.Removed.{seat-unknown, seat-plan}
 use Rattle.seat.proofs.remove_seat.Statement.{statement}
 use Rattle.seat.proofs.remove_seat.Tie as tie

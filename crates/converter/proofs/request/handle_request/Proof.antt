@@ -2,13 +2,13 @@
 use mathlib.Core.Path.{sym, ap, _∙_}
 use borrow.Author.Tests.{not-true, not-false}
 use Rattle.store.specs.View.{store}
-use Rattle.store.proofs.Views.{whole-parts}
+use Rattle.store.proofs.Views.{whole-parts, whole-lent}
 use Rattle.handlers.specs.Call.{callOf}
 use Rattle.handlers.specs.declared.eis.Request.{Request}
 use Rattle.handlers.proofs.Plain.{for-call, pingpong}
 use Rattle.interfaces.proofs.Interfaces.{handed-on}
 use Rattle.answers.proofs.Meetings.{damaged-answered}
-use Rattle.converter.proofs.Answering.{answered, lent}
+use Rattle.converter.proofs.Answering.{answered}
 use borrow.Author.Needs.{needs}
 use Rattle.converter.proofs.request.handle_request.Statement.{statement}
 use Rattle.converter.proofs.request.handle_request.Tie as tie
@@ -48,7 +48,7 @@ enum-known-request-2 c = search needs
 handle-connection-request-requires : tie.Need-handle-connection-request-requires
 handle-connection-request-requires c κs =
     let a = c .before .before .before .before .before .before .before .before .before .before .before .before .before .before .before .before .before .before .before .args in
-    lent (a .control .now) (a .words .now) (a .reals .now) (a .texts .now) (sym (c .before .before .before .before .before .before .before .before .whole .ensures) ∙ not-false _ (c .before .before .before .before .before .before .before .if1 .left))
+    whole-lent (store (a .control .now) (a .words .now) (a .reals .now) (a .texts .now)) (sym (c .before .before .before .before .before .before .before .before .whole .ensures) ∙ not-false _ (c .before .before .before .before .before .before .before .if1 .left))
 
 enum-told : tie.Need-enum-told
 enum-told c = search needs
@@ -62,7 +62,7 @@ enum-known-request-3 c = search needs
 handle-seat-request-requires : tie.Need-handle-seat-request-requires
 handle-seat-request-requires c κs =
     let a = c .before .before .before .before .before .before .before .before .before .before .before .before .before .before .before .before .before .before .before .args in
-    lent (a .control .now) (a .words .now) (a .reals .now) (a .texts .now) (sym (c .before .before .before .before .before .before .before .before .whole .ensures) ∙ not-false _ (c .before .before .before .before .before .before .before .if1 .left))
+    whole-lent (store (a .control .now) (a .words .now) (a .reals .now) (a .texts .now)) (sym (c .before .before .before .before .before .before .before .before .whole .ensures) ∙ not-false _ (c .before .before .before .before .before .before .before .if1 .left))
 
 enum-known-request-4 : tie.Need-enum-known-request-4
 enum-known-request-4 c = search needs
@@ -70,7 +70,7 @@ enum-known-request-4 c = search needs
 handle-device-request-requires : tie.Need-handle-device-request-requires
 handle-device-request-requires c κs =
     let a = c .before .before .before .before .before .before .before .before .before .before .before .before .before .before .before .before .before .before .args in
-    lent (a .control .now) (a .words .now) (a .reals .now) (a .texts .now) (sym (c .before .before .before .before .before .before .before .whole .ensures) ∙ not-false _ (c .before .before .before .before .before .before .if1 .left))
+    whole-lent (store (a .control .now) (a .words .now) (a .reals .now) (a .texts .now)) (sym (c .before .before .before .before .before .before .before .whole .ensures) ∙ not-false _ (c .before .before .before .before .before .before .if1 .left))
 
 handle-interface-request-requires : tie.Need-handle-interface-request-requires
 handle-interface-request-requires c κs =

@@ -7,8 +7,7 @@ use Rattle.requests.specs.Request.{textLength}
 use Rattle.model.specs.Call.{Load}
 use Rattle.control.specs.Control.{queueHead, queueLength}
 use Rattle.store.specs.View.{store, queueRow}
-use Rattle.store.proofs.Views.{whole-parts}
-use Rattle.converter.proofs.Answering.{lent}
+use Rattle.store.proofs.Views.{whole-parts, whole-lent}
 use Rattle.converter.proofs.Given.{text-room, given-none, given-short, given-done, delivered-bad, delivered}
 use borrow.Author.Needs.{needs}
 use Rattle.converter.proofs.request.next_request.Statement.{statement}
@@ -27,7 +26,7 @@ returns c =
 
 queue-length-requires : tie.Need-queue-length-requires
 queue-length-requires c κs =
-    lent (c .before .before .before .before .before .before .before .before .before .args .control .now) (c .before .before .before .before .before .before .before .before .before .args .words .now) (c .before .before .before .before .before .before .before .before .before .args .reals .now) (c .before .before .before .before .before .before .before .before .before .args .texts .now) (sym (c .before .before .whole .ensures) ∙ not-false _ (c .before .if1 .left)) .sound .long
+    whole-lent (store (c .before .before .before .before .before .before .before .before .before .args .control .now) (c .before .before .before .before .before .before .before .before .before .args .words .now) (c .before .before .before .before .before .before .before .before .before .args .reals .now) (c .before .before .before .before .before .before .before .before .before .args .texts .now)) (sym (c .before .before .whole .ensures) ∙ not-false _ (c .before .if1 .left)) .sound .long
 
 same-length-2 : tie.Need-same-length-2
 same-length-2 c = search needs
@@ -41,7 +40,7 @@ returns-2 c =
 
 oldest-requires : tie.Need-oldest-requires
 oldest-requires c κs =
-    (lent (c .before .before .before .before .before .before .before .before .before .before .before .before .args .control .now) (c .before .before .before .before .before .before .before .before .before .before .before .before .args .words .now) (c .before .before .before .before .before .before .before .before .before .before .before .before .args .reals .now) (c .before .before .before .before .before .before .before .before .before .before .before .before .args .texts .now) (sym (c .before .before .before .before .before .whole .ensures) ∙ not-false _ (c .before .before .before .before .if1 .left)), omega (arith, c .before .before .queue-length .ensures))
+    (whole-lent (store (c .before .before .before .before .before .before .before .before .before .before .before .before .args .control .now) (c .before .before .before .before .before .before .before .before .before .before .before .before .args .words .now) (c .before .before .before .before .before .before .before .before .before .before .before .before .args .reals .now) (c .before .before .before .before .before .before .before .before .before .before .before .before .args .texts .now)) (sym (c .before .before .before .before .before .whole .ensures) ∙ not-false _ (c .before .before .before .before .if1 .left)), omega (arith, c .before .before .queue-length .ensures))
 
 text-length-requires : tie.Need-text-length-requires
 text-length-requires c κs = search needs
@@ -62,7 +61,7 @@ returns-3 c =
 
 oldest-slot-requires : tie.Need-oldest-slot-requires
 oldest-slot-requires c κs =
-    (lent (c .before .before .before .before .before .before .before .before .before .before .before .before .before .before .before .before .args .control .now) (c .before .before .before .before .before .before .before .before .before .before .before .before .before .before .before .before .args .words .now) (c .before .before .before .before .before .before .before .before .before .before .before .before .before .before .before .before .args .reals .now) (c .before .before .before .before .before .before .before .before .before .before .before .before .before .before .before .before .args .texts .now) (sym (c .before .before .before .before .before .before .before .before .before .whole .ensures) ∙ not-false _ (c .before .before .before .before .before .before .before .before .if1 .left)), omega (arith, c .before .before .before .before .before .before .queue-length .ensures))
+    (whole-lent (store (c .before .before .before .before .before .before .before .before .before .before .before .before .before .before .before .before .args .control .now) (c .before .before .before .before .before .before .before .before .before .before .before .before .before .before .before .before .args .words .now) (c .before .before .before .before .before .before .before .before .before .before .before .before .before .before .before .before .args .reals .now) (c .before .before .before .before .before .before .before .before .before .before .before .before .before .before .before .before .args .texts .now)) (sym (c .before .before .before .before .before .before .before .before .before .whole .ensures) ∙ not-false _ (c .before .before .before .before .before .before .before .before .if1 .left)), omega (arith, c .before .before .before .before .before .before .queue-length .ensures))
 
 copy-text-requires : tie.Need-copy-text-requires
 copy-text-requires c κs =
@@ -74,7 +73,7 @@ copy-text-requires c κs =
 
 pop-requires : tie.Need-pop-requires
 pop-requires c κs =
-    (lent (c .before .before .before .before .before .before .before .before .before .before .before .before .before .before .before .before .before .before .before .before .before .before .args .control .now) (c .before .before .before .before .before .before .before .before .before .before .before .before .before .before .before .before .before .before .before .before .before .before .args .words .now) (c .before .before .before .before .before .before .before .before .before .before .before .before .before .before .before .before .before .before .before .before .before .before .args .reals .now) (c .before .before .before .before .before .before .before .before .before .before .before .before .before .before .before .before .before .before .before .before .before .before .args .texts .now) (sym (c .before .before .before .before .before .before .before .before .before .before .before .before .before .before .before .whole .ensures) ∙ not-false _ (c .before .before .before .before .before .before .before .before .before .before .before .before .before .before .if1 .left)) .sound, omega (arith, c .before .before .before .before .before .before .before .before .before .before .before .before .queue-length .ensures))
+    (whole-lent (store (c .before .before .before .before .before .before .before .before .before .before .before .before .before .before .before .before .before .before .before .before .before .before .args .control .now) (c .before .before .before .before .before .before .before .before .before .before .before .before .before .before .before .before .before .before .before .before .before .before .args .words .now) (c .before .before .before .before .before .before .before .before .before .before .before .before .before .before .before .before .before .before .before .before .before .before .args .reals .now) (c .before .before .before .before .before .before .before .before .before .before .before .before .before .before .before .before .before .before .before .before .before .before .args .texts .now)) (sym (c .before .before .before .before .before .before .before .before .before .before .before .before .before .before .before .whole .ensures) ∙ not-false _ (c .before .before .before .before .before .before .before .before .before .before .before .before .before .before .if1 .left)) .sound, omega (arith, c .before .before .before .before .before .before .before .before .before .before .before .before .queue-length .ensures))
 
 same-length-4 : tie.Need-same-length-4
 same-length-4 c = search needs
