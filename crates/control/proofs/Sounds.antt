@@ -33,7 +33,7 @@ unfolding rowsSound
 rows-all c zero h = refl
 rows-all c (suc n) h = join (rowsSound c n) (rowSound c n) (rows-all c n (λ k l. h k (omega arith))) (h n (omega arith))
 
-pub row-bounds : (c : List ℕ) (k : ℕ) → rowSound c k ≡ true → (pendingAt c k ≤ 64) × (heldAt c k ≤ 16)
+row-bounds : (c : List ℕ) (k : ℕ) → rowSound c k ≡ true → (pendingAt c k ≤ 64) × (heldAt c k ≤ 16)
 unfolding rowSound
 row-bounds c k e =
     let p = both (leb (pendingAt c k) 64) (leb (heldAt c k) 16) e in (leb-true (pendingAt c k) 64 (p .0), leb-true (heldAt c k) 16 (p .1))

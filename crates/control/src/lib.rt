@@ -49,7 +49,7 @@ fn row_sound(control: &[u64], k: usize) -> bool
     control[at + 4] <= 64 && control[at + 5] <= 16
 }
 
-// Whether the counts of the first n rows are far enough below their limits that their bits together show it: a pass with no branch for a row.
+// Whether the counts of the first n rows are far enough below their limits that their bits together show it: a pass with no branch for a row. `false` says nothing.
 fn rows_low(control: &[u64], n: usize) -> bool
     requires { ⌜ (length (now control) ≡ controlLength) × (n ≤ 8) ⌝ }
     ensures { λ r. ⌜ (r ≡ true → (k : ℕ) → k < n → rowSound (now (control .entry)) k ≡ true) ⌝ }
@@ -81,7 +81,7 @@ fn rows_sound(control: &[u64], n: usize) -> bool
     true
 }
 
-// Whether these are the words of a session: refusal 21's test. It takes the same time whatever is queued.
+// Whether these are the words of a session: refusal 21's test. Its time does not grow with what is queued.
 pub fn sound(control: &[u64]) -> bool
     ensures { λ r. ⌜ r ≡ isSound (now (control .entry)) ⌝ }
 {

@@ -21,7 +21,7 @@ pub const REALS_LENGTH: usize = 1536;
 
 pub const TEXTS_LENGTH: usize = 8192;
 
-// Whether these are the slices of a session: refusal 21's test. It takes the same time whatever is queued.
+// Whether these are the slices of a session: refusal 21's test. Its time does not grow with what is queued.
 pub fn whole(control: &[u64], words: &[u64], reals: &[f32], texts: &[u8]) -> bool
     ensures { λ r. ⌜ r ≡ isWhole (store (now (control .entry)) (now (words .entry)) (now (reals .entry)) (now (texts .entry))) ⌝ }
 {

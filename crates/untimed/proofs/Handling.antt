@@ -41,7 +41,7 @@ use Rattle.answers.specs.Meets.{turn, Handled}
 use Rattle.answers.specs.declared.Error.{Error}
 use Rattle.answers.specs.declared.Outcome.{Outcome}
 use Rattle.answers.specs.declared.Answer.{Answer}
-use Rattle.answers.proofs.Meetings.{meets-unchanged, meets-done}
+use Rattle.answers.proofs.Meetings.{meets-unchanged, meets-done, whole-after}
 
 -- what a call tells, and how much it wrote
 abbrev pub Tells : Answer → Outcome → ℕ → Type 0
@@ -94,7 +94,7 @@ room-behind s e {load} k serial time {n} l m h o =
 
 pub whole-rows : {c w d v texts : List ℕ} {r q : List Float} {edits : List Edit} {load : Load} → Whole (store c w r texts)
     → Enacted (store c w r texts) (store d v q texts) edits load → length v ≡ length w → length q ≡ length r → Whole (store d v q texts)
-whole-rows w o x y = record { sound = o .sound; words-long = x ∙ w .words-long; reals-long = y ∙ w .reals-long; texts-long = w .texts-long }
+whole-rows {c = c} {w = w} {texts = texts} {r = r} whole o x y = whole-after (store c w r texts) whole (o .sound) x y
 
 -- ---- what is queued
 
