@@ -2,6 +2,7 @@ pub mod Trials
 pub mod Payload
 pub mod Commute
 pub mod EqualTrails
+pub mod Walk
 pub mod Plans
 pub mod Within
 pub mod Lists

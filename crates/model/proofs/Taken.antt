@@ -1,28 +1,26 @@
 -- What a plan takes is what the papers call taken: a timed request that is neither refused nor ignored, on the device that was told of its interface;
 -- any other call takes nothing. Assumes nothing.
 use Prim.Native.Nat.{ℕ, zero, suc}
-use mathlib.Core.Path.{_≡_, refl, ap, sym, _∙_}
+use mathlib.Core.Path.{_≡_, refl, ap, sym, subst, _∙_}
 use mathlib.Core.Logic.{_⊎_, inl, inr}
 use mathlib.Core.Bool.{Bool, true, false, _&&_, _||_, not, cond, false≢true}
 use mathlib.Core.List.{List, [], _∷_, _++_, map, append-nil}
 use mathlib.Core.Option.{Option, none, some}
-use lib.Dec.{leb, ltb, eqb}
-use lib.ListN.{length}
+use lib.Dec.{eqb}
 use borrow.Author.Tests.{eqb-true}
 use Rattle.eiproto.specs.Capability.{capabilityIndex}
-use Rattle.eiproto.specs.Interface.{eiTouchscreen}
-use Rattle.touches.specs.Touches.{member}
 use Rattle.model.specs.Call.{Sight, Input, Load, Call, sight, load, mapCall, loadOf}
 use Rattle.model.specs.Session.{Item, Interface, Device, Session, view, mapDevice, blank}
 use Rattle.model.specs.Edit.{Amend, Edit, amended, item, at, enact}
-use Rattle.model.specs.Plan.{Outcome, Plan, answer, ignore}
-use Rattle.model.specs.Decide.{Found, later, find, linksIn, deviceForInterface, Rule, handler, onFound, pendAfter, ifHeld, handle, handleTimed, decidePlain, decide}
+use Rattle.model.specs.Plan.{Plan, answer, ignore, edit}
+use Rattle.model.specs.Decide.{Found, later, find, linksIn, deviceForInterface, handler, pendAfter, decide}
 use Rattle.model.specs.Step.{refuses}
-use Rattle.model.specs.Demand3.{Made, madeFor, wantsHeld, ignoredOn, ignored, takenOf}
-use Rattle.model.proofs.Plans.{allows, allowsAll, allows-cons, Formed, answers, acts, adds, plain-formed}
+use Rattle.model.specs.Demand3.{Made, madeFor, ignored, takenOf}
+use Rattle.model.proofs.Plans.{allows, allowsAll, allows-cons, Formed, answers, acts, adds, decide-formed}
 use Rattle.model.proofs.OneDevice.{takenAt, took, tookAll, amended-keeps}
 use Rattle.model.proofs.All.{All}
 use Rattle.model.proofs.Owners.{Told, Stands, Owned}
+use Rattle.model.proofs.Walk.{Leaf, walk, isTimed}
 
 -- a test of an interface that passes: its id's test passes, or another's
 either : (linked capability id others : Bool) → (linked && (capability && id) || others) ≡ true → (id ≡ true) ⊎ (others ≡ true)
@@ -113,70 +111,20 @@ module _ {P : Type 0} (d : ℕ) where
   pend-took k x p [] s = append-nil _
   pend-took k x p (a ∷ more) s = pend-took k x p more (enact (Edit.amend k a) p s) ∙ amended-taken (item x p) a k k (s .devices)
 
-  module _ (p : P) (s : Session P) (x : Sight) (owner : Bool) where
-    -- a plan takes the request for d where it is neither refused nor ignored, and its interface was told for d
-    record Fits (ignored : Bool) (plan : Plan) : Type 0 where
-      fits : tookAll d (plan .edits) p s ≡ cond (not (refuses (plan .outcome)) && (not ignored && owner)) (item x p ∷ []) []
-
-    refuse-fits : {b : Bool} (o : Outcome) → refuses o ≡ true → Fits b (answer o)
-    unfolding answer tookAll
-    refuse-fits o h = record { fits = rw h }
-
-    cond-fits : {b : Bool} (c : Bool) {v w : Plan} → Fits b v → Fits b w → Fits b (cond c v w)
-    cond-fits true h k = h
-    cond-fits false h k = k
-
-    ignore-fits : Fits true ignore
-    unfolding ignore refuses tookAll
-    ignore-fits = record { fits = refl }
-
-    -- f is the device found
-    module _ (f : Found) (h : takenAt d (item x p) (f .slot) (s .devices) ≡ cond owner (item x p ∷ []) []) where
-      pend-fits : (amends : List Amend) → Fits false (pendAfter amends f x)
-      unfolding pendAfter refuses
-      pend-fits amends = record { fits = pend-took (f .slot) x p amends s ∙ h }
-
-      held-fits : (amends : List Amend) → Fits (not (member (x .touch) (f .device .downTouchIds))) (ifHeld f x amends)
-      unfolding ifHeld
-      held-fits amends = go (member (x .touch) (f .device .downTouchIds))
-        where
-          go : (b : Bool) → Fits (not b) (cond b (pendAfter amends f x) ignore)
-          go true = pend-fits amends
-          go false = ignore-fits
-
-      handle-fits : (r : Rule) (ver : ℕ) → Fits (wantsHeld r && not (member (x .touch) (f .device .downTouchIds))) (handle r ver f x)
-      unfolding handle wantsHeld refuses
-      handle-fits Rule.queued ver = pend-fits []
-      handle-fits Rule.down ver =
-          cond-fits (leb _ (length (f .device .downTouchIds))) (refuse-fits (Outcome.refused 4) refl)
-          (cond-fits (member (x .touch) (f .device .downTouchIds)) (refuse-fits (Outcome.refused 5) refl) (pend-fits (Amend.touchDown (x .touch) ∷ [])))
-      handle-fits Rule.motion ver = held-fits []
-      handle-fits Rule.up ver = held-fits (Amend.touchUp (x .touch) ∷ [])
-      handle-fits Rule.cancel ver = cond-fits (ltb ver 2) (refuse-fits (Outcome.refusedVersion eiTouchscreen ver) refl) (held-fits (Amend.touchUp (x .touch) ∷ []))
-      handle-fits Rule.utf8 ver =
-          cond-fits (eqb (x .size) 0) (refuse-fits (Outcome.refused 6) refl)
-          (cond-fits (ltb 254 (x .size)) (refuse-fits (Outcome.refused 6) refl) (pend-fits []))
-
-  timed-fits : (p : P) (s : Session P) (ms : List Made) (i ver : ℕ) (x : Sight) → Owned d s ms →
-      Fits p s x (madeFor i d ms) (ignored (view s) i x) (handleTimed (view s) i ver x)
-  unfolding handleTimed ignored view refuses
-  timed-fits p s ms i ver x o =
-      cond-fits p s x (madeFor i d ms) (x .valid)
-      (go (deviceForInterface cap i (view s)) (find-takes ms (s .connection .nextId) cap i (item x p) (s .devices) (o .told)))
-      (refuse-fits p s x (madeFor i d ms) (Outcome.refused 10) refl)
-    where
-      cap : ℕ
-      cap = capabilityIndex (handler (x .kind) .capability)
-
-      go : (w : Option Found) → Takes ms (s .connection .nextId) cap i (item x p) (s .devices) w →
-          Fits p s x (madeFor i d ms) (ignoredOn w x) (onFound w ignore (λ f. handle (handler (x .kind) .rule) ver f x))
-      go none h = ignore-fits p s x (madeFor i d ms)
-      go (some f) h = handle-fits p s x (madeFor i d ms) f h (handler (x .kind) .rule) ver
+  -- the papers' words for a request of sight x on interface i, with what a plan takes
+  leaf-took : {now i ver : ℕ} {x : Sight} {plan : Plan} (p : P) (s : Session P) (ms : List Made) → Owned d s ms → Leaf (view s) now (Call.timed i ver x) plan →
+      tookAll d (plan .edits) p s ≡ cond (not (refuses (plan .outcome)) && (not (ignored (view s) i x) && madeFor i d ms)) (item x p ∷ []) []
+  unfolding answer ignore pendAfter edit refuses tookAll view deviceForInterface
+  leaf-took p s ms o (Leaf.turned out h m) = rw h
+  leaf-took p s ms o (Leaf.passed h) = rw h
+  leaf-took p s ms o (Leaf.pended {i = i} {x = x} f amends e g t) =
+      let cap = capabilityIndex (handler (x .kind) .capability) in
+      rw g (pend-took (f .slot) x p amends s ∙ subst (Takes ms (s .connection .nextId) cap i (item x p) (s .devices)) e (find-takes ms (s .connection .nextId) cap i (item x p) (s .devices) (o .told)))
 
 -- ---- every call
 
 pub turn-took : (d : ℕ) (now : ℕ) (c : Call Input) (s : Session Load) (ms : List Made) → Owned d s ms →
     tookAll d (decide (view s) now (mapCall sight c) .edits) (loadOf c) s ≡ takenOf d ms (view s) (decide (view s) now (mapCall sight c) .outcome) c
-unfolding decide mapCall loadOf takenOf
-turn-took d now (Call.timed i ver a) s ms o = timed-fits d (load a) s ms i ver (sight a) o .fits
-turn-took d now (Call.plain c) s ms o = plain-took d (decidePlain (view s) now c) Load.None s (plain-formed (view s) now c)
+unfolding mapCall loadOf takenOf isTimed
+turn-took d now (Call.timed i ver a) s ms o = leaf-took d (load a) s ms o (walk (view s) now (Call.timed i ver (sight a)))
+turn-took d now (Call.plain c) s ms o = plain-took d (decide (view s) now (Call.plain c)) Load.None s (decide-formed (view s) now (Call.plain c))

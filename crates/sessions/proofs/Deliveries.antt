@@ -4,20 +4,15 @@ use mathlib.Core.Path.{_≡_, refl, sym, ap, _∙_}
 use mathlib.Core.Bool.{Bool, true, false, cond, true≢false}
 use mathlib.Core.List.{List, [], _∷_}
 use mathlib.Core.Logic.{_⊎_, inl, inr}
-use mathlib.Core.Option.{Option, none, some}
-use lib.Dec.{eqb, leb, ltb}
-use lib.ListN.{length}
-use Rattle.eiproto.specs.Bits.{contains}
-use Rattle.eiproto.specs.Capability.{capabilityIndex, unknownBits}
-use Rattle.utf8.specs.Rfc3629.{isUtf8}
-use Rattle.wire.specs.declared.event.Event.{Event}
-use Rattle.touches.specs.Touches.{member}
-use Rattle.model.specs.Call.{Sight, HandshakeRequest, Plain, Call, Split}
-use Rattle.model.specs.Session.{Untimed, Request, Seat, Session, View, view}
+use mathlib.Core.Option.{none}
+use lib.Dec.{ltb}
+use Rattle.model.specs.Call.{Sight, Call, Split}
+use Rattle.model.specs.Session.{Seat, Session, View, view}
 use Rattle.model.specs.Edit.{Amend, Edit, enact}
-use Rattle.model.specs.Plan.{Sent, Outcome, refusal, Plan, answer, refuse, ignore, edit, send}
-use Rattle.model.specs.Decide.{Found, Rule, handler, checkUtf8, checkName, checkOptional, checkCapabilities, deviceOf, deviceForInterface, seatOf, onFound, sendNext, pendAfter, ifHeld, handle, handleTimed, handleHandshake, handleSync, handleSeat, handleDevice, handleFrame, handleRelease, nextOf, addSeat, addDevice, objectsOf, seatObjects, sendDestroyed, removeDevice, removeSeat, removeSeats, disconnected, notify, decidePlain, decide}
+use Rattle.model.specs.Plan.{Sent, Outcome, refusal, Plan, answer, ignore, edit, send}
+use Rattle.model.specs.Decide.{Found, sendNext, pendAfter, sendDestroyed, removeSeats, decide}
 use Rattle.model.specs.Step.{Step, gave, gaveAll, carriedOut, source, Counts, counts, over, anyOver, refuseIf, limits, refuses, unchanged, settled, bytesNeeded, limited, step}
+use Rattle.model.proofs.Walk.{Noted, Leaf, walk}
 
 -- whether an edit of the list delivers a request
 unfoldable delivers : List Edit → Bool
@@ -50,157 +45,42 @@ data Tells : Plan → Type 0 where
   silent : (o : Outcome) (events : List Sent) (edits : List Edit) → delivers edits ≡ false → Tells (record { outcome = o; events = events; edits = edits })
   gives : (events : List Sent) (edits : List Edit) → Tells (record { outcome = Outcome.given; events = events; edits = edits })
 
--- ---- the formers of plans
-
-answer-tells : (o : Outcome) → Tells (answer o)
-unfolding answer delivers
-answer-tells o = Tells.silent o [] [] refl
-
-refuse-tells : (n : ℕ) → Tells (refuse n)
-unfolding refuse
-refuse-tells n = answer-tells (Outcome.refused n)
-
-ignore-tells : Tells ignore
-unfolding ignore
-ignore-tells = answer-tells Outcome.accepted
-
-send-tells : (events : List Sent) (edits : List Edit) → delivers edits ≡ false → Tells (send events edits)
-unfolding send
-send-tells events edits h = Tells.silent Outcome.accepted events edits h
-
-edit-tells : (edits : List Edit) → delivers edits ≡ false → Tells (edit edits)
-unfolding edit
-edit-tells edits h = Tells.silent Outcome.accepted [] edits h
-
-cond-tells : (b : Bool) {x y : Plan} → Tells x → Tells y → Tells (cond b x y)
-cond-tells true hx hy = hx
-cond-tells false hx hy = hy
-
-onFound-tells : {A : Type 0} (o : Option A) {else : Plan} {then : A → Plan} → Tells else → ((x : A) → Tells (then x)) → Tells (onFound o else then)
-unfolding onFound
-onFound-tells none h k = h
-onFound-tells (some x) h k = k x
-
-checkUtf8-tells : (text : List ℕ) {x : Plan} → Tells x → Tells (checkUtf8 text x)
-unfolding checkUtf8
-checkUtf8-tells text h = cond-tells (isUtf8 text) h (refuse-tells 10)
-
-checkName-tells : (text : List ℕ) {x : Plan} → Tells x → Tells (checkName text x)
-unfolding checkName
-checkName-tells text h = checkUtf8-tells text (cond-tells (ltb 254 (length text)) (refuse-tells 11) h)
-
-checkOptional-tells : (text : Option (List ℕ)) {x : Plan} → Tells x → Tells (checkOptional text x)
-unfolding checkOptional
-checkOptional-tells none h = h
-checkOptional-tells (some text) h = checkName-tells text h
-
-checkCapabilities-tells : (caps : ℕ) {x : Plan} → Tells x → Tells (checkCapabilities caps x)
-unfolding checkCapabilities
-checkCapabilities-tells caps h = cond-tells (unknownBits caps) (refuse-tells 13) h
-
-sendNext-tells : (v : View) (object : ℕ) (event : ℕ → Event) (edits : List Edit) → delivers edits ≡ false → Tells (sendNext v object event edits)
-unfolding sendNext delivers
-sendNext-tells v object event edits h = send-tells _ _ h
-
-sendDestroyed-tells : (v : View) (objects : List ℕ) (edits : List Edit) → delivers edits ≡ false → Tells (sendDestroyed v objects edits)
-unfolding sendDestroyed delivers
-sendDestroyed-tells v objects edits h = send-tells _ _ h
-
-notify-tells : (v : View) (id : ℕ) (event : ℕ → Event) (edits : ℕ → List Edit) → ((k : ℕ) → delivers (edits k) ≡ false) → Tells (notify v id event edits)
-unfolding notify
-notify-tells v id event edits h = onFound-tells (deviceOf id v) (refuse-tells 12) λ f. sendNext-tells v id event (edits (f .slot)) (h (f .slot))
-
--- ---- timed requests
-
 pend-silent : (amends : List Amend) (f : Found) (i : Sight) → delivers (pendAfter amends f i .edits) ≡ false
 unfolding pendAfter delivers
 pend-silent [] f i = refl
 pend-silent (a ∷ more) f i = pend-silent more f i
-
-pend-tells : (amends : List Amend) (f : Found) (i : Sight) → Tells (pendAfter amends f i)
-unfolding pendAfter
-pend-tells amends f i = edit-tells (pendAfter amends f i .edits) (pend-silent amends f i)
-
-held-tells : (f : Found) (i : Sight) (amends : List Amend) → Tells (ifHeld f i amends)
-unfolding ifHeld
-held-tells f i amends = cond-tells (member (i .touch) (f .device .downTouchIds)) (pend-tells amends f i) ignore-tells
-
-handle-tells : (r : Rule) (v : ℕ) (f : Found) (i : Sight) → Tells (handle r v f i)
-unfolding handle
-handle-tells Rule.queued v f i = pend-tells [] f i
-handle-tells Rule.down v f i = cond-tells (leb _ (length (f .device .downTouchIds))) (refuse-tells _) (cond-tells (member (i .touch) (f .device .downTouchIds)) (refuse-tells _) (pend-tells (Amend.touchDown (i .touch) ∷ []) f i))
-handle-tells Rule.motion v f i = held-tells f i []
-handle-tells Rule.up v f i = held-tells f i (Amend.touchUp (i .touch) ∷ [])
-handle-tells Rule.cancel v f i = cond-tells (ltb v _) (answer-tells _) (held-tells f i (Amend.touchUp (i .touch) ∷ []))
-handle-tells Rule.utf8 v f i = cond-tells (eqb (i .size) _) (refuse-tells _) (cond-tells (ltb _ (i .size)) (refuse-tells _) (pend-tells [] f i))
-
--- ---- any other call
 
 removeSeats-silent : (ss : List Seat) → delivers (removeSeats ss) ≡ false
 unfolding removeSeats delivers
 removeSeats-silent [] = refl
 removeSeats-silent (s ∷ ss) = removeSeats-silent ss
 
-handshake-tells : (r : HandshakeRequest) → Tells (handleHandshake r)
-unfolding handleHandshake
-handshake-tells (HandshakeRequest.HandshakeVersion v) = refuse-tells _
-handshake-tells HandshakeRequest.Finish = refuse-tells _
-handshake-tells (HandshakeRequest.ContextType t) = refuse-tells _
-handshake-tells (HandshakeRequest.Name t) = checkName-tells t (refuse-tells _)
-handshake-tells (HandshakeRequest.InterfaceVersion t v) = checkUtf8-tells t (refuse-tells _)
+noted-silent : {edits : List Edit} → Noted edits → delivers edits ≡ false
+unfolding delivers
+noted-silent Noted.nothing = refl
+noted-silent (Noted.clears k) = refl
+noted-silent (Noted.unlinks k i) = refl
 
-seat-tells : (v : View) (id caps : ℕ) (r : Untimed) → Tells (handleSeat v id caps r)
-unfolding handleSeat delivers
-seat-tells v id caps r =
-    onFound-tells (seatOf id v) ignore-tells λ s.
-    cond-tells (unknownBits caps) (refuse-tells _) (cond-tells (contains (s .capabilities) caps) (edit-tells _ refl) (refuse-tells _))
-
-device-tells : (v : View) (now id : ℕ) (r : Untimed) → Tells (handleDevice v now id r)
-unfolding handleDevice delivers
-device-tells v now id r = onFound-tells (deviceOf id v) ignore-tells λ f. edit-tells _ refl
-
-next-tells : (rs : List (Request (Unit {0}))) → Tells (nextOf rs)
-unfolding nextOf
-next-tells [] = answer-tells Outcome.none
-next-tells (r ∷ rs) = Tells.gives [] _
-
-plain-tells : (v : View) (now : ℕ) (c : Plain) → Tells (decidePlain v now c)
-unfolding decidePlain delivers handleSync handleFrame handleRelease addSeat addDevice removeDevice removeSeat disconnected
-plain-tells v now (Plain.handshake r) = handshake-tells r
-plain-tells v now (Plain.sync callback ver) = cond-tells (eqb ver _) (send-tells _ _ refl) (answer-tells _)
-plain-tells v now Plain.disconnect = edit-tells _ refl
-plain-tells v now Plain.pingpongDone = ignore-tells
-plain-tells v now (Plain.seatRelease seat) = sendNext-tells v seat (λ s. Event.Destroyed s) [] refl
-plain-tells v now (Plain.bind seat caps) = seat-tells v seat caps _
-plain-tells v now (Plain.requestDevice seat caps) = seat-tells v seat caps _
-plain-tells v now (Plain.deviceRelease d) = device-tells v now d _
-plain-tells v now (Plain.deviceStartEmulating d s q) = device-tells v now d _
-plain-tells v now (Plain.deviceStopEmulating d s) = device-tells v now d _
-plain-tells v now (Plain.deviceFrame d s t) = onFound-tells (deviceOf d v) ignore-tells λ f. edit-tells _ refl
-plain-tells v now (Plain.deviceReady d) = device-tells v now d _
-plain-tells v now (Plain.interfaceRelease cap i) = onFound-tells (deviceForInterface (capabilityIndex cap) i v) ignore-tells λ f. sendNext-tells v i (λ s. Event.Destroyed s) (Edit.amend (f .slot) (Amend.unlink i) ∷ []) refl
-plain-tells v now Plain.nextRequest = next-tells (v .requests)
-plain-tells v now (Plain.addSeat name caps) = checkOptional-tells name (checkCapabilities-tells caps (Tells.silent _ _ _ refl))
-plain-tells v now (Plain.addDevice seat name type caps) =
-    checkOptional-tells name (checkCapabilities-tells caps (onFound-tells (seatOf seat v) (refuse-tells _) λ s. Tells.silent _ _ _ refl))
-plain-tells v now (Plain.removeSeat seat) = onFound-tells (seatOf seat v) (refuse-tells 12) λ s. sendDestroyed-tells v (seatObjects seat (v .devices)) (Edit.removeDevicesOf seat ∷ Edit.removeSeat seat ∷ []) refl
-plain-tells v now (Plain.removeDevice d) = onFound-tells (deviceOf d v) (refuse-tells 12) λ f. sendDestroyed-tells v (objectsOf (f .device)) (Edit.removeDevice (f .slot) ∷ []) refl
-plain-tells v now (Plain.resumed d) = notify-tells v d (λ s. Event.Resumed s) (λ k. []) (λ k. refl)
-plain-tells v now (Plain.paused d) = notify-tells v d (λ s. Event.Paused s) (λ k. Edit.amend k Amend.clearTouches ∷ []) (λ k. refl)
-plain-tells v now (Plain.startEmulating d q) = notify-tells v d (λ s. Event.StartEmulating s q) (λ k. []) (λ k. refl)
-plain-tells v now (Plain.stopEmulating d) = notify-tells v d (λ s. Event.StopEmulating s) (λ k. []) (λ k. refl)
-plain-tells v now (Plain.frame d t) = notify-tells v d (λ s. Event.Frame s t) (λ k. []) (λ k. refl)
-plain-tells v now (Plain.disconnected reason explanation) = checkOptional-tells explanation (send-tells _ _ (removeSeats-silent (v .connection .seats)))
-plain-tells v now Plain.lastSerial = answer-tells _
-plain-tells v now (Plain.hasInterface name) = checkUtf8-tells name (answer-tells _)
-plain-tells v now (Plain.interfaceVersion name) = checkUtf8-tells name (answer-tells _)
-plain-tells v now (Plain.hasCapability d cap) = onFound-tells (deviceOf d v) (refuse-tells _) λ f. answer-tells _
+leaf-tells : {v : View} {now : ℕ} {c : Call Sight} {plan : Plan} → Leaf v now c plan → Tells plan
+unfolding answer ignore pendAfter edit send sendNext sendDestroyed delivers
+leaf-tells (Leaf.turned o h m) = Tells.silent o [] [] refl
+leaf-tells (Leaf.passed h) = Tells.silent Outcome.accepted [] [] refl
+leaf-tells (Leaf.pended {x = x} f amends e g t) = Tells.silent Outcome.accepted [] _ (pend-silent amends f x)
+leaf-tells (Leaf.answered o m) = Tells.silent o [] [] refl
+leaf-tells (Leaf.synced callback) = Tells.silent _ _ _ refl
+leaf-tells (Leaf.noted object event edits h) = Tells.silent _ _ _ (noted-silent h)
+leaf-tells (Leaf.deviceGone id f e) = Tells.silent _ _ _ refl
+leaf-tells (Leaf.seatGone id) = Tells.silent _ _ _ refl
+leaf-tells {v = v} (Leaf.allGone reason explanation) = Tells.silent _ _ _ (removeSeats-silent (v .connection .seats))
+leaf-tells (Leaf.queued u h) = Tells.silent _ _ _ refl
+leaf-tells (Leaf.flushed id f u e h) = Tells.silent _ _ _ refl
+leaf-tells (Leaf.closed id serial time f e) = Tells.silent _ _ _ refl
+leaf-tells Leaf.handed = Tells.gives [] _
+leaf-tells (Leaf.newSeat name caps) = Tells.silent _ _ _ refl
+leaf-tells (Leaf.newDevice seat name type both) = Tells.silent _ _ _ refl
 
 decide-tells : (v : View) (now : ℕ) (c : Call Sight) → Tells (decide v now c)
-unfolding decide handleTimed
-decide-tells v now (Call.timed i ver s) =
-    cond-tells (s .valid) (onFound-tells (deviceForInterface (capabilityIndex (handler (s .kind) .capability)) i v) ignore-tells (λ f. handle-tells (handler (s .kind) .rule) ver f s)) (refuse-tells _)
-decide-tells v now (Call.plain c) = plain-tells v now c
+decide-tells v now c = leaf-tells (walk v now c)
 
 -- ---- the step
 
