@@ -16,7 +16,8 @@ use Rattle.model.specs.Plan as plan
 use Rattle.model.specs.Decide.{decidePlain, decide}
 use Rattle.model.specs.Step.{Step, refuses, unchanged, carriedOut, step}
 use Rattle.steps.proofs.Steps.{step-answer}
-use Rattle.control.specs.Sound.{Sound}
+use Rattle.control.specs.Sound.{Sound, isSound}
+use Rattle.control.proofs.Sounds.{bounds-sound}
 use Rattle.store.specs.View.{Store, store, session, isWhole, Whole}
 use Rattle.store.specs.Enact.{Enacted}
 use Rattle.store.proofs.Views.{whole-parts}
@@ -24,7 +25,7 @@ use Rattle.answers.specs.Answer.{errorOf, numberOf, outcomeOf}
 use Rattle.answers.specs.declared.Error.{Error}
 use Rattle.answers.specs.declared.Outcome.{Outcome}
 use Rattle.answers.specs.declared.Answer.{Answer}
-use Rattle.answers.specs.Meets.{Meets, turn, Handled, Answered}
+use Rattle.answers.specs.Meets.{Meets, turn, Handled, Answered, HandledControl, AnsweredControl}
 
 -- nothing changed, nothing written
 pub meets-unchanged : (s : Store) (out : List ℕ) (to : Step Load) (o : plan.Outcome) (r : Answer) → Whole s → to ≡ unchanged (session s) o
@@ -55,12 +56,19 @@ meets-done s e out later to p load r w is done fine told count bytes =
       kept = λ h. let z : _≡_ {A = ℕ} 0 1 = ap (λ (b : Bool). cond b 0 1) (sym h ∙ ap (λ (x : Step Load). refuses (x .outcome)) is ∙ fine) in absurd (omega arith);
     }
 
+-- a test that a function answers, behind `if !..`
+pub failed : {b x : Bool} → b ≡ x → not b ≡ true → x ≡ false
+failed {b} e h = sym e ∙ not-true b h
+
+pub passed : {b x : Bool} → b ≡ x → not b ≡ false → x ≡ true
+passed {b} e h = sym e ∙ not-false b h
+
 -- refusal 21's test
 pub whole-failed : (s : Store) {b : Bool} → b ≡ isWhole s → not b ≡ true → isWhole s ≡ false
-whole-failed s {b} e h = sym e ∙ not-true b h
+whole-failed s e h = failed e h
 
 pub whole-passed : (s : Store) {b : Bool} → b ≡ isWhole s → not b ≡ false → isWhole s ≡ true
-whole-passed s {b} e h = sym e ∙ not-false b h
+whole-passed s e h = passed e h
 
 -- 21, and what follows where it does not apply
 pub damaged-answered : (s : Store) (out : List ℕ) (call : Call Input) (clock : ℕ) (r : Answer) → isWhole s ≡ false
@@ -70,6 +78,20 @@ damaged-answered s out call clock r d e = record { damaged = λ _. (e, (refl, re
 pub whole-answered : {s e : Store} {out later : List ℕ} {call : Call Input} {clock : ℕ} {r : Answer} → isWhole s ≡ true
     → Handled s e out later call clock r → Answered s e out later call clock r
 whole-answered w h = record { damaged = λ d. absurd (false≢true (sym d ∙ w)); handled = λ _. h }
+
+-- the same of the control words alone
+pub unsound-answered : {c out : List ℕ} {call : Call Input} {clock : ℕ} {r : Answer} → isSound c ≡ false
+    → (r .outcome ≡ Outcome.Refused Error.BadState) × (r .count ≡ 0) → AnsweredControl c c out out call clock r
+unsound-answered d e = record { damaged = λ _. (e, (refl, refl)); handled = λ w. absurd (false≢true (sym d ∙ w)) }
+
+pub sound-answered : {c d out later : List ℕ} {call : Call Input} {clock : ℕ} {r : Answer} → isSound c ≡ true
+    → HandledControl c d out later call clock r → AnsweredControl c d out later call clock r
+sound-answered w h = record { damaged = λ d. absurd (false≢true (sym d ∙ w)); handled = λ _. h }
+
+-- on a session that is not damaged such a call is as any other
+pub control-handled : {c d out later : List ℕ} {call : Call Input} {clock : ℕ} {r : Answer} (w : List ℕ) (q : List Float) (t : List ℕ)
+    → AnsweredControl c d out later call clock r → isWhole (store c w q t) ≡ true → Handled (store c w q t) (store d w q t) out later call clock r
+control-handled w q t a h = let whole = whole-parts (store _ w q t) h in a .handled (bounds-sound _ (whole .sound)) w q t whole
 
 -- refused by a limit
 pub over-handled : (s : Store) (out : List ℕ) (call : Call Input) (clock : ℕ) (o : Outcome) (r : Answer) → Whole s

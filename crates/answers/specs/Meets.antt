@@ -9,6 +9,7 @@ use Rattle.wire.specs.Bits.{splice}
 use Rattle.model.specs.Call.{Input, Load, Call, Turn, split}
 use Rattle.model.specs.Plan.{records}
 use Rattle.model.specs.Step.{Step, refuses, step}
+use Rattle.control.specs.Sound.{isSound}
 use Rattle.store.specs.View.{Store, store, session, isWhole, Whole}
 use Rattle.answers.specs.Answer.{outcomeOf}
 use Rattle.answers.specs.declared.Error.{Error}
@@ -47,3 +48,8 @@ HandledRows c w r d v q out later call clock a = (texts : List ℕ) → Whole (s
 -- a call that the control words alone are changed by
 abbrev pub HandledControl : (c d out later : List ℕ) (call : Call Input) (clock : ℕ) (a : Answer) → Type 0
 HandledControl c d out later call clock a = (w : List ℕ) (r : List Float) → HandledRows c w r d w r out later call clock a
+
+-- A CALL THAT IS LENT THE CONTROL WORDS ALONE: 21 is for them alone, and else it is the model's, whatever the requests and the texts are
+pub record AnsweredControl (c d out later : List ℕ) (call : Call Input) (clock : ℕ) (r : Answer) : Type 0 where
+  pub damaged : isSound c ≡ false → ((r .outcome ≡ Outcome.Refused Error.BadState) × (r .count ≡ 0)) × ((d ≡ c) × (later ≡ out))
+  pub handled : isSound c ≡ true → HandledControl c d out later call clock r

@@ -11,20 +11,19 @@ use events::Mark;
 use wire::event;
 use wire::event::Event;
 ghost use mathlib.Core.Path.{_≡_};
-ghost use mathlib.Core.List.{List};
 ghost use Prim.Native.Nat.{ℕ, _+_, _≤_, _<_};
 ghost use lib.ListN.{length};
 ghost use Rattle.eiproto.specs.Interface.{lookup};
-ghost use Rattle.model.specs.Call.{Plain, Call};
+ghost use Rattle.model.specs.Call.{Plain};
 ghost use Rattle.model.specs.Plan.{records};
 ghost use Rattle.model.specs.Decide.{nameEvents, negotiated};
 ghost use Rattle.control.specs.Answer.{versionTold};
 ghost use Rattle.control.specs.Control.{controlLength, connectionOf};
 ghost use Rattle.control.specs.Sound.{Sound};
-ghost use Rattle.store.specs.View.{store, Lent};
-ghost use Rattle.events.specs.Events.{Sends};
-ghost use Rattle.answers.specs.Meets.{Answered, HandledControl, HandledRows};
+ghost use Rattle.store.specs.View.{Lent};
+ghost use Rattle.answers.specs.Promise.{Promise, Reply};
 ghost use Rattle.connection.specs.Call.{optional, Checks, seatEvents};
+ghost use Rattle.connection.specs.Lent.{text, HandlesControl, HandlesRows, Writes};
 
 // The number of `ei_seat`.
 const SEAT: u8 = 4;
@@ -52,7 +51,7 @@ pub fn check_optional(given: bool, text: &[u8]) -> Checked
 
 // The bytes of a name event, 0 where no name is given.
 pub fn name_length(given: bool, name: &[u8]) -> usize
-    ensures { λ r. ⌜ ((object : ℕ) → r ≡ length (records (nameEvents object (optional given (now (name .entry)))))) × (r ≤ 10 + length (now (name .entry))) ⌝ }
+    ensures { λ r. ⌜ ((object : ℕ) → r ≡ length (records (nameEvents object (text given name)))) × (r ≤ 10 + length (now (name .entry))) ⌝ }
 {
     if given {
         event::record_length(Event::Name, name)
@@ -64,7 +63,7 @@ pub fn name_length(given: bool, name: &[u8]) -> usize
 // The name event, at a place that has room for it; the place behind it.
 pub fn write_name(out: &mut [u8], at: usize, object: u64, given: bool, name: &[u8]) -> usize
     requires { ⌜ at + length (records (nameEvents object (optional given (now name)))) ≤ length (now out) ⌝ }
-    ensures { λ r. ⌜ Sends (now (out .entry)) (now (out .exit)) at (nameEvents object (optional given (now (name .entry)))) r ⌝ }
+    ensures { λ r. ⌜ Writes out at (nameEvents object (text given name)) r ⌝ }
 {
     if given {
         events::send(out, at, object, Event::Name, name)
@@ -83,7 +82,7 @@ fn seat_length(
     capabilities: u64,
 ) -> usize
     requires { ⌜ Sound (now control) × (capabilities < 128) ⌝ }
-    ensures { λ r. ⌜ r ≡ length (records (seatEvents (connectionOf (now (control .entry))) id version (optional given (now (name .entry))) capabilities)) ⌝ }
+    ensures { λ r. ⌜ r ≡ length (records (seatEvents (connectionOf (now (control .entry))) id version (text given name) capabilities)) ⌝ }
 {
     let seat = event::fixed_length(Event::Seat { id, version });
     let done = event::fixed_length(Event::Done);
@@ -100,7 +99,7 @@ fn write_seat_events(
     out: &mut [u8],
 ) -> usize
     requires { ⌜ Sound (now control) × ((capabilities < 128) × (length (records (seatEvents (connectionOf (now control)) id version (optional given (now name)) capabilities)) ≤ length (now out))) ⌝ }
-    ensures { λ r. ⌜ Sends (now (out .entry)) (now (out .exit)) 0 (seatEvents (connectionOf (now (control .entry))) id version (optional given (now (name .entry))) capabilities) r ⌝ }
+    ensures { λ r. ⌜ Writes out 0 (seatEvents (connectionOf (now (control .entry))) id version (text given name) capabilities) r ⌝ }
 {
     let connection = control::connection_id(control);
     let seat = events::send(out, 0, connection, Event::Seat { id, version }, b"");
@@ -118,7 +117,7 @@ fn add_seat_at(
     out: &mut [u8],
 ) -> Answer
     requires { ⌜ Sound (now control) × ((capabilities < 128) × Checks (optional given (now name)) Checked.Fine) ⌝ }
-    ensures { λ r. ⌜ ((clock : ℕ) → HandledControl (now (control .entry)) (now (control .exit)) (now (out .entry)) (now (out .exit)) (Call.plain (Plain.addSeat (optional given (now (name .entry))) capabilities)) clock r) ⌝ }
+    ensures { λ r. ⌜ HandlesControl control out (Plain.addSeat (text given name) capabilities) r ⌝ }
 {
     if 4 <= control::seat_count(control) {
         return Answer::refused(Error::FullSeats);
@@ -150,7 +149,7 @@ pub fn add_seat(
     capabilities: u64,
     out: &mut [u8],
 ) -> Answer
-    ensures { λ r. ⌜ ((clock : ℕ) → Answered (store (now (control .entry)) (now (words .entry)) (now (reals .entry)) (now (texts .entry))) (store (now (control .exit)) (now (words .entry)) (now (reals .entry)) (now (texts .entry))) (now (out .entry)) (now (out .exit)) (Call.plain (Plain.addSeat (optional given (now (name .entry))) capabilities)) clock r) ⌝ }
+    ensures { λ r. ⌜ Promise control words reals texts out (Plain.addSeat (text given name) capabilities) r ⌝ }
 {
     if !store::whole(control, words, reals, texts) {
         return Answer::refused(Error::BadState);
@@ -177,7 +176,7 @@ fn disconnected_at(
     out: &mut [u8],
 ) -> Answer
     requires { ⌜ Lent (now control) (now words) (now reals) × Checks (optional given (now explanation)) Checked.Fine ⌝ }
-    ensures { λ r. ⌜ ((clock : ℕ) → HandledRows (now (control .entry)) (now (words .entry)) (now (reals .entry)) (now (control .exit)) (now (words .exit)) (now (reals .exit)) (now (out .entry)) (now (out .exit)) (Call.plain (Plain.disconnected reason (optional given (now (explanation .entry))))) clock r) ⌝ }
+    ensures { λ r. ⌜ HandlesRows control words reals out (Plain.disconnected reason (text given explanation)) r ⌝ }
 {
     let number = reason.number();
     let gone = events::DESTROYED_LENGTH * events::seats_objects(control);
@@ -217,7 +216,7 @@ pub fn disconnected(
     explanation: &[u8],
     out: &mut [u8],
 ) -> Answer
-    ensures { λ r. ⌜ ((clock : ℕ) → Answered (store (now (control .entry)) (now (words .entry)) (now (reals .entry)) (now (texts .entry))) (store (now (control .exit)) (now (words .exit)) (now (reals .exit)) (now (texts .entry))) (now (out .entry)) (now (out .exit)) (Call.plain (Plain.disconnected reason (optional given (now (explanation .entry))))) clock r) ⌝ }
+    ensures { λ r. ⌜ Promise control words reals texts out (Plain.disconnected reason (text given explanation)) r ⌝ }
 {
     if !store::whole(control, words, reals, texts) {
         return Answer::refused(Error::BadState);
@@ -230,7 +229,7 @@ pub fn disconnected(
 
 // `Connection::last_serial`.
 pub fn last_serial(control: &[u64], words: &[u64], reals: &[f32], texts: &[u8]) -> Answer
-    ensures { λ r. ⌜ ((clock : ℕ) (out : List ℕ) → Answered (store (now (control .entry)) (now (words .entry)) (now (reals .entry)) (now (texts .entry))) (store (now (control .entry)) (now (words .entry)) (now (reals .entry)) (now (texts .entry))) out out (Call.plain (Plain.lastSerial)) clock r) ⌝ }
+    ensures { λ r. ⌜ Reply control words reals texts Plain.lastSerial r ⌝ }
 {
     if !store::whole(control, words, reals, texts) {
         return Answer::refused(Error::BadState);
@@ -257,7 +256,7 @@ pub fn has_interface(
     texts: &[u8],
     name: &[u8],
 ) -> Answer
-    ensures { λ r. ⌜ ((clock : ℕ) (out : List ℕ) → Answered (store (now (control .entry)) (now (words .entry)) (now (reals .entry)) (now (texts .entry))) (store (now (control .entry)) (now (words .entry)) (now (reals .entry)) (now (texts .entry))) out out (Call.plain (Plain.hasInterface (now (name .entry)))) clock r) ⌝ }
+    ensures { λ r. ⌜ Reply control words reals texts (Plain.hasInterface (now (name .entry))) r ⌝ }
 {
     if !store::whole(control, words, reals, texts) {
         return Answer::refused(Error::BadState);
@@ -279,7 +278,7 @@ pub fn interface_version(
     texts: &[u8],
     name: &[u8],
 ) -> Answer
-    ensures { λ r. ⌜ ((clock : ℕ) (out : List ℕ) → Answered (store (now (control .entry)) (now (words .entry)) (now (reals .entry)) (now (texts .entry))) (store (now (control .entry)) (now (words .entry)) (now (reals .entry)) (now (texts .entry))) out out (Call.plain (Plain.interfaceVersion (now (name .entry)))) clock r) ⌝ }
+    ensures { λ r. ⌜ Reply control words reals texts (Plain.interfaceVersion (now (name .entry))) r ⌝ }
 {
     if !store::whole(control, words, reals, texts) {
         return Answer::refused(Error::BadState);

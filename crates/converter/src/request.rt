@@ -10,7 +10,7 @@ use store::REALS_LENGTH;
 use store::TEXTS_LENGTH;
 use store::WORDS_LENGTH;
 ghost use Rattle.store.specs.View.{store};
-ghost use Rattle.answers.specs.Meets.{Answered};
+ghost use Rattle.answers.specs.Promise.{PromiseAt};
 ghost use Rattle.handlers.specs.Call.{callOf};
 ghost use Rattle.converter.specs.Next.{Begins, Delivered};
 
@@ -27,7 +27,7 @@ pub fn handle_request(
     clock: u64,
     out: &mut [u8],
 ) -> Answer
-    ensures { λ r. ⌜ Answered (store (now (control .entry)) (now (words .entry)) (now (reals .entry)) (now (texts .entry))) (store (now (control .exit)) (now (words .exit)) (now (reals .exit)) (now (texts .exit))) (now (out .entry)) (now (out .exit)) (callOf request object version (now (text .entry))) clock r ⌝ }
+    ensures { λ r. ⌜ PromiseAt control words reals texts out (callOf request object version (now (text .entry))) clock r ⌝ }
 {
     if !store::whole(control, words, reals, texts) {
         return Answer::refused(Error::BadState);

@@ -23,17 +23,17 @@ use Rattle.steps.proofs.Steps.{step-sent, step-sent-short}
 use Rattle.control.specs.Table.{first}
 use Rattle.control.specs.Control.{deviceCount, connectionOf, coreAt, coresOf}
 use Rattle.control.specs.Sound.{Sound}
-use Rattle.store.specs.View.{Store, store, session, isWhole}
+use Rattle.store.specs.View.{Store, store, session, Whole}
 use Rattle.store.specs.Enact.{Enacts}
-use Rattle.store.proofs.Views.{whole-parts, enacted-none, enacted-join, devices-length}
+use Rattle.store.proofs.Views.{enacted-none, enacted-join, devices-length}
 use Rattle.events.specs.Events.{Sends}
 use Rattle.events.proofs.Writes.{one-length}
 use Rattle.answers.specs.Answer.{outcomeOf}
 use Rattle.answers.specs.declared.Error.{Error}
 use Rattle.answers.specs.declared.Outcome.{Outcome}
 use Rattle.answers.specs.declared.Answer.{Answer}
-use Rattle.answers.specs.Meets.{turn, Answered}
-use Rattle.answers.proofs.Meetings.{meets-done, whole-after, whole-answered, over-handled, told-answered}
+use Rattle.answers.specs.Meets.{turn, Handled}
+use Rattle.answers.proofs.Meetings.{meets-done, whole-after, over-handled, told-handled}
 use Rattle.device.specs.declared.Notice.{Notice}
 use Rattle.device.specs.Notice.{noticeCall, noticeEvent, noticeEdits}
 use Rattle.device.proofs.Plans.{notice-plan, capability-plan, notice-quiet, notice-length}
@@ -69,7 +69,7 @@ pub notice-room : (n : Notice) (serial : ℕ) {x : ℕ} {told : Event} (text : L
     → 0 + recordLength told text ≤ size
 notice-room n serial text size t l h = omega (arith, told-length n serial text t l)
 
-module _ (s : Store) (w : isWhole s ≡ true) (out : List ℕ) (device clock : ℕ) (n : Notice) (serial : ℕ) {k x : ℕ} {told : Event}
+module _ (s : Store) (whole : Whole s) (out : List ℕ) (device clock : ℕ) (n : Notice) (serial : ℕ) {k x : ℕ} {told : Event}
     (e : first (λ d. eqb (d .id) device) (coresOf (s .control)) ≡ some k) (l : serial ≡ nextSerial (connectionOf (s .control) .lastSerial))
     (t : told ≡ noticeEvent n serial) (f : x ≡ fixedLength told) where
   abbrev call : Plain
@@ -92,27 +92,24 @@ module _ (s : Store) (w : isWhole s ≡ true) (out : List ℕ) (device clock : �
   events-length = one-length device told [] ∙ told-length n serial [] t f
 
   pub notice-short : {r : Answer} → length out < x → (r .outcome ≡ Outcome.Refused Error.ShortOut) × (r .count ≡ 0)
-      → Answered s s out out (Call.plain call) clock r
+      → Handled s s out out (Call.plain call) clock r
   unfolding split
   notice-short {r} h a =
-      whole-answered w
-      (over-handled s out (Call.plain call) clock (Outcome.Refused Error.ShortOut) r (whole-parts s w)
-      (step-sent-short turned (session s) events edits planned (notice-quiet n k) (omega (arith, events-length))) a)
+      over-handled s out (Call.plain call) clock (Outcome.Refused Error.ShortOut) r whole
+      (step-sent-short turned (session s) events edits planned (notice-quiet n k) (omega (arith, events-length))) a
 
   pub notice-told : {c d later : List ℕ} {m : ℕ} {r : Answer} → x ≤ length out → Sends out later 0 events m
       → ((i : ℕ) → serial ≡ raised i (connectionOf (s .control) .lastSerial) → Enacts (s .control) c (Edit.raise i ∷ [])) → Enacts c d (noticeEdits n k)
-      → (r .outcome ≡ Outcome.Accepted) × (r .count ≡ m) → Answered s (store d (s .words) (s .reals) (s .texts)) out later (Call.plain call) clock r
+      → (r .outcome ≡ Outcome.Accepted) × (r .count ≡ m) → Handled s (store d (s .words) (s .reals) (s .texts)) out later (Call.plain call) clock r
   unfolding split send refuses
   notice-told {c} {d} {later} {r = r} h b raises more a =
-      let whole = whole-parts s w in
       let both =
       enacted-join (raises 1 (raise-one (connectionOf (s .control) .lastSerial) l) (s .words) (s .reals) (s .texts) (turned .load))
       (more (s .words) (s .reals) (s .texts) (turned .load)) in
-      whole-answered w
-      (meets-done s (store d (s .words) (s .reals) (s .texts)) out later (step turned (session s)) (send events edits) (turned .load) r
+      meets-done s (store d (s .words) (s .reals) (s .texts)) out later (step turned (session s)) (send events edits) (turned .load) r
       (whole-after s whole (both .sound) refl refl)
       (step-sent turned (session s) events edits planned (notice-quiet n k) (omega (arith, events-length)))
-      both refl (ap outcomeOf (a .0)) (omega (arith, a .1, b .next)) (b .bytes))
+      both refl (ap outcomeOf (a .0)) (omega (arith, a .1, b .next)) (b .bytes)
 
 -- ---- whether a device has a capability
 
@@ -126,12 +123,12 @@ mask-lowest DeviceCapability.Scroll = refl
 mask-lowest DeviceCapability.Button = refl
 mask-lowest DeviceCapability.Text = refl
 
-module _ (s : Store) (w : isWhole s ≡ true) (out : List ℕ) (device clock : ℕ) (capability : DeviceCapability) where
+module _ (s : Store) (whole : Whole s) (out : List ℕ) (device clock : ℕ) (capability : DeviceCapability) where
   pub capability-told : {k mask bit : ℕ} {b : Bool} {r : Answer} → first (λ d. eqb (d .id) device) (coresOf (s .control)) ≡ some k
       → mask ≡ capabilityMask capability → bit ≡ lowestBit mask → b ≡ lists bit (coreAt (s .control) k .interfaces)
-      → (r .outcome ≡ Outcome.Truth b) × (r .count ≡ 0) → Answered s s out out (Call.plain (Plain.hasCapability device capability)) clock r
+      → (r .outcome ≡ Outcome.Truth b) × (r .count ≡ 0) → Handled s s out out (Call.plain (Plain.hasCapability device capability)) clock r
   capability-told {k} {b = b} {r} e m l h a =
       let i = l ∙ ap lowestBit m ∙ mask-lowest capability in
-      told-answered s out (Plain.hasCapability device capability) clock (Outcome.Truth b) r w
+      told-handled s out (Plain.hasCapability device capability) clock (Outcome.Truth b) r whole
       (capability-plan s device clock e capability
       ∙ ap (λ (v : Bool). answer (plan.Outcome.truth v)) (sym (h ∙ ap (λ (n : ℕ). lists n (coreAt (s .control) k .interfaces)) i))) a

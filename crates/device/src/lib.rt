@@ -8,14 +8,12 @@ use events::Mark;
 use wire::event;
 use wire::event::Event;
 ghost use mathlib.Core.Path.{_≡_};
-ghost use mathlib.Core.List.{List};
-ghost use Prim.Native.Nat.{ℕ, _<_};
-ghost use Rattle.model.specs.Call.{Plain, Call};
+ghost use Prim.Native.Nat.{_<_};
+ghost use Rattle.model.specs.Call.{Plain};
 ghost use Rattle.control.specs.Control.{deviceCount};
 ghost use Rattle.control.specs.Sound.{Sound};
-ghost use Rattle.store.specs.View.{store};
 ghost use Rattle.store.specs.Enact.{Enacts};
-ghost use Rattle.answers.specs.Meets.{Answered};
+ghost use Rattle.answers.specs.Promise.{Promise, PromiseControl, ReplyControl};
 ghost use Rattle.device.specs.Notice.{noticeCall, noticeEvent, noticeEdits};
 
 // `Device::remove`: its interfaces by capability bit, then itself. What it has pending is dropped, what is queued stays.
@@ -27,7 +25,7 @@ pub fn remove_device(
     device: u64,
     out: &mut [u8],
 ) -> Answer
-    ensures { λ r. ⌜ ((clock : ℕ) → Answered (store (now (control .entry)) (now (words .entry)) (now (reals .entry)) (now (texts .entry))) (store (now (control .exit)) (now (words .exit)) (now (reals .exit)) (now (texts .entry))) (now (out .entry)) (now (out .exit)) (Call.plain (Plain.removeDevice device)) clock r) ⌝ }
+    ensures { λ r. ⌜ Promise control words reals texts out (Plain.removeDevice device) r ⌝ }
 {
     if !store::whole(control, words, reals, texts) {
         return Answer::refused(Error::BadState);
@@ -82,18 +80,10 @@ fn enact(control: &mut [u64], k: usize, notice: Notice)
     }
 }
 
-fn notify(
-    control: &mut [u64],
-    words: &[u64],
-    reals: &[f32],
-    texts: &[u8],
-    device: u64,
-    notice: Notice,
-    out: &mut [u8],
-) -> Answer
-    ensures { λ r. ⌜ ((clock : ℕ) → Answered (store (now (control .entry)) (now (words .entry)) (now (reals .entry)) (now (texts .entry))) (store (now (control .exit)) (now (words .entry)) (now (reals .entry)) (now (texts .entry))) (now (out .entry)) (now (out .exit)) (Call.plain (noticeCall notice device)) clock r) ⌝ }
+fn notify(control: &mut [u64], device: u64, notice: Notice, out: &mut [u8]) -> Answer
+    ensures { λ r. ⌜ PromiseControl control out (noticeCall notice device) r ⌝ }
 {
-    if !store::whole(control, words, reals, texts) {
+    if !control::sound(control) {
         return Answer::refused(Error::BadState);
     }
     match control::find_device(control, device) {
@@ -112,109 +102,41 @@ fn notify(
     }
 }
 
-pub fn resumed(
-    control: &mut [u64],
-    words: &[u64],
-    reals: &[f32],
-    texts: &[u8],
-    device: u64,
-    out: &mut [u8],
-) -> Answer
-    ensures { λ r. ⌜ ((clock : ℕ) → Answered (store (now (control .entry)) (now (words .entry)) (now (reals .entry)) (now (texts .entry))) (store (now (control .exit)) (now (words .entry)) (now (reals .entry)) (now (texts .entry))) (now (out .entry)) (now (out .exit)) (Call.plain (Plain.resumed device)) clock r) ⌝ }
+pub fn resumed(control: &mut [u64], device: u64, out: &mut [u8]) -> Answer
+    ensures { λ r. ⌜ PromiseControl control out (Plain.resumed device) r ⌝ }
 {
-    notify(control, words, reals, texts, device, Notice::Resumed, out)
+    notify(control, device, Notice::Resumed, out)
 }
 
-pub fn paused(
-    control: &mut [u64],
-    words: &[u64],
-    reals: &[f32],
-    texts: &[u8],
-    device: u64,
-    out: &mut [u8],
-) -> Answer
-    ensures { λ r. ⌜ ((clock : ℕ) → Answered (store (now (control .entry)) (now (words .entry)) (now (reals .entry)) (now (texts .entry))) (store (now (control .exit)) (now (words .entry)) (now (reals .entry)) (now (texts .entry))) (now (out .entry)) (now (out .exit)) (Call.plain (Plain.paused device)) clock r) ⌝ }
+pub fn paused(control: &mut [u64], device: u64, out: &mut [u8]) -> Answer
+    ensures { λ r. ⌜ PromiseControl control out (Plain.paused device) r ⌝ }
 {
-    notify(control, words, reals, texts, device, Notice::Paused, out)
+    notify(control, device, Notice::Paused, out)
 }
 
-pub fn start_emulating(
-    control: &mut [u64],
-    words: &[u64],
-    reals: &[f32],
-    texts: &[u8],
-    device: u64,
-    sequence: u32,
-    out: &mut [u8],
-) -> Answer
-    ensures { λ r. ⌜ ((clock : ℕ) → Answered (store (now (control .entry)) (now (words .entry)) (now (reals .entry)) (now (texts .entry))) (store (now (control .exit)) (now (words .entry)) (now (reals .entry)) (now (texts .entry))) (now (out .entry)) (now (out .exit)) (Call.plain (Plain.startEmulating device sequence)) clock r) ⌝ }
+pub fn start_emulating(control: &mut [u64], device: u64, sequence: u32, out: &mut [u8]) -> Answer
+    ensures { λ r. ⌜ PromiseControl control out (Plain.startEmulating device sequence) r ⌝ }
 {
-    notify(
-        control,
-        words,
-        reals,
-        texts,
-        device,
-        Notice::StartEmulating { sequence },
-        out,
-    )
+    notify(control, device, Notice::StartEmulating { sequence }, out)
 }
 
-pub fn stop_emulating(
-    control: &mut [u64],
-    words: &[u64],
-    reals: &[f32],
-    texts: &[u8],
-    device: u64,
-    out: &mut [u8],
-) -> Answer
-    ensures { λ r. ⌜ ((clock : ℕ) → Answered (store (now (control .entry)) (now (words .entry)) (now (reals .entry)) (now (texts .entry))) (store (now (control .exit)) (now (words .entry)) (now (reals .entry)) (now (texts .entry))) (now (out .entry)) (now (out .exit)) (Call.plain (Plain.stopEmulating device)) clock r) ⌝ }
+pub fn stop_emulating(control: &mut [u64], device: u64, out: &mut [u8]) -> Answer
+    ensures { λ r. ⌜ PromiseControl control out (Plain.stopEmulating device) r ⌝ }
 {
-    notify(
-        control,
-        words,
-        reals,
-        texts,
-        device,
-        Notice::StopEmulating,
-        out,
-    )
+    notify(control, device, Notice::StopEmulating, out)
 }
 
-pub fn frame(
-    control: &mut [u64],
-    words: &[u64],
-    reals: &[f32],
-    texts: &[u8],
-    device: u64,
-    time: u64,
-    out: &mut [u8],
-) -> Answer
-    ensures { λ r. ⌜ ((clock : ℕ) → Answered (store (now (control .entry)) (now (words .entry)) (now (reals .entry)) (now (texts .entry))) (store (now (control .exit)) (now (words .entry)) (now (reals .entry)) (now (texts .entry))) (now (out .entry)) (now (out .exit)) (Call.plain (Plain.frame device time)) clock r) ⌝ }
+pub fn frame(control: &mut [u64], device: u64, time: u64, out: &mut [u8]) -> Answer
+    ensures { λ r. ⌜ PromiseControl control out (Plain.frame device time) r ⌝ }
 {
-    notify(
-        control,
-        words,
-        reals,
-        texts,
-        device,
-        Notice::Frame { time },
-        out,
-    )
+    notify(control, device, Notice::Frame { time }, out)
 }
 
 // `Device::has_capability`: whether the device lists an interface for it, linked or not.
-pub fn has_capability(
-    control: &[u64],
-    words: &[u64],
-    reals: &[f32],
-    texts: &[u8],
-    device: u64,
-    capability: DeviceCapability,
-) -> Answer
-    ensures { λ r. ⌜ ((clock : ℕ) (out : List ℕ) → Answered (store (now (control .entry)) (now (words .entry)) (now (reals .entry)) (now (texts .entry))) (store (now (control .entry)) (now (words .entry)) (now (reals .entry)) (now (texts .entry))) out out (Call.plain (Plain.hasCapability device capability)) clock r) ⌝ }
+pub fn has_capability(control: &[u64], device: u64, capability: DeviceCapability) -> Answer
+    ensures { λ r. ⌜ ReplyControl control (Plain.hasCapability device capability) r ⌝ }
 {
-    if !store::whole(control, words, reals, texts) {
+    if !control::sound(control) {
         return Answer::refused(Error::BadState);
     }
     match control::find_device(control, device) {

@@ -15,17 +15,16 @@ ghost use Prim.Native.Nat.{ℕ, _+_, _≤_, _<_};
 ghost use lib.Dec.{eqb};
 ghost use lib.ListN.{length};
 ghost use Rattle.eiproto.specs.Bits.{bitsOf};
-ghost use Rattle.model.specs.Call.{Plain, Call};
+ghost use Rattle.model.specs.Call.{Plain};
 ghost use Rattle.model.specs.Session.{Connection};
 ghost use Rattle.model.specs.Plan.{records};
 ghost use Rattle.control.specs.Table.{first};
 ghost use Rattle.control.specs.Control.{connectionOf};
 ghost use Rattle.control.specs.Sound.{Sound};
-ghost use Rattle.store.specs.View.{store};
-ghost use Rattle.events.specs.Events.{Sends};
-ghost use Rattle.answers.specs.Meets.{Answered, HandledControl};
+ghost use Rattle.answers.specs.Promise.{Promise};
 ghost use Rattle.connection.specs.declared.Checked.{Checked};
 ghost use Rattle.connection.specs.Call.{optional, Checks};
+ghost use Rattle.connection.specs.Lent.{text, HandlesControl, Writes};
 ghost use Rattle.seat.specs.Seat.{deviceEvents};
 
 // The number of `ei_device`.
@@ -34,7 +33,7 @@ const DEVICE: u8 = 5;
 // A device's events: itself, its name, its type, its interfaces, done.
 fn device_length(id: u64, version: u32, given: bool, name: &[u8], capabilities: u64) -> usize
     requires { ⌜ capabilities < 128 ⌝ }
-    ensures { λ r. ⌜ ((c : Connection) (seat kind : ℕ) → r ≡ length (records (deviceEvents c seat id version (optional given (now (name .entry))) kind capabilities))) ⌝ }
+    ensures { λ r. ⌜ ((c : Connection) (seat kind : ℕ) → r ≡ length (records (deviceEvents c seat id version (text given name) kind capabilities))) ⌝ }
 {
     let device = event::fixed_length(Event::Device { id, version });
     let kind = event::fixed_length(Event::DeviceType { value: 0 });
@@ -55,7 +54,7 @@ fn write_device_events(
     out: &mut [u8],
 ) -> usize
     requires { ⌜ Sound (now control) × ((capabilities < 128) × ((id + 1 + length (bitsOf capabilities) ≤ 18446744073709551615) × (length (records (deviceEvents (connectionOf (now control)) seat id version (optional given (now name)) kind capabilities)) ≤ length (now out)))) ⌝ }
-    ensures { λ r. ⌜ Sends (now (out .entry)) (now (out .exit)) 0 (deviceEvents (connectionOf (now (control .entry))) seat id version (optional given (now (name .entry))) kind capabilities) r ⌝ }
+    ensures { λ r. ⌜ Writes out 0 (deviceEvents (connectionOf (now (control .entry))) seat id version (text given name) kind capabilities) r ⌝ }
 {
     let device = events::send(out, 0, seat, Event::Device { id, version }, b"");
     let named = connection::write_name(out, device, id, given, name);
@@ -77,7 +76,7 @@ fn add_device_at(
     out: &mut [u8],
 ) -> Answer
     requires { ⌜ Sound (now control) × ((capabilities < 128) × (Checks (optional given (now name)) Checked.Fine × (first (λ t. eqb (t .id) seat) (connectionOf (now control) .seats) ≡ some k))) ⌝ }
-    ensures { λ r. ⌜ ((clock : ℕ) → HandledControl (now (control .entry)) (now (control .exit)) (now (out .entry)) (now (out .exit)) (Call.plain (Plain.addDevice seat (optional given (now (name .entry))) kind capabilities)) clock r) ⌝ }
+    ensures { λ r. ⌜ HandlesControl control out (Plain.addDevice seat (text given name) kind capabilities) r ⌝ }
 {
     if 8 <= control::device_count(control) {
         return Answer::refused(Error::FullDevices);
@@ -114,7 +113,7 @@ pub fn add_device(
     capabilities: u64,
     out: &mut [u8],
 ) -> Answer
-    ensures { λ r. ⌜ ((clock : ℕ) → Answered (store (now (control .entry)) (now (words .entry)) (now (reals .entry)) (now (texts .entry))) (store (now (control .exit)) (now (words .entry)) (now (reals .entry)) (now (texts .entry))) (now (out .entry)) (now (out .exit)) (Call.plain (Plain.addDevice seat (optional given (now (name .entry))) kind capabilities)) clock r) ⌝ }
+    ensures { λ r. ⌜ Promise control words reals texts out (Plain.addDevice seat (text given name) kind capabilities) r ⌝ }
 {
     if !store::whole(control, words, reals, texts) {
         return Answer::refused(Error::BadState);
@@ -151,7 +150,7 @@ pub fn remove_seat(
     seat: u64,
     out: &mut [u8],
 ) -> Answer
-    ensures { λ r. ⌜ ((clock : ℕ) → Answered (store (now (control .entry)) (now (words .entry)) (now (reals .entry)) (now (texts .entry))) (store (now (control .exit)) (now (words .exit)) (now (reals .exit)) (now (texts .entry))) (now (out .entry)) (now (out .exit)) (Call.plain (Plain.removeSeat seat)) clock r) ⌝ }
+    ensures { λ r. ⌜ Promise control words reals texts out (Plain.removeSeat seat) r ⌝ }
 {
     if !store::whole(control, words, reals, texts) {
         return Answer::refused(Error::BadState);

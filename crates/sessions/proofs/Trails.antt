@@ -6,7 +6,7 @@ use mathlib.Core.List.{List, [], _∷_, _++_, map}
 use lib.ListN.{length, take, drop}
 use lib.Seq.{take-append-seam}
 use Rattle.wire.specs.Bits.{splice}
-use Rattle.model.specs.Call.{Load, Turn, split}
+use Rattle.model.specs.Call.{Input, Load, Call, Turn, split}
 use Rattle.model.specs.Session.{Item, Request, Session, mapRequest, blank}
 use Rattle.model.specs.Plan.{records}
 use Rattle.model.specs.Step.{Step, step, run}
@@ -17,10 +17,11 @@ use Rattle.model.proofs.Provenance.{in-order}
 use Rattle.store.specs.View.{Store, session, isWhole}
 use Rattle.store.proofs.Views.{whole-is}
 use Rattle.answers.specs.Answer.{errorOf, outcomeOf}
-use Rattle.answers.specs.Meets.{Meets}
+use Rattle.answers.specs.Meets.{Meets, turn, Handled}
 use Rattle.answers.specs.declared.Error.{Error}
 use Rattle.answers.specs.declared.Outcome.{Outcome}
 use Rattle.answers.specs.declared.Answer.{Answer}
+use Rattle.answers.proofs.Meetings.{control-handled}
 use Rattle.converter.specs.Next.{givenIn, Gives}
 use Rattle.converter.specs.declared.request.NextRequest.{NextRequest}
 use Rattle.sessions.specs.Trail.{Exchange, turnOf, isAsked, Made, seen, shown, shownAll, Seen-is-run, Equal-seen, givenTo, Given-in-order}
@@ -34,16 +35,28 @@ bytes-are out {to = to} m = rw (m .count, m .bytes) (take-append-seam (records (
 serial-is : (e : Store) {t : Session Load} → session e ≡ t → session e .connection .lastSerial ≡ t .connection .lastSerial
 serial-is e h = ap (λ (x : Session Load). x .connection .lastSerial) h
 
-pub seen-is-run : Seen-is-run
+-- a call that was seen, by what it did on a session that is not damaged, and the calls behind it
+Rest-seen : Store → List Exchange → Type 0
 unfolding shownAll run observed
-seen-is-run s [] whole Made.none = refl
-seen-is-run s (Exchange.called call clock out later answer e ∷ xs) whole (Made.called a rest) =
-    let m = a .handled whole in
+Rest-seen e xs = map seen xs ≡ shownAll (map isAsked xs) (map observed (run (map split (map turnOf xs)) (session e)))
+
+call-seen : (call : Call Input) (clock : ℕ) {s e : Store} {out later : List ℕ} {answer : Answer} (xs : List Exchange) → Handled s e out later call clock answer
+    → Rest-seen e xs → Rest-seen s (Exchange.called call clock out later answer e ∷ xs)
+unfolding Rest-seen shownAll run observed
+call-seen call clock {e = e} {out = out} xs m rest =
     let b = bytes-are out m in
     let n = serial-is e (m .view) in
     ap₂ (λ (o : Observed) (os : List Observed). o ∷ os)
     (λ i. record { outcome = m .outcome i; bytes = b i; lastSerial = n i; given = [] })
-    (seen-is-run e xs (whole-is e (m .whole)) rest ∙ ap (λ (t : Session Load). shownAll (map isAsked xs) (map observed (run (map split (map turnOf xs)) t))) (m .view))
+    (rest ∙ ap (λ (t : Session Load). shownAll (map isAsked xs) (map observed (run (map split (map turnOf xs)) t))) (m .view))
+
+pub seen-is-run : Seen-is-run
+unfolding Rest-seen shownAll run observed
+seen-is-run s [] whole Made.none = refl
+seen-is-run s (Exchange.called call clock out later answer e ∷ xs) whole (Made.called a rest) =
+    let m = a .handled whole in call-seen call clock xs m (seen-is-run e xs (whole-is e (m .whole)) rest)
+seen-is-run s (Exchange.called call clock out later answer e ∷ xs) whole (Made.calledControl a rest) =
+    let m = control-handled _ _ _ a whole in call-seen call clock xs m (seen-is-run e xs (whole-is e (m .whole)) rest)
 seen-is-run s (Exchange.asked clock buffer later answer e ∷ xs) whole (Made.asked a rest) =
     let m = a .handled clock whole in
     let n = serial-is e (m .view) in
@@ -93,14 +106,21 @@ outcome-not-given (Outcome.Value n) = refl
 outcome-not-given (Outcome.Truth b) = refl
 outcome-not-given Outcome.None = refl
 
+-- a call gives no request
+call-gave : (d : ℕ) (call : Call Input) (clock : ℕ) {s e : Store} {out later : List ℕ} {answer : Answer} (xs : List Exchange) → Handled s e out later call clock answer
+    → given d (run (map split (map turnOf xs)) (session e)) ≡ given d (run (map split (map turnOf (Exchange.called call clock out later answer e ∷ xs))) (session s))
+unfolding given run itemsOf
+call-gave d call clock {s = s} {out = out} {answer = answer} xs m =
+    let nothing = step-gave (split (turn call clock out)) (session s) (ap isGiven (sym (m .outcome)) ∙ outcome-not-given (answer .outcome)) in
+    ap₂ (λ (rs : List (Request Load)) (t : Session Load). itemsOf d rs ++ given d (run (map split (map turnOf xs)) t)) (sym nothing) (m .view)
+
 given-is : (d : ℕ) (s : Store) (xs : List Exchange) → isWhole s ≡ true → Made s xs → givenTo d xs ≡ given d (run (map split (map turnOf xs)) (session s))
 unfolding givenTo given run itemsOf
 given-is d s [] whole Made.none = refl
 given-is d s (Exchange.called call clock out later answer e ∷ xs) whole (Made.called a rest) =
-    let m = a .handled whole in
-    let nothing = step-gave (split (turnOf (Exchange.called call clock out later answer e))) (session s) (ap isGiven (sym (m .outcome)) ∙ outcome-not-given (answer .outcome)) in
-    given-is d e xs (whole-is e (m .whole)) rest
-    ∙ ap₂ (λ (rs : List (Request Load)) (t : Session Load). itemsOf d rs ++ given d (run (map split (map turnOf xs)) t)) (sym nothing) (m .view)
+    let m = a .handled whole in given-is d e xs (whole-is e (m .whole)) rest ∙ call-gave d call clock xs m
+given-is d s (Exchange.called call clock out later answer e ∷ xs) whole (Made.calledControl a rest) =
+    let m = control-handled _ _ _ a whole in given-is d e xs (whole-is e (m .whole)) rest ∙ call-gave d call clock xs m
 given-is d s (Exchange.asked clock buffer later answer e ∷ xs) whole (Made.asked a rest) =
     let m = a .handled clock whole in
     ap (λ (is : List (Item Load)). itemsOf d (givenIn answer later) ++ is) (given-is d e xs (whole-is e (m .whole)) rest)

@@ -105,54 +105,26 @@ fn remove(
 }
 
 // The calls that tell the client of a device, and no more than the device.
-fn tell_of(
-    control: &mut [u64],
-    words: &[u64],
-    reals: &[f32],
-    texts: &[u8],
-    verb: Verb,
-    device: u64,
-    out: &mut [u8],
-) -> Answer {
+fn tell_of(control: &mut [u64], verb: Verb, device: u64, out: &mut [u8]) -> Answer {
     match verb {
-        Verb::Resumed => device::resumed(control, words, reals, texts, device, out),
-        Verb::Paused => device::paused(control, words, reals, texts, device, out),
-        _ => device::stop_emulating(control, words, reals, texts, device, out),
+        Verb::Resumed => device::resumed(control, device, out),
+        Verb::Paused => device::paused(control, device, out),
+        _ => device::stop_emulating(control, device, out),
     }
 }
 
 // The calls that tell the client of a device.
-fn tell(
-    control: &mut [u64],
-    words: &[u64],
-    reals: &[f32],
-    texts: &[u8],
-    verb: Verb,
-    first: Value,
-    second: Value,
-    out: &mut [u8],
-) -> Answer {
+fn tell(control: &mut [u64], verb: Verb, first: Value, second: Value, out: &mut [u8]) -> Answer {
     let device = script::u64_of(first);
     match verb {
         Verb::StartEmulating => device::start_emulating(
             control,
-            words,
-            reals,
-            texts,
             device,
             script::u32_of(second),
             out,
         ),
-        Verb::Frame => device::frame(
-            control,
-            words,
-            reals,
-            texts,
-            device,
-            script::u64_of(second),
-            out,
-        ),
-        _ => tell_of(control, words, reals, texts, verb, device, out),
+        Verb::Frame => device::frame(control, device, script::u64_of(second), out),
+        _ => tell_of(control, verb, device, out),
     }
 }
 
@@ -172,9 +144,6 @@ fn ask(
         Verb::InterfaceVersion => connection::interface_version(control, words, reals, texts, name),
         Verb::HasCapability => device::has_capability(
             control,
-            words,
-            reals,
-            texts,
             script::u64_of(first),
             capability_of(second),
         ),
@@ -218,7 +187,7 @@ pub fn call(
     match group_of(verb) {
         Group::Add => add(control, words, reals, texts, verb, args, given, text, out),
         Group::Remove => remove(control, words, reals, texts, verb, a, given, text, out),
-        Group::Tell => tell(control, words, reals, texts, verb, a, b, out),
+        Group::Tell => tell(control, verb, a, b, out),
         Group::Ask => ask(control, words, reals, texts, verb, a, b, text),
     }
 }

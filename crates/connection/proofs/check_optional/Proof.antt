@@ -12,9 +12,6 @@ returns c =
     let a = c .before .before .args in
     checks-none (a .given) (a .text .now) (not-true (a .given) (c .if1 .taken))
 
-valid-requires : tie.Need-valid-requires
-valid-requires c κs = search needs
-
 returns-2 : tie.Need-returns-2
 returns-2 c =
     let a = c .before .before .before .before .args in
@@ -31,4 +28,11 @@ returns-4 c =
     checks-fine (a .given) (a .text .now) (not-false (a .given) (c .before .before .before .if1 .left)) (sym (c .before .before .valid .ensures) ∙ not-false _ (c .before .if2 .left)) (omega arith)
 
 pub check-optional-spec : {M : Type 1} → statement M
-check-optional-spec = tie.close (tie.spec returns valid-requires returns-2 returns-3 returns-4)
+check-optional-spec =
+    tie.close
+    (tie.spec
+    returns
+    (λ c κs. search needs)  -- valid-requires
+    returns-2
+    returns-3
+    returns-4)

@@ -15,9 +15,6 @@ use Rattle.connection.proofs.Disconnects.{sample-most, end-fits, discon
 use Rattle.connection.proofs.disconnected_at.Statement.{statement}
 use Rattle.connection.proofs.disconnected_at.Tie as tie
 
-number-requires : tie.Need-number-requires
-number-requires c κs = search needs
-
 seats-objects-requires : tie.Need-seats-objects-requires
 seats-objects-requires c κs =
     c .before .before .before .before .before .before .before .pre .0 .sound
@@ -30,24 +27,18 @@ last-serial-requires : tie.Need-last-serial-requires
 last-serial-requires c κs =
     c .before .before .before .before .before .before .before .before .before .pre .0 .sound .long
 
-record-length-requires : tie.Need-record-length-requires
-record-length-requires c κs = search needs
-
 add-if1 : tie.Need-add-if1
 add-if1 c =
     let a = c .before .before .before .before .before .before .before .before .before .before .before .args in
     omega (arith, c .record-length .ensures, c .before .before .before .seats-objects .ensures .1, sample-most (a .given) (a .explanation .now) 0 (c .before .before .before .before .before .number .result))
 
-refused-requires : tie.Need-refused-requires
-refused-requires c κs = search needs
-
-same-length : tie.Need-same-length
-same-length c = search needs
-
 returns : tie.Need-returns
 returns c =
-    let a = c .before .before .before .before .before .before .before .before .before .before .before .before .before .args in
-    λ clock texts whole. disconnected-short (store (a .control .now) (a .words .now) (a .reals .now) texts) whole (a .out .now) clock (a .reason) (a .given) (a .explanation .now) (c .before .before .before .before .before .before .before .before .before .before .before .before .before .pre .1) (c .before .before .before .before .before .before .before .number .result) (c .before .before .before .before .before .before .before .number .ensures) (omega (arith, c .before .before .record-length .ensures, c .before .before .before .before .before .seats-objects .ensures .0)) (c .refused .ensures)
+    let at-seats-objects = c .before .before .before .before .before in
+    let at-number = at-seats-objects .before .before in
+    let at-start = at-number .before .before .before .before .before .before in
+    let a = at-start .args in
+    λ clock texts whole. disconnected-short (store (a .control .now) (a .words .now) (a .reals .now) texts) whole (a .out .now) clock (a .reason) (a .given) (a .explanation .now) (at-start .pre .1) (at-number .number .result) (at-number .number .ensures) (omega (arith, c .before .before .record-length .ensures, at-seats-objects .seats-objects .ensures .0)) (c .refused .ensures)
 
 connection-id-requires : tie.Need-connection-id-requires
 connection-id-requires c κs =
@@ -73,21 +64,6 @@ remove-seats-requires c κs =
     let w = c .before .before .before .before .before .before .before .before .before .before .before .before .before in
     lent-after (w .before .before .before .before .before .before .before .before .before .before .before .before .before .before .before .before .before .pre .0) (c .before .before .before .before .before .raise .ensures _ (last-is (w .write-seats .ensures) (w .before .before .before .before .before .before .before .last-serial .ensures)))
 
-sent-requires : tie.Need-sent-requires
-sent-requires c κs = search needs
-
-same-length-2 : tie.Need-same-length-2
-same-length-2 c = search needs
-
-same-length-3 : tie.Need-same-length-3
-same-length-3 c = search needs
-
-same-length-4 : tie.Need-same-length-4
-same-length-4 c = search needs
-
-same-length-5 : tie.Need-same-length-5
-same-length-5 c = search needs
-
 returns-2 : tie.Need-returns-2
 returns-2 c =
     let w = c .before .before .before .before .before .before .before .before .before .before .before .before .before .before .before .before .before .before .before .before .before in
@@ -102,23 +78,23 @@ pub disconnected-at-spec : {M : Type 1} → statement M
 disconnected-at-spec =
     tie.close
     (tie.spec
-    number-requires
+    (λ c κs. search needs)  -- number-requires
     seats-objects-requires
     mul-gone
     last-serial-requires
-    record-length-requires
+    (λ c κs. search needs)  -- record-length-requires
     add-if1
-    refused-requires
-    same-length
+    (λ c κs. search needs)  -- refused-requires
+    (λ c. search needs)  -- same-length
     returns
     connection-id-requires
     write-seats-requires
     send-requires
     raise-requires
     remove-seats-requires
-    sent-requires
-    same-length-2
-    same-length-3
-    same-length-4
-    same-length-5
+    (λ c κs. search needs)  -- sent-requires
+    (λ c. search needs)  -- same-length-2
+    (λ c. search needs)  -- same-length-3
+    (λ c. search needs)  -- same-length-4
+    (λ c. search needs)  -- same-length-5
     returns-2)

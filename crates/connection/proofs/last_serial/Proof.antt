@@ -7,12 +7,6 @@ use Rattle.connection.proofs.Interfaces.{serial-told}
 use Rattle.connection.proofs.last_serial.Statement.{statement}
 use Rattle.connection.proofs.last_serial.Tie as tie
 
-whole-requires : tie.Need-whole-requires
-whole-requires c κs = search needs
-
-refused-requires : tie.Need-refused-requires
-refused-requires c κs = search needs
-
 returns : tie.Need-returns
 returns c =
     let a = c .before .before .before .before .before .before .before .args in
@@ -25,9 +19,6 @@ last-serial-requires c κs =
     let s : Store = store (a .control .now) (a .words .now) (a .reals .now) (a .texts .now) in
     whole-parts s (whole-passed s (c .before .whole .ensures) (c .if1 .left)) .sound .long
 
-told-requires : tie.Need-told-requires
-told-requires c κs = search needs
-
 returns-2 : tie.Need-returns-2
 returns-2 c =
     let a = c .before .before .before .before .before .before .before .before .args in
@@ -39,9 +30,9 @@ pub last-serial-spec : {M : Type 1} → statement M
 last-serial-spec =
     tie.close
     (tie.spec
-    whole-requires
-    refused-requires
+    (λ c κs. search needs)  -- whole-requires
+    (λ c κs. search needs)  -- refused-requires
     returns
     last-serial-requires
-    told-requires
+    (λ c κs. search needs)  -- told-requires
     returns-2)

@@ -6,9 +6,6 @@ use Rattle.connection.proofs.Texts.{none-length, given-length, name-len
 use Rattle.connection.proofs.name_length.Statement.{statement}
 use Rattle.connection.proofs.name_length.Tie as tie
 
-record-length-requires : tie.Need-record-length-requires
-record-length-requires c κs = search needs
-
 returns : tie.Need-returns
 returns c =
     let a = c .before .before .before .args in
@@ -20,4 +17,9 @@ returns-2 c =
     (λ object. sym (none-length (a .given) (a .name .now) object (c .if1 .left)), omega arith)
 
 pub name-length-spec : {M : Type 1} → statement M
-name-length-spec = tie.close (tie.spec record-length-requires returns returns-2)
+name-length-spec =
+    tie.close
+    (tie.spec
+    (λ c κs. search needs)  -- record-length-requires
+    returns
+    returns-2)

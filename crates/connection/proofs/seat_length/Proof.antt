@@ -7,22 +7,10 @@ use Rattle.connection.proofs.Seats.{seat-bytes, seat-fixed, done-fixed}
 use Rattle.connection.proofs.seat_length.Statement.{statement}
 use Rattle.connection.proofs.seat_length.Tie as tie
 
-fixed-length-requires : tie.Need-fixed-length-requires
-fixed-length-requires c κs = search needs
-
-fixed-length-requires-2 : tie.Need-fixed-length-requires-2
-fixed-length-requires-2 c κs = search needs
-
-name-length-requires : tie.Need-name-length-requires
-name-length-requires c κs = search needs
-
 add-result : tie.Need-add-result
 add-result c =
     let a = c .before .before .before .before .before .args in
     omega (arith, c .name-length .ensures .1, c .before .before .fixed-length .ensures, seat-fixed (a .id) (a .version))
-
-capabilities-length-requires : tie.Need-capabilities-length-requires
-capabilities-length-requires c κs = search needs
 
 add-result-2 : tie.Need-add-result-2
 add-result-2 c =
@@ -43,11 +31,11 @@ pub seat-length-spec : {M : Type 1} → statement M
 seat-length-spec =
     tie.close
     (tie.spec
-    fixed-length-requires
-    fixed-length-requires-2
-    name-length-requires
+    (λ c κs. search needs)  -- fixed-length-requires
+    (λ c κs. search needs)  -- fixed-length-requires-2
+    (λ c κs. search needs)  -- name-length-requires
     add-result
-    capabilities-length-requires
+    (λ c κs. search needs)  -- capabilities-length-requires
     add-result-2
     add-result-3
     returns)

@@ -11,9 +11,6 @@ send-requires c κs =
     let a = c .before .before .before .before .args in
     omega (arith, c .before .before .before .before .pre, given-length (a .given) (a .name .now) (a .object) (c .before .if1 .taken))
 
-same-length : tie.Need-same-length
-same-length c = search needs
-
 returns : tie.Need-returns
 returns c =
     let a = c .before .before .before .before .before .before .before .args in
@@ -25,4 +22,10 @@ returns-2 c =
     rw (name-none (a .given) (a .name .now) (a .object) (c .if1 .left)) (sends-none (a .out .now) (a .at))
 
 pub write-name-spec : {M : Type 1} → statement M
-write-name-spec = tie.close (tie.spec send-requires same-length returns returns-2)
+write-name-spec =
+    tie.close
+    (tie.spec
+    send-requires
+    (λ c. search needs)  -- same-length
+    returns
+    returns-2)

@@ -7,12 +7,6 @@ use Rattle.connection.proofs.Seats.{seat-room, name-room, capabilities-
 use Rattle.connection.proofs.write_seat_events.Statement.{statement}
 use Rattle.connection.proofs.write_seat_events.Tie as tie
 
-connection-id-requires : tie.Need-connection-id-requires
-connection-id-requires c κs = search needs
-
-slice-aggregate-send : tie.Need-slice-aggregate-send
-slice-aggregate-send c = search needs
-
 send-requires : tie.Need-send-requires
 send-requires c κs =
     let a = c .before .before .before .before .before .before .args in
@@ -20,40 +14,51 @@ send-requires c κs =
 
 write-name-requires : tie.Need-write-name-requires
 write-name-requires c κs =
-    let a = c .before .before .before .before .before .before .before .before .before .before .args in
-    name-room (connectionOf (a .control .now)) (a .id) (a .version) (optional (a .given) (a .name .now)) (a .capabilities) (a .out .now) (c .before .before .before .before .before .before .before .before .before .before .pre .1 .1) (c .before .before .before .before .before .before .connection-id .ensures) (c .before .before .before .send .ensures) (omega (arith, c .before .before .before .send .kept .0))
+    let at-send = c .before .before .before in
+    let at-connection-id = at-send .before .before .before in
+    let at-start = at-connection-id .before .before .before .before in
+    let a = at-start .args in
+    name-room (connectionOf (a .control .now)) (a .id) (a .version) (optional (a .given) (a .name .now)) (a .capabilities) (a .out .now) (at-start .pre .1 .1) (at-connection-id .connection-id .ensures) (at-send .send .ensures) (omega (arith, at-send .send .kept .0))
 
 write-capabilities-requires : tie.Need-write-capabilities-requires
 write-capabilities-requires c κs =
-    let a = c .before .before .before .before .before .before .before .before .before .before .before .before .before .before .args in
-    (c .before .before .before .before .before .before .before .before .before .before .before .before .before .before .pre .0, (c .before .before .before .before .before .before .before .before .before .before .before .before .before .before .pre .1 .0, capabilities-room (connectionOf (a .control .now)) (a .id) (a .version) (optional (a .given) (a .name .now)) (a .capabilities) (a .out .now) (c .before .before .before .before .before .before .before .before .before .before .before .before .before .before .pre .1 .1) (c .before .before .before .before .before .before .before .before .before .before .connection-id .ensures) (c .before .before .before .before .before .before .before .send .ensures) (omega (arith, c .before .before .before .before .before .before .before .send .kept .0)) (c .before .before .before .write-name .ensures) (omega (arith, c .before .before .before .before .before .before .before .send .kept .0, c .before .before .before .write-name .kept .0))))
-
-slice-aggregate-send-2 : tie.Need-slice-aggregate-send-2
-slice-aggregate-send-2 c = search needs
+    let at-write-name = c .before .before .before in
+    let at-send = at-write-name .before .before .before .before in
+    let at-connection-id = at-send .before .before .before in
+    let at-start = at-connection-id .before .before .before .before in
+    let a = at-start .args in
+    (at-start .pre .0, (at-start .pre .1 .0, capabilities-room (connectionOf (a .control .now)) (a .id) (a .version) (optional (a .given) (a .name .now)) (a .capabilities) (a .out .now) (at-start .pre .1 .1) (at-connection-id .connection-id .ensures) (at-send .send .ensures) (omega (arith, at-send .send .kept .0)) (at-write-name .write-name .ensures) (omega (arith, at-send .send .kept .0, at-write-name .write-name .kept .0))))
 
 send-requires-2 : tie.Need-send-requires-2
 send-requires-2 c κs =
-    let a = c .before .before .before .before .before .before .before .before .before .before .before .before .before .before .before .before .before .before .before .args in
-    done-room (connectionOf (a .control .now)) (a .id) (a .version) (optional (a .given) (a .name .now)) (a .capabilities) (a .out .now) (c .before .before .before .before .before .before .before .before .before .before .before .before .before .before .before .before .before .before .before .pre .1 .1) (c .before .before .before .before .before .before .before .before .before .before .before .before .before .before .before .connection-id .ensures) (c .before .before .before .before .before .before .before .before .before .before .before .before .send .ensures) (omega (arith, c .before .before .before .before .before .before .before .before .before .before .before .before .send .kept .0)) (c .before .before .before .before .before .before .before .before .write-name .ensures) (omega (arith, c .before .before .before .before .before .before .before .before .before .before .before .before .send .kept .0, c .before .before .before .before .before .before .before .before .write-name .kept .0)) (c .before .before .before .before .write-capabilities .ensures) (omega (arith, c .before .before .before .before .before .before .before .before .before .before .before .before .send .kept .0, c .before .before .before .before .before .before .before .before .write-name .kept .0, c .before .before .before .before .write-capabilities .kept .1 .1 .1 .0)) _
-
-same-length : tie.Need-same-length
-same-length c = search needs
+    let at-write-capabilities = c .before .before .before .before in
+    let at-write-name = at-write-capabilities .before .before .before .before in
+    let at-send = at-write-name .before .before .before .before in
+    let at-connection-id = at-send .before .before .before in
+    let at-start = at-connection-id .before .before .before .before in
+    let a = at-start .args in
+    done-room (connectionOf (a .control .now)) (a .id) (a .version) (optional (a .given) (a .name .now)) (a .capabilities) (a .out .now) (at-start .pre .1 .1) (at-connection-id .connection-id .ensures) (at-send .send .ensures) (omega (arith, at-send .send .kept .0)) (at-write-name .write-name .ensures) (omega (arith, at-send .send .kept .0, at-write-name .write-name .kept .0)) (at-write-capabilities .write-capabilities .ensures) (omega (arith, at-send .send .kept .0, at-write-name .write-name .kept .0, at-write-capabilities .write-capabilities .kept .1 .1 .1 .0)) _
 
 returns : tie.Need-returns
 returns c =
-    let a = c .before .before .before .before .before .before .before .before .before .before .before .before .before .before .before .before .before .before .before .before .before .before .args in
-    seat-sends (connectionOf (a .control .now)) (a .id) (a .version) (optional (a .given) (a .name .now)) (a .capabilities) (a .out .now) (c .before .before .before .before .before .before .before .before .before .before .before .before .before .before .before .before .before .before .before .before .before .before .pre .1 .1) (c .before .before .before .before .before .before .before .before .before .before .before .before .before .before .before .before .before .before .connection-id .ensures) (c .before .before .before .before .before .before .before .before .before .before .before .before .before .before .before .send .ensures) (omega (arith, c .before .before .before .before .before .before .before .before .before .before .before .before .before .before .before .send .kept .0)) (c .before .before .before .before .before .before .before .before .before .before .before .write-name .ensures) (omega (arith, c .before .before .before .before .before .before .before .before .before .before .before .before .before .before .before .send .kept .0, c .before .before .before .before .before .before .before .before .before .before .before .write-name .kept .0)) (c .before .before .before .before .before .before .before .write-capabilities .ensures) (omega (arith, c .before .before .before .before .before .before .before .before .before .before .before .before .before .before .before .send .kept .0, c .before .before .before .before .before .before .before .before .before .before .before .write-name .kept .0, c .before .before .before .before .before .before .before .write-capabilities .kept .1 .1 .1 .0)) (c .before .before .send2 .ensures)
+    let at-write-capabilities = c .before .before .before .before .before .before .before in
+    let at-write-name = at-write-capabilities .before .before .before .before in
+    let at-send = at-write-name .before .before .before .before in
+    let at-connection-id = at-send .before .before .before in
+    let at-start = at-connection-id .before .before .before .before in
+    let a = at-start .args in
+    seat-sends (connectionOf (a .control .now)) (a .id) (a .version) (optional (a .given) (a .name .now)) (a .capabilities) (a .out .now) (at-start .pre .1 .1) (at-connection-id .connection-id .ensures) (at-send .send .ensures) (omega (arith, at-send .send .kept .0)) (at-write-name .write-name .ensures) (omega (arith, at-send .send .kept .0, at-write-name .write-name .kept .0)) (at-write-capabilities .write-capabilities .ensures) (omega (arith, at-send .send .kept .0, at-write-name .write-name .kept .0, at-write-capabilities .write-capabilities .kept .1 .1 .1 .0)) (c .before .before .send2 .ensures)
 
 pub write-seat-events-spec : {M : Type 1} → statement M
 write-seat-events-spec =
     tie.close
     (tie.spec
-    connection-id-requires
-    slice-aggregate-send
+    (λ c κs. search needs)  -- connection-id-requires
+    (λ c. search needs)  -- slice-aggregate-send
     send-requires
     write-name-requires
     write-capabilities-requires
-    slice-aggregate-send-2
+    (λ c. search needs)  -- slice-aggregate-send-2
     send-requires-2
-    same-length
+    (λ c. search needs)  -- same-length
     returns)

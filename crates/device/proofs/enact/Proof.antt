@@ -7,27 +7,6 @@ use Rattle.device.proofs.Devices.{enacts-paused, enacts-nothing}
 use Rattle.device.proofs.enact.Statement.{statement}
 use Rattle.device.proofs.enact.Tie as tie
 
-enum-told : tie.Need-enum-told
-enum-told c = search needs
-
-clear-touches-requires : tie.Need-clear-touches-requires
-clear-touches-requires c κs = search needs
-
-enum-told-2 : tie.Need-enum-told-2
-enum-told-2 c = search needs
-
-enum-told-3 : tie.Need-enum-told-3
-enum-told-3 c = search needs
-
-enum-told-4 : tie.Need-enum-told-4
-enum-told-4 c = search needs
-
-enum-told-5 : tie.Need-enum-told-5
-enum-told-5 c = search needs
-
-same-length : tie.Need-same-length
-same-length c = search needs
-
 returns : tie.Need-returns
 returns c =
     let a = c .before .before .before .before .before .before .before .args in
@@ -57,13 +36,13 @@ pub enact-spec : {M : Type 1} → statement M
 enact-spec =
     tie.close
     (tie.spec
-    enum-told
-    clear-touches-requires
-    enum-told-2
-    enum-told-3
-    enum-told-4
-    enum-told-5
-    same-length
+    (λ c. search needs)
+    (λ c κs. search needs)
+    (λ c. search needs)
+    (λ c. search needs)
+    (λ c. search needs)
+    (λ c. search needs)
+    (λ c. search needs)
     returns
     returns-2
     returns-3

@@ -6,21 +6,6 @@ use Rattle.device.specs.Notice.{noticeEvent}
 use Rattle.device.proofs.event_of.Statement.{statement}
 use Rattle.device.proofs.event_of.Tie as tie
 
-enum-told : tie.Need-enum-told
-enum-told c = search needs
-
-enum-told-2 : tie.Need-enum-told-2
-enum-told-2 c = search needs
-
-enum-known-notice : tie.Need-enum-known-notice
-enum-known-notice c = search needs
-
-enum-told-3 : tie.Need-enum-told-3
-enum-told-3 c = search needs
-
-enum-known-notice-2 : tie.Need-enum-known-notice-2
-enum-known-notice-2 c = search needs
-
 returns : tie.Need-returns
 returns c =
     sym (ap (λ (n : Notice). noticeEvent n (c .before .before .args .serial)) (c .enum-told .given .1))
@@ -45,11 +30,11 @@ pub event-of-spec : {M : Type 1} → statement M
 event-of-spec =
     tie.close
     (tie.spec
-    enum-told
-    enum-told-2
-    enum-known-notice
-    enum-told-3
-    enum-known-notice-2
+    (λ c. search needs)
+    (λ c. search needs)
+    (λ c. search needs)
+    (λ c. search needs)
+    (λ c. search needs)
     returns
     returns-2
     returns-3

@@ -9,65 +9,48 @@ use borrow.Author.Needs.{needs}
 use Rattle.timed_handlers.proofs.handle_keyboard_request.Statement.{statement}
 use Rattle.timed_handlers.proofs.handle_keyboard_request.Tie as tie
 
-enum-told : tie.Need-enum-told
-enum-told c = search needs
-
 release-interface-requires : tie.Need-release-interface-requires
 release-interface-requires c κs =
     c .before .before .before .before .before .before .before .before .pre .sound
-
-enum-known-request : tie.Need-enum-known-request
-enum-known-request c = search needs
-
-keyboard-key-requires : tie.Need-keyboard-key-requires
-keyboard-key-requires c κs = search needs
 
 queue-request-requires : tie.Need-queue-request-requires
 queue-request-requires c κs =
     (c .before .before .before .before .before .before .before .before .before .before .before .pre, record { kind = Kind.KeyboardKey; handled = key-handled })
 
-same-length : tie.Need-same-length
-same-length c = search needs
-
-same-length-2 : tie.Need-same-length-2
-same-length-2 c = search needs
-
 returns : tie.Need-returns
 returns c =
-    let a = c .before .before .before .before .before .before .before .before .before .before .before .before .before .args in
+    let at-release-interface = c .before .before .before .before in
+    let at-enum-told = at-release-interface .before .before .before in
+    let at-start = at-enum-told .before .before .before .before .before .before in
+    let a = at-start .args in
     λ version clock texts whole.
-    for-call clock (ap (λ (x : KeyboardRequest). keyboardCall x (a .keyboard) version) (c .before .before .before .before .before .before .before .enum-told .given .1))
-    (c .before .before .before .before .release-interface .ensures clock (a .words .now) (a .reals .now) texts whole)
-
-same-length-3 : tie.Need-same-length-3
-same-length-3 c = search needs
-
-same-length-4 : tie.Need-same-length-4
-same-length-4 c = search needs
-
-same-length-5 : tie.Need-same-length-5
-same-length-5 c = search needs
+    for-call clock (ap (λ (x : KeyboardRequest). keyboardCall x (a .keyboard) version) (at-enum-told .enum-told .given .1))
+    (at-release-interface .release-interface .ensures clock (a .words .now) (a .reals .now) texts whole)
 
 returns-2 : tie.Need-returns-2
 returns-2 c =
-    let a = c .before .before .before .before .before .before .before .before .before .before .before .before .before .before .before .before .before .before .args in
+    let at-queue-request = c .before .before .before .before .before .before in
+    let at-keyboard-key = at-queue-request .before .before .before .before in
+    let at-request = at-keyboard-key .before .before in
+    let at-start = at-request .before .before .before .before .before .before in
+    let a = at-start .args in
     λ version clock texts whole.
-    for-call clock (ap (λ (x : KeyboardRequest). keyboardCall x (a .keyboard) version) (c .before .before .before .before .before .before .before .before .before .before .before .before .request .given .1))
-    (c .before .before .before .before .before .before .queue-request .ensures Kind.KeyboardKey version (Input.Key _ _) key-handled (key-waits _ _ (c .before .before .before .before .before .before .before .before .before .before .keyboard-key .ensures)) (a .out .now) clock texts whole)
+    for-call clock (ap (λ (x : KeyboardRequest). keyboardCall x (a .keyboard) version) (at-request .request .given .1))
+    (at-queue-request .queue-request .ensures Kind.KeyboardKey version (Input.Key _ _) key-handled (key-waits _ _ (at-keyboard-key .keyboard-key .ensures)) (a .out .now) clock texts whole)
 
 pub handle-keyboard-request-spec : {M : Type 1} → statement M
 handle-keyboard-request-spec =
     tie.close
     (tie.spec
-    enum-told
+    (λ c. search needs)
     release-interface-requires
-    enum-known-request
-    keyboard-key-requires
+    (λ c. search needs)
+    (λ c κs. search needs)
     queue-request-requires
-    same-length
-    same-length-2
+    (λ c. search needs)
+    (λ c. search needs)
     returns
-    same-length-3
-    same-length-4
-    same-length-5
+    (λ c. search needs)
+    (λ c. search needs)
+    (λ c. search needs)
     returns-2)

@@ -9,65 +9,48 @@ use borrow.Author.Needs.{needs}
 use Rattle.timed_handlers.proofs.handle_pointer_request.Statement.{statement}
 use Rattle.timed_handlers.proofs.handle_pointer_request.Tie as tie
 
-enum-told : tie.Need-enum-told
-enum-told c = search needs
-
 release-interface-requires : tie.Need-release-interface-requires
 release-interface-requires c κs =
     c .before .before .before .before .before .before .before .before .pre .sound
-
-enum-known-request : tie.Need-enum-known-request
-enum-known-request c = search needs
-
-pointer-motion-requires : tie.Need-pointer-motion-requires
-pointer-motion-requires c κs = search needs
 
 queue-request-requires : tie.Need-queue-request-requires
 queue-request-requires c κs =
     (c .before .before .before .before .before .before .before .before .before .before .before .pre, record { kind = Kind.PointerMotion; handled = motion-handled })
 
-same-length : tie.Need-same-length
-same-length c = search needs
-
-same-length-2 : tie.Need-same-length-2
-same-length-2 c = search needs
-
 returns : tie.Need-returns
 returns c =
-    let a = c .before .before .before .before .before .before .before .before .before .before .before .before .before .args in
+    let at-release-interface = c .before .before .before .before in
+    let at-enum-told = at-release-interface .before .before .before in
+    let at-start = at-enum-told .before .before .before .before .before .before in
+    let a = at-start .args in
     λ version clock texts whole.
-    for-call clock (ap (λ (x : PointerRequest). pointerCall x (a .pointer) version) (c .before .before .before .before .before .before .before .enum-told .given .1))
-    (c .before .before .before .before .release-interface .ensures clock (a .words .now) (a .reals .now) texts whole)
-
-same-length-3 : tie.Need-same-length-3
-same-length-3 c = search needs
-
-same-length-4 : tie.Need-same-length-4
-same-length-4 c = search needs
-
-same-length-5 : tie.Need-same-length-5
-same-length-5 c = search needs
+    for-call clock (ap (λ (x : PointerRequest). pointerCall x (a .pointer) version) (at-enum-told .enum-told .given .1))
+    (at-release-interface .release-interface .ensures clock (a .words .now) (a .reals .now) texts whole)
 
 returns-2 : tie.Need-returns-2
 returns-2 c =
-    let a = c .before .before .before .before .before .before .before .before .before .before .before .before .before .before .before .before .before .before .args in
+    let at-queue-request = c .before .before .before .before .before .before in
+    let at-pointer-motion = at-queue-request .before .before .before .before in
+    let at-request = at-pointer-motion .before .before in
+    let at-start = at-request .before .before .before .before .before .before in
+    let a = at-start .args in
     λ version clock texts whole.
-    for-call clock (ap (λ (x : PointerRequest). pointerCall x (a .pointer) version) (c .before .before .before .before .before .before .before .before .before .before .before .before .request .given .1))
-    (c .before .before .before .before .before .before .queue-request .ensures Kind.PointerMotion version (Input.MotionRelative _ _) motion-handled (motion-waits _ _ (c .before .before .before .before .before .before .before .before .before .before .pointer-motion .ensures)) (a .out .now) clock texts whole)
+    for-call clock (ap (λ (x : PointerRequest). pointerCall x (a .pointer) version) (at-request .request .given .1))
+    (at-queue-request .queue-request .ensures Kind.PointerMotion version (Input.MotionRelative _ _) motion-handled (motion-waits _ _ (at-pointer-motion .pointer-motion .ensures)) (a .out .now) clock texts whole)
 
 pub handle-pointer-request-spec : {M : Type 1} → statement M
 handle-pointer-request-spec =
     tie.close
     (tie.spec
-    enum-told
+    (λ c. search needs)
     release-interface-requires
-    enum-known-request
-    pointer-motion-requires
+    (λ c. search needs)
+    (λ c κs. search needs)
     queue-request-requires
-    same-length
-    same-length-2
+    (λ c. search needs)
+    (λ c. search needs)
     returns
-    same-length-3
-    same-length-4
-    same-length-5
+    (λ c. search needs)
+    (λ c. search needs)
+    (λ c. search needs)
     returns-2)

@@ -11,188 +11,150 @@ use borrow.Author.Needs.{needs}
 use Rattle.timed_handlers.proofs.handle_touchscreen_request.Statement.{statement}
 use Rattle.timed_handlers.proofs.handle_touchscreen_request.Tie as tie
 
-enum-told : tie.Need-enum-told
-enum-told c = search needs
-
 release-interface-requires : tie.Need-release-interface-requires
 release-interface-requires c κs =
     c .before .before .before .before .before .before .before .before .pre .sound
-
-enum-known-request : tie.Need-enum-known-request
-enum-known-request c = search needs
 
 decide-down-requires : tie.Need-decide-down-requires
 decide-down-requires c κs =
     c .before .before .before .before .before .before .before .before .pre .sound
 
-touch-down-requires : tie.Need-touch-down-requires
-touch-down-requires c κs = search needs
-
 queue-down-requires : tie.Need-queue-down-requires
 queue-down-requires c κs =
-    let a = c .before .before .before .before .before .before .before .before .before .before .before .before .before .args in
-    (c .before .before .before .before .before .before .before .before .before .before .before .before .before .pre, (λ k e. ((c .before .before .before .before .decide-down .ensures .0 (a .version)) .slot k e, c .before .before .before .before .decide-down .ensures .1 k e)))
-
-enum-known-request-2 : tie.Need-enum-known-request-2
-enum-known-request-2 c = search needs
+    let at-decide-down = c .before .before .before .before in
+    let at-start = at-decide-down .before .before .before .before .before .before .before .before .before in
+    let a = at-start .args in
+    (at-start .pre, (λ k e. ((at-decide-down .decide-down .ensures .0 (a .version)) .slot k e, at-decide-down .decide-down .ensures .1 k e)))
 
 decide-held-requires : tie.Need-decide-held-requires
 decide-held-requires c κs =
     c .before .before .before .before .before .before .before .before .pre .sound
 
-touch-motion-requires : tie.Need-touch-motion-requires
-touch-motion-requires c κs = search needs
-
 queue-request-requires : tie.Need-queue-request-requires
 queue-request-requires c κs =
-    let a = c .before .before .before .before .before .before .before .before .before .before .before .before .before .args in
-    (c .before .before .before .before .before .before .before .before .before .before .before .before .before .pre, (c .before .before .before .before .decide-held .ensures Kind.TouchMotion (a .version) [] motion-touch (motion-held (a .version) _)) .slot)
-
-enum-known-request-3 : tie.Need-enum-known-request-3
-enum-known-request-3 c = search needs
+    let at-decide-held = c .before .before .before .before in
+    let at-start = at-decide-held .before .before .before .before .before .before .before .before .before in
+    let a = at-start .args in
+    (at-start .pre, (at-decide-held .decide-held .ensures Kind.TouchMotion (a .version) [] motion-touch (motion-held (a .version) _)) .slot)
 
 decide-held-requires-2 : tie.Need-decide-held-requires-2
 decide-held-requires-2 c κs =
     c .before .before .before .before .before .before .before .before .pre .sound
 
-touch-up-requires : tie.Need-touch-up-requires
-touch-up-requires c κs = search needs
-
 queue-up-requires : tie.Need-queue-up-requires
 queue-up-requires c κs =
-    let a = c .before .before .before .before .before .before .before .before .before .before .before .before .before .args in
-    (c .before .before .before .before .before .before .before .before .before .before .before .before .before .pre, (c .before .before .before .before .decide-held2 .ensures Kind.TouchUp (a .version) (Amend.touchUp _ ∷ []) up-touch (up-held (a .version) _)) .slot)
-
-enum-known-request-4 : tie.Need-enum-known-request-4
-enum-known-request-4 c = search needs
+    let at-decide-held2 = c .before .before .before .before in
+    let at-start = at-decide-held2 .before .before .before .before .before .before .before .before .before in
+    let a = at-start .args in
+    (at-start .pre, (at-decide-held2 .decide-held2 .ensures Kind.TouchUp (a .version) (Amend.touchUp _ ∷ []) up-touch (up-held (a .version) _)) .slot)
 
 decide-cancel-requires : tie.Need-decide-cancel-requires
 decide-cancel-requires c κs =
     c .before .before .before .before .before .before .before .before .pre .sound
 
-touch-cancel-requires : tie.Need-touch-cancel-requires
-touch-cancel-requires c κs = search needs
-
 queue-up-requires-2 : tie.Need-queue-up-requires-2
 queue-up-requires-2 c κs =
-    let a = c .before .before .before .before .before .before .before .before .before .before .before .before .before .args in
-    (c .before .before .before .before .before .before .before .before .before .before .before .before .before .pre, (c .before .before .before .before .decide-cancel .ensures) .slot)
-
-same-length : tie.Need-same-length
-same-length c = search needs
-
-same-length-2 : tie.Need-same-length-2
-same-length-2 c = search needs
+    let at-decide-cancel = c .before .before .before .before in
+    let at-start = at-decide-cancel .before .before .before .before .before .before .before .before .before in
+    let a = at-start .args in
+    (at-start .pre, (at-decide-cancel .decide-cancel .ensures) .slot)
 
 returns : tie.Need-returns
 returns c =
-    let a = c .before .before .before .before .before .before .before .before .before .before .before .before .before .args in
+    let at-release-interface = c .before .before .before .before in
+    let at-enum-told = at-release-interface .before .before .before in
+    let at-start = at-enum-told .before .before .before .before .before .before in
+    let a = at-start .args in
     λ clock texts whole.
-    for-call clock (ap (λ (x : TouchscreenRequest). touchscreenCall x (a .touchscreen) (a .version)) (c .before .before .before .before .before .before .before .enum-told .given .1))
-    (c .before .before .before .before .release-interface .ensures clock (a .words .now) (a .reals .now) texts whole)
-
-same-length-3 : tie.Need-same-length-3
-same-length-3 c = search needs
-
-same-length-4 : tie.Need-same-length-4
-same-length-4 c = search needs
-
-same-length-5 : tie.Need-same-length-5
-same-length-5 c = search needs
+    for-call clock (ap (λ (x : TouchscreenRequest). touchscreenCall x (a .touchscreen) (a .version)) (at-enum-told .enum-told .given .1))
+    (at-release-interface .release-interface .ensures clock (a .words .now) (a .reals .now) texts whole)
 
 returns-2 : tie.Need-returns-2
 returns-2 c =
-    let a = c .before .before .before .before .before .before .before .before .before .before .before .before .before .before .before .before .before .before .before .before .args in
+    let at-queue-down = c .before .before .before .before .before .before in
+    let at-touch-down = at-queue-down .before .before .before .before in
+    let at-decide-down = at-touch-down .before in
+    let at-request = at-decide-down .before .before .before in
+    let at-start = at-request .before .before .before .before .before .before in
+    let a = at-start .args in
     λ clock texts whole.
-    for-call clock (ap (λ (x : TouchscreenRequest). touchscreenCall x (a .touchscreen) (a .version)) (c .before .before .before .before .before .before .before .before .before .before .before .before .before .before .request .given .1))
-    (timed-rows (a .touchscreen) (a .version) (Input.Down _ _ _) (c .before .before .before .before .before .before .before .before .before .before .before .decide-down .ensures .0 (a .version)) (down-waits _ _ _ (c .before .before .before .before .before .before .before .before .before .before .touch-down .ensures)) (c .before .before .before .before .before .before .queue-down .ensures) (a .out .now) clock texts whole)
-
-same-length-6 : tie.Need-same-length-6
-same-length-6 c = search needs
-
-same-length-7 : tie.Need-same-length-7
-same-length-7 c = search needs
-
-same-length-8 : tie.Need-same-length-8
-same-length-8 c = search needs
+    for-call clock (ap (λ (x : TouchscreenRequest). touchscreenCall x (a .touchscreen) (a .version)) (at-request .request .given .1))
+    (timed-rows (a .touchscreen) (a .version) (Input.Down _ _ _) (at-decide-down .decide-down .ensures .0 (a .version)) (down-waits _ _ _ (at-touch-down .touch-down .ensures)) (at-queue-down .queue-down .ensures) (a .out .now) clock texts whole)
 
 returns-3 : tie.Need-returns-3
 returns-3 c =
-    let a = c .before .before .before .before .before .before .before .before .before .before .before .before .before .before .before .before .before .before .before .before .args in
+    let at-queue-request = c .before .before .before .before .before .before in
+    let at-touch-motion = at-queue-request .before .before .before .before in
+    let at-decide-held = at-touch-motion .before in
+    let at-request2 = at-decide-held .before .before .before in
+    let at-start = at-request2 .before .before .before .before .before .before in
+    let a = at-start .args in
     λ clock texts whole.
-    for-call clock (ap (λ (x : TouchscreenRequest). touchscreenCall x (a .touchscreen) (a .version)) (c .before .before .before .before .before .before .before .before .before .before .before .before .before .before .request2 .given .1))
-    (timed-rows (a .touchscreen) (a .version) (Input.Motion _ _ _) (c .before .before .before .before .before .before .before .before .before .before .before .decide-held .ensures Kind.TouchMotion (a .version) [] motion-touch (motion-held (a .version) _)) (touch-waits _ _ _ (c .before .before .before .before .before .before .before .before .before .before .touch-motion .ensures)) (c .before .before .before .before .before .before .queue-request .ensures) (a .out .now) clock texts whole)
-
-same-length-9 : tie.Need-same-length-9
-same-length-9 c = search needs
-
-same-length-10 : tie.Need-same-length-10
-same-length-10 c = search needs
-
-same-length-11 : tie.Need-same-length-11
-same-length-11 c = search needs
+    for-call clock (ap (λ (x : TouchscreenRequest). touchscreenCall x (a .touchscreen) (a .version)) (at-request2 .request2 .given .1))
+    (timed-rows (a .touchscreen) (a .version) (Input.Motion _ _ _) (at-decide-held .decide-held .ensures Kind.TouchMotion (a .version) [] motion-touch (motion-held (a .version) _)) (touch-waits _ _ _ (at-touch-motion .touch-motion .ensures)) (at-queue-request .queue-request .ensures) (a .out .now) clock texts whole)
 
 returns-4 : tie.Need-returns-4
 returns-4 c =
-    let a = c .before .before .before .before .before .before .before .before .before .before .before .before .before .before .before .before .before .before .before .before .args in
+    let at-queue-up = c .before .before .before .before .before .before in
+    let at-touch-up = at-queue-up .before .before .before .before in
+    let at-decide-held2 = at-touch-up .before in
+    let at-request3 = at-decide-held2 .before .before .before in
+    let at-start = at-request3 .before .before .before .before .before .before in
+    let a = at-start .args in
     λ clock texts whole.
-    for-call clock (ap (λ (x : TouchscreenRequest). touchscreenCall x (a .touchscreen) (a .version)) (c .before .before .before .before .before .before .before .before .before .before .before .before .before .before .request3 .given .1))
-    (timed-rows (a .touchscreen) (a .version) (Input.Up _) (c .before .before .before .before .before .before .before .before .before .before .before .decide-held2 .ensures Kind.TouchUp (a .version) (Amend.touchUp _ ∷ []) up-touch (up-held (a .version) _)) (up-waits _ (c .before .before .before .before .before .before .before .before .before .before .touch-up .ensures)) (c .before .before .before .before .before .before .queue-up .ensures) (a .out .now) clock texts whole)
-
-same-length-12 : tie.Need-same-length-12
-same-length-12 c = search needs
-
-same-length-13 : tie.Need-same-length-13
-same-length-13 c = search needs
-
-same-length-14 : tie.Need-same-length-14
-same-length-14 c = search needs
+    for-call clock (ap (λ (x : TouchscreenRequest). touchscreenCall x (a .touchscreen) (a .version)) (at-request3 .request3 .given .1))
+    (timed-rows (a .touchscreen) (a .version) (Input.Up _) (at-decide-held2 .decide-held2 .ensures Kind.TouchUp (a .version) (Amend.touchUp _ ∷ []) up-touch (up-held (a .version) _)) (up-waits _ (at-touch-up .touch-up .ensures)) (at-queue-up .queue-up .ensures) (a .out .now) clock texts whole)
 
 returns-5 : tie.Need-returns-5
 returns-5 c =
-    let a = c .before .before .before .before .before .before .before .before .before .before .before .before .before .before .before .before .before .before .before .before .args in
+    let at-queue-up2 = c .before .before .before .before .before .before in
+    let at-touch-cancel = at-queue-up2 .before .before .before .before in
+    let at-decide-cancel = at-touch-cancel .before in
+    let at-request4 = at-decide-cancel .before .before .before in
+    let at-start = at-request4 .before .before .before .before .before .before in
+    let a = at-start .args in
     λ clock texts whole.
-    for-call clock (ap (λ (x : TouchscreenRequest). touchscreenCall x (a .touchscreen) (a .version)) (c .before .before .before .before .before .before .before .before .before .before .before .before .before .before .request4 .given .1))
-    (timed-rows (a .touchscreen) (a .version) (Input.Cancel _) (c .before .before .before .before .before .before .before .before .before .before .before .decide-cancel .ensures) (cancel-waits _ (c .before .before .before .before .before .before .before .before .before .before .touch-cancel .ensures)) (c .before .before .before .before .before .before .queue-up2 .ensures) (a .out .now) clock texts whole)
+    for-call clock (ap (λ (x : TouchscreenRequest). touchscreenCall x (a .touchscreen) (a .version)) (at-request4 .request4 .given .1))
+    (timed-rows (a .touchscreen) (a .version) (Input.Cancel _) (at-decide-cancel .decide-cancel .ensures) (cancel-waits _ (at-touch-cancel .touch-cancel .ensures)) (at-queue-up2 .queue-up2 .ensures) (a .out .now) clock texts whole)
 
 pub handle-touchscreen-request-spec : {M : Type 1} → statement M
 handle-touchscreen-request-spec =
     tie.close
     (tie.spec
-    enum-told
+    (λ c. search needs)
     release-interface-requires
-    enum-known-request
+    (λ c. search needs)
     decide-down-requires
-    touch-down-requires
+    (λ c κs. search needs)
     queue-down-requires
-    enum-known-request-2
+    (λ c. search needs)
     decide-held-requires
-    touch-motion-requires
+    (λ c κs. search needs)
     queue-request-requires
-    enum-known-request-3
+    (λ c. search needs)
     decide-held-requires-2
-    touch-up-requires
+    (λ c κs. search needs)
     queue-up-requires
-    enum-known-request-4
+    (λ c. search needs)
     decide-cancel-requires
-    touch-cancel-requires
+    (λ c κs. search needs)
     queue-up-requires-2
-    same-length
-    same-length-2
+    (λ c. search needs)
+    (λ c. search needs)
     returns
-    same-length-3
-    same-length-4
-    same-length-5
+    (λ c. search needs)
+    (λ c. search needs)
+    (λ c. search needs)
     returns-2
-    same-length-6
-    same-length-7
-    same-length-8
+    (λ c. search needs)
+    (λ c. search needs)
+    (λ c. search needs)
     returns-3
-    same-length-9
-    same-length-10
-    same-length-11
+    (λ c. search needs)
+    (λ c. search needs)
+    (λ c. search needs)
     returns-4
-    same-length-12
-    same-length-13
-    same-length-14
+    (λ c. search needs)
+    (λ c. search needs)
+    (λ c. search needs)
     returns-5)

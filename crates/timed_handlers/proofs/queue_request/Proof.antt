@@ -13,19 +13,13 @@ queue-request-requires c κs =
     let pre = c .before .before .before .before .before .before .before .before .pre in
     (pre .0, (c .before .before .before .decide .ensures (pre .1 .kind) 0 (pre .1 .handled)) .slot)
 
-same-length : tie.Need-same-length
-same-length c = search needs
-
-same-length-2 : tie.Need-same-length-2
-same-length-2 c = search needs
-
-same-length-3 : tie.Need-same-length-3
-same-length-3 c = search needs
-
 returns : tie.Need-returns
 returns c =
-    let a = c .before .before .before .before .before .before .before .before .before .before .before .before .before .before .before .args in
-    λ kind version input h is. timed-rows (a .interface) version input (c .before .before .before .before .before .before .before .before .before .before .decide .ensures kind version h) is (c .before .before .before .before .before .before .queue-request .ensures)
+    let at-queue-request = c .before .before .before .before .before .before in
+    let at-decide = at-queue-request .before .before .before .before in
+    let at-start = at-decide .before .before .before .before .before in
+    let a = at-start .args in
+    λ kind version input h is. timed-rows (a .interface) version input (at-decide .decide .ensures kind version h) is (at-queue-request .queue-request .ensures)
 
 pub queue-request-spec : {M : Type 1} → statement M
 queue-request-spec =
@@ -33,7 +27,7 @@ queue-request-spec =
     (tie.spec
     decide-requires
     queue-request-requires
-    same-length
-    same-length-2
-    same-length-3
+    (λ c. search needs)
+    (λ c. search needs)
+    (λ c. search needs)
     returns)

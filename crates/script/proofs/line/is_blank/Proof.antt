@@ -25,11 +25,13 @@ begun (x ∷ l) h = refl
 returns : tie.Need-returns
 returns c = empty (c .before .args .line .now) (c .if1 .taken)
 
-shared-slice-read-result : tie.Need-shared-slice-read-result
-shared-slice-read-result c = search needs
-
 returns-2 : tie.Need-returns-2
 returns-2 c = begun (c .before .before .args .line .now) (c .before .if1 .left)
 
 pub is-blank-spec : {M : Type 1} → statement M
-is-blank-spec = tie.close (tie.spec returns shared-slice-read-result returns-2)
+is-blank-spec =
+    tie.close
+    (tie.spec
+    returns
+    (λ c. search needs)
+    returns-2)

@@ -8,9 +8,6 @@ use Rattle.script.proofs.Lines.{end-empty, end-below, end-none, end-sho
 use Rattle.script.proofs.line.line_end.Statement.{statement}
 use Rattle.script.proofs.line.line_end.Tie as tie
 
-least-requires : tie.Need-least-requires
-least-requires c κs = search needs
-
 returns : tie.Need-returns
 returns c =
     let a = c .before .before .before .args in
@@ -45,42 +42,53 @@ returns-3 c =
     let f = c .before .before .find-byte in
     end-short (a .buf .now) (a .from) (a .to) (s .result) (s .ensures) (c .before .before .before .before .if1 .left) (f .result) (f .ensures) (c .before .if2 .left) (c .if3 .taken)
 
-sub-last : tie.Need-sub-last
-sub-last c = search needs
-
 shared-slice-read-if4 : tie.Need-shared-slice-read-if4
 shared-slice-read-if4 c =
-    let a = c .before .before .before .before .before .before .before .before .args in
-    let s = c .before .before .before .before .before .before .least in
-    let f = c .before .before .before .find-byte in
-    omega (arith, s .ensures, f .ensures, end-below (a .buf .now) (a .from) (a .to) (s .result) (s .ensures) (c .before .before .before .before .before .if1 .left) (f .result) (f .ensures), c .before .if3 .left)
+    let at-find-byte = c .before .before .before in
+    let at-if1 = at-find-byte .before .before in
+    let at-least = at-if1 .before in
+    let at-start = at-least .before .before in
+    let a = at-start .args in
+    let s = at-least .least in
+    let f = at-find-byte .find-byte in
+    omega (arith, s .ensures, f .ensures, end-below (a .buf .now) (a .from) (a .to) (s .result) (s .ensures) (at-if1 .if1 .left) (f .result) (f .ensures), c .before .if3 .left)
 
 returns-4 : tie.Need-returns-4
 returns-4 c =
-    let a = c .before .before .before .before .before .before .before .before .before .args in
-    let s = c .before .before .before .before .before .before .before .least in
-    let f = c .before .before .before .before .find-byte in
-    end-return (a .buf .now) (a .from) (a .to) (s .result) (s .ensures) (c .before .before .before .before .before .before .if1 .left) (f .result) (f .ensures) (c .before .before .before .if2 .left) (c .before .before .if3 .left) (c .if4 .taken)
+    let at-if2 = c .before .before .before in
+    let at-find-byte = at-if2 .before in
+    let at-if1 = at-find-byte .before .before in
+    let at-least = at-if1 .before in
+    let at-start = at-least .before .before in
+    let a = at-start .args in
+    let s = at-least .least in
+    let f = at-find-byte .find-byte in
+    end-return (a .buf .now) (a .from) (a .to) (s .result) (s .ensures) (at-if1 .if1 .left) (f .result) (f .ensures) (at-if2 .if2 .left) (c .before .before .if3 .left) (c .if4 .taken)
 
 returns-5 : tie.Need-returns-5
 returns-5 c =
-    let a = c .before .before .before .before .before .before .before .before .before .args in
-    let s = c .before .before .before .before .before .before .before .least in
-    let f = c .before .before .before .before .find-byte in
-    end-plain (a .buf .now) (a .from) (a .to) (s .result) (s .ensures) (c .before .before .before .before .before .before .if1 .left) (f .result) (f .ensures) (c .before .before .before .if2 .left) (c .before .before .if3 .left) (c .if4 .left)
+    let at-if2 = c .before .before .before in
+    let at-find-byte = at-if2 .before in
+    let at-if1 = at-find-byte .before .before in
+    let at-least = at-if1 .before in
+    let at-start = at-least .before .before in
+    let a = at-start .args in
+    let s = at-least .least in
+    let f = at-find-byte .find-byte in
+    end-plain (a .buf .now) (a .from) (a .to) (s .result) (s .ensures) (at-if1 .if1 .left) (f .result) (f .ensures) (at-if2 .if2 .left) (c .before .before .if3 .left) (c .if4 .left)
 
 pub line-end-spec : {M : Type 1} → statement M
 line-end-spec =
     tie.close
     (tie.spec
-    least-requires
+    (λ c κs. search needs)
     returns
     slice-aggregate-filled
     find-byte-requires
     returns-2
     add-next
     returns-3
-    sub-last
+    (λ c. search needs)
     shared-slice-read-if4
     returns-4
     returns-5)

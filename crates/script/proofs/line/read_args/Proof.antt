@@ -113,119 +113,97 @@ read-d c =
 
 -- ---- the needs
 
-slot-at-requires : tie.Need-slot-at-requires
-slot-at-requires c κs = search needs
-
-read-slot-requires : tie.Need-read-slot-requires
-read-slot-requires c κs = search needs
-
-enum-known-a : tie.Need-enum-known-a
-enum-known-a c = search needs
-
-enum-told : tie.Need-enum-told
-enum-told c = search needs
-
 returns : tie.Need-returns
 returns c =
-    let a = c .before .before .before .before .before .args in
+    let at-slot-at = c .before .before .before in
+    let at-start = at-slot-at .before .before in
+    let a = at-start .args in
     record {
       reads =
-          sym (ap (λ (ks : List Kind). readArgs ks (wordsFrom (a .at) (a .line .now))) (row-split (a .i) (omega (arith, c .before .before .before .before .before .pre)))
-          ∙ stopped (a .line .now) (a .at) (c .before .before .before .slot-at .result) (slotAt 0 (rowAt (a .i) .kinds)) (c .before .before .before .slot-at .ensures)
+          sym (ap (λ (ks : List Kind). readArgs ks (wordsFrom (a .at) (a .line .now))) (row-split (a .i) (omega (arith, at-start .pre)))
+          ∙ stopped (a .line .now) (a .at) (at-slot-at .slot-at .result) (slotAt 0 (rowAt (a .i) .kinds)) (at-slot-at .slot-at .ensures)
           (c .before .before .read-slot .result) (c .before .before .read-slot .ensures) (c .enum-told .given .1) (from1 (rowAt (a .i) .kinds)));
       inTurn = tt;
     }
 
-slot-at-requires-2 : tie.Need-slot-at-requires-2
-slot-at-requires-2 c κs = search needs
-
 read-slot-requires-2 : tie.Need-read-slot-requires-2
 read-slot-requires-2 c κs = slot-a (c .before) .0
 
-enum-known-b : tie.Need-enum-known-b
-enum-known-b c = search needs
-
-enum-told-2 : tie.Need-enum-told-2
-enum-told-2 c = search needs
-
 returns-2 : tie.Need-returns-2
 returns-2 c =
-    let f = (c .before .before .before .before) in
+    let at-slot-at2 = c .before .before .before in
+    let at-place = at-slot-at2 .before in
+    let f = (at-place) in
     record {
       reads =
-          sym (read-a (c .before .before .before .before)
-          ∙ ap (λ (r : Option (List Arg)). behind (valueTold (line f) (value-a (c .before .before .before .before))) r)
-          (stopped (line f) (end-a (c .before .before .before .before)) (c .before .before .before .slot-at2 .result) (slotAt 1 (kinds f)) (c .before .before .before .slot-at2 .ensures)
+          sym (read-a (at-place)
+          ∙ ap (λ (r : Option (List Arg)). behind (valueTold (line f) (value-a (at-place))) r)
+          (stopped (line f) (end-a (at-place)) (at-slot-at2 .slot-at2 .result) (slotAt 1 (kinds f)) (at-slot-at2 .slot-at2 .ensures)
           (c .before .before .read-slot2 .result) (c .before .before .read-slot2 .ensures) (c .enum-told2 .given .1) (from2 (kinds f))));
       inTurn = tt;
     }
 
-slot-at-requires-3 : tie.Need-slot-at-requires-3
-slot-at-requires-3 c κs = search needs
-
 read-slot-requires-3 : tie.Need-read-slot-requires-3
 read-slot-requires-3 c κs = slot-b (c .before) .0
 
-enum-known-c : tie.Need-enum-known-c
-enum-known-c c = search needs
-
-enum-told-3 : tie.Need-enum-told-3
-enum-told-3 c = search needs
-
 returns-3 : tie.Need-returns-3
 returns-3 c =
-    let f = (first2 (c .before .before .before .before)) in
+    let at-slot-at3 = c .before .before .before in
+    let at-place = at-slot-at3 .before in
+    let at-place-2 = at-place .before .before .before .before .before in
+    let f = (first2 (at-place)) in
     record {
       reads =
-          sym (read-b (c .before .before .before .before)
-          ∙ ap (λ (r : Option (List Arg)). behind (valueTold (line f) (value-a (c .before .before .before .before .before .before .before .before .before))) (behind (valueTold (line f) (value-b (c .before .before .before .before))) r))
-          (stopped (line f) (end-b (c .before .before .before .before)) (c .before .before .before .slot-at3 .result) (slotAt 2 (kinds f)) (c .before .before .before .slot-at3 .ensures)
+          sym (read-b (at-place)
+          ∙ ap (λ (r : Option (List Arg)). behind (valueTold (line f) (value-a (at-place-2))) (behind (valueTold (line f) (value-b (at-place))) r))
+          (stopped (line f) (end-b (at-place)) (at-slot-at3 .slot-at3 .result) (slotAt 2 (kinds f)) (at-slot-at3 .slot-at3 .ensures)
           (c .before .before .read-slot3 .result) (c .before .before .read-slot3 .ensures) (c .enum-told3 .given .1) (from3 (kinds f))));
       inTurn = tt;
     }
 
-slot-at-requires-4 : tie.Need-slot-at-requires-4
-slot-at-requires-4 c κs = search needs
-
 read-slot-requires-4 : tie.Need-read-slot-requires-4
 read-slot-requires-4 c κs = slot-c (c .before) .0
 
-enum-known-d : tie.Need-enum-known-d
-enum-known-d c = search needs
-
-enum-told-4 : tie.Need-enum-told-4
-enum-told-4 c = search needs
-
 returns-4 : tie.Need-returns-4
 returns-4 c =
-    let f = (first3 (c .before .before .before .before)) in
+    let at-slot-at4 = c .before .before .before in
+    let at-place = at-slot-at4 .before in
+    let at-place-2 = at-place .before .before .before .before .before in
+    let at-place-3 = at-place-2 .before .before .before .before .before in
+    let f = (first3 (at-place)) in
     record {
       reads =
-          sym (read-c (c .before .before .before .before)
-          ∙ ap (λ (r : Option (List Arg)). behind (valueTold (line f) (value-a (c .before .before .before .before .before .before .before .before .before .before .before .before .before .before))) (behind (valueTold (line f) (value-b (c .before .before .before .before .before .before .before .before .before))) (behind (valueTold (line f) (value-c (c .before .before .before .before))) r)))
-          (stopped (line f) (end-c (c .before .before .before .before)) (c .before .before .before .slot-at4 .result) (slotAt 3 (kinds f)) (c .before .before .before .slot-at4 .ensures)
+          sym (read-c (at-place)
+          ∙ ap (λ (r : Option (List Arg)). behind (valueTold (line f) (value-a (at-place-3))) (behind (valueTold (line f) (value-b (at-place-2))) (behind (valueTold (line f) (value-c (at-place))) r)))
+          (stopped (line f) (end-c (at-place)) (at-slot-at4 .slot-at4 .result) (slotAt 3 (kinds f)) (at-slot-at4 .slot-at4 .ensures)
           (c .before .before .read-slot4 .result) (c .before .before .read-slot4 .ensures) (c .enum-told4 .given .1) []));
       inTurn = tt;
     }
 
 returns-5 : tie.Need-returns-5
 returns-5 c =
+    let at-place = c .before .before .before .before .before .before in
+    let at-place-2 = at-place .before .before .before .before .before in
+    let at-place-3 = at-place-2 .before .before .before .before .before in
     let f = first4 (c .before) in
     record {
-      reads = sym (read-d (c .before) ∙ ap (λ (r : Option (List Arg)). behind (valueTold (line f) (value-a (c .before .before .before .before .before .before .before .before .before .before .before .before .before .before .before .before))) (behind (valueTold (line f) (value-b (c .before .before .before .before .before .before .before .before .before .before .before))) (behind (valueTold (line f) (value-c (c .before .before .before .before .before .before))) (behind (valueTold (line f) (value-d (c .before))) r)))) (args-more (line f) (end-d (c .before)) (c .if1 .taken)));
+      reads = sym (read-d (c .before) ∙ ap (λ (r : Option (List Arg)). behind (valueTold (line f) (value-a (at-place-3))) (behind (valueTold (line f) (value-b (at-place-2))) (behind (valueTold (line f) (value-c (at-place))) (behind (valueTold (line f) (value-d (c .before))) r)))) (args-more (line f) (end-d (c .before)) (c .if1 .taken)));
       inTurn = tt;
     }
 
 returns-6 : tie.Need-returns-6
 returns-6 c =
+    let at-place = c .before .before .before .before .before .before in
+    let at-place-2 = at-place .before .before .before .before .before in
+    let at-place-3 = at-place-2 .before .before .before .before .before in
     let f = first4 (c .before) in
     record {
-      reads = sym (read-d (c .before) ∙ ap (λ (r : Option (List Arg)). behind (valueTold (line f) (value-a (c .before .before .before .before .before .before .before .before .before .before .before .before .before .before .before .before))) (behind (valueTold (line f) (value-b (c .before .before .before .before .before .before .before .before .before .before .before))) (behind (valueTold (line f) (value-c (c .before .before .before .before .before .before))) (behind (valueTold (line f) (value-d (c .before))) r)))) (args-end (line f) (end-d (c .before)) (c .if1 .left)));
+      reads = sym (read-d (c .before) ∙ ap (λ (r : Option (List Arg)). behind (valueTold (line f) (value-a (at-place-3))) (behind (valueTold (line f) (value-b (at-place-2))) (behind (valueTold (line f) (value-c (at-place))) (behind (valueTold (line f) (value-d (c .before))) r)))) (args-end (line f) (end-d (c .before)) (c .if1 .left)));
       inTurn = (
-        omega (arith, slot-a (first4 (c .before)) .1 .0, slot-b (c .before .before .before .before .before .before .before .before .before .before .before) .1 .0, in-turn 0 (kinds f)),
+        omega (arith, slot-a (first4 (c .before)) .1 .0, slot-b (at-place-2) .1 .0, in-turn 0 (kinds f)),
         (
-          omega (arith, slot-b (c .before .before .before .before .before .before .before .before .before .before .before) .1 .0, slot-c (c .before .before .before .before .before .before) .1 .0, in-turn 1 (kinds f)),
-          omega (arith, slot-c (c .before .before .before .before .before .before) .1 .0, slot-d (c .before) .1 .0, in-turn 2 (kinds f)),
+          omega (arith, slot-b (at-place-2) .1 .0, slot-c (at-place) .1 .0, in-turn 1 (kinds f)),
+          omega (arith, slot-c (at-place) .1 .0, slot-d (c .before) .1 .0, in-turn 2 (kinds f)),
         ),
       );
     }
@@ -234,25 +212,25 @@ pub read-args-spec : {M : Type 1} → statement M
 read-args-spec =
     tie.close
     (tie.spec
-    slot-at-requires
-    read-slot-requires
-    enum-known-a
-    enum-told
+    (λ c κs. search needs)
+    (λ c κs. search needs)
+    (λ c. search needs)
+    (λ c. search needs)
     returns
-    slot-at-requires-2
+    (λ c κs. search needs)
     read-slot-requires-2
-    enum-known-b
-    enum-told-2
+    (λ c. search needs)
+    (λ c. search needs)
     returns-2
-    slot-at-requires-3
+    (λ c κs. search needs)
     read-slot-requires-3
-    enum-known-c
-    enum-told-3
+    (λ c. search needs)
+    (λ c. search needs)
     returns-3
-    slot-at-requires-4
+    (λ c κs. search needs)
     read-slot-requires-4
-    enum-known-d
-    enum-told-4
+    (λ c. search needs)
+    (λ c. search needs)
     returns-4
     returns-5
     returns-6)

@@ -16,23 +16,11 @@ use Rattle.script.proofs.Lines.{one-value, slot-empty, slot-missing, sl
 use Rattle.script.proofs.line.read_slot.Statement.{statement}
 use Rattle.script.proofs.line.read_slot.Tie as tie
 
-enum-told : tie.Need-enum-told
-enum-told c = search needs
-
-enum-known-slot : tie.Need-enum-known-slot
-enum-known-slot c = search needs
-
 returns : tie.Need-returns
 returns c =
     let a = c .before .before .before .before .before .args in
     let k = c .before .before .slot .given in
     subst (λ (s : Slot). Stepped (a .line .now) (a .at) s Step.Nothing) (sym (k .1)) (slot-missing (a .line .now) (a .at) (k .0 .0) (c .if1 .taken))
-
-add-from : tie.Need-add-from
-add-from c = search needs
-
-find-byte-requires : tie.Need-find-byte-requires
-find-byte-requires c κs = search needs
 
 read-requires : tie.Need-read-requires
 read-requires c κs =
@@ -40,12 +28,6 @@ read-requires c κs =
     let f = c .find-byte in
     let l = drop (a .at + 1) (a .line .now) in
     (omega (arith, f .ensures), omega (arith, f .ensures, before-le 0x20 l, length-drop (a .at + 1) (a .line .now)))
-
-enum-known-v : tie.Need-enum-known-v
-enum-known-v c = search needs
-
-enum-told-2 : tie.Need-enum-told-2
-enum-told-2 c = search needs
 
 returns-2 : tie.Need-returns-2
 unfolding valueTold
@@ -56,39 +38,48 @@ returns-2 c =
 
 returns-3 : tie.Need-returns-3
 returns-3 c =
-    let a = c .before .before .before .before .before .before .before .before .before .before .args in
-    let k = c .before .before .before .before .before .before .before .slot .given in
+    let at-read = c .before .before .before in
+    let at-find-byte = at-read .before in
+    let at-if1 = at-find-byte .before in
+    let at-slot = at-if1 .before .before in
+    let at-start = at-slot .before .before .before in
+    let a = at-start .args in
+    let k = at-slot .slot .given in
     let v = c .before .v .given in
-    let f = c .before .before .before .before .find-byte in
+    let f = at-find-byte .find-byte in
     let l = drop (a .at + 1) (a .line .now) in
     let xs = valueTold (a .line .now) (v .0 .0) in
     let o = readAs (k .0 .0) (part (a .at + 1) (f .result) (a .line .now)) in
-    let e : some xs ≡ one o = ap (wordTold (a .line .now)) (sym (v .1)) ∙ c .before .before .before .read .ensures in
+    let e : some xs ≡ one o = ap (wordTold (a .line .now)) (sym (v .1)) ∙ at-read .read .ensures in
     subst (λ (s : Slot). Stepped (a .line .now) (a .at) s (Step.Read (v .0 .0) (f .result))) (sym (k .1)) (
-      omega (arith, f .ensures, before-le 0x20 l, length-drop (a .at + 1) (a .line .now), c .before .before .before .before .before .if1 .left),
-      (one-value o xs e, slot-read (a .line .now) (a .at) (k .0 .0) (f .result) (c .before .before .before .before .before .if1 .left) (f .ensures) xs e),
+      omega (arith, f .ensures, before-le 0x20 l, length-drop (a .at + 1) (a .line .now), at-if1 .if1 .left),
+      (one-value o xs e, slot-read (a .line .now) (a .at) (k .0 .0) (f .result) (at-if1 .if1 .left) (f .ensures) xs e),
     )
 
 returns-4 : tie.Need-returns-4
 returns-4 c =
-    let a = c .before .before .before .before .before .before .before .before .before .args in
-    let k = c .before .before .before .before .before .before .slot .given in
+    let at-find-byte = c .before .before .before in
+    let at-if1 = at-find-byte .before in
+    let at-slot = at-if1 .before .before in
+    let at-start = at-slot .before .before .before in
+    let a = at-start .args in
+    let k = at-slot .slot .given in
     subst (λ (s : Slot). Stepped (a .line .now) (a .at) s Step.Nothing) (sym (k .1))
-    (slot-bad (a .line .now) (a .at) (k .0 .0) (c .before .before .before .find-byte .result) (c .before .before .before .before .if1 .left) (c .before .before .before .find-byte .ensures)
+    (slot-bad (a .line .now) (a .at) (k .0 .0) (at-find-byte .find-byte .result) (at-if1 .if1 .left) (at-find-byte .find-byte .ensures)
     (ap (wordTold (a .line .now)) (sym (c .enum-told2 .given .1)) ∙ c .before .before .read .ensures))
 
 pub read-slot-spec : {M : Type 1} → statement M
 read-slot-spec =
     tie.close
     (tie.spec
-    enum-told
-    enum-known-slot
+    (λ c. search needs)
+    (λ c. search needs)
     returns
-    add-from
-    find-byte-requires
+    (λ c. search needs)
+    (λ c κs. search needs)
     read-requires
-    enum-known-v
-    enum-told-2
+    (λ c. search needs)
+    (λ c. search needs)
     returns-2
     returns-3
     returns-4)

@@ -20,12 +20,6 @@ abbrev μ-loop : tie.MeasureT-loop
 μ-loop word i₀ i =
     length word - i
 
-slice-aggregate-starts-with : tie.Need-slice-aggregate-starts-with Inv-loop μ-loop
-slice-aggregate-starts-with c = search needs
-
-starts-with-requires : tie.Need-starts-with-requires Inv-loop μ-loop
-starts-with-requires c κs = search needs
-
 returns : tie.Need-returns Inv-loop μ-loop
 unfolding ascii
 returns c =
@@ -38,9 +32,6 @@ loop-holds c =
     let s = sym (c .before .starts-with .ensures) ∙ not-false (c .before .starts-with .result) (c .if1 .left) in
     (omega (arith, starts-length (ascii "t:") w s), text-start w s)
 
-sub-if2 : tie.Need-sub-if2 Inv-loop μ-loop
-sub-if2 c = search needs
-
 returns-2 : tie.Need-returns-2 Inv-loop μ-loop
 returns-2 c =
     let w = c .before .before .before .before .before .before .before .args .word .now in
@@ -51,41 +42,29 @@ shared-slice-read-value-of : tie.Need-shared-slice-read-value-of Inv-loop μ-loo
 shared-slice-read-value-of c =
     omega arith
 
-value-of-requires : tie.Need-value-of-requires Inv-loop μ-loop
-value-of-requires c κs = search needs
-
 returns-3 : tie.Need-returns-3 Inv-loop μ-loop
 returns-3 c =
     let w = c .before .before .before .before .before .before .before .before .before .before .args .word .now in
     let l = c .before .before .before .before .before .loop in
     sym (l .inv .1 ∙ pairs-high w (l .i) (omega arith) (omega (arith, c .before .value-of .ensures)))
 
-add-value-of : tie.Need-add-value-of Inv-loop μ-loop
-add-value-of c = search needs
-
-shared-slice-read-value-of-2 : tie.Need-shared-slice-read-value-of-2 Inv-loop μ-loop
-shared-slice-read-value-of-2 c = search needs
-
-value-of-requires-2 : tie.Need-value-of-requires-2 Inv-loop μ-loop
-value-of-requires-2 c κs = search needs
-
 returns-4 : tie.Need-returns-4 Inv-loop μ-loop
 returns-4 c =
-    let w = c .before .before .before .before .before .before .before .before .before .before .before .before .before .args .word .now in
-    let l = c .before .before .before .before .before .before .before .before .loop in
-    sym (l .inv .1 ∙ pairs-low w (l .i) (omega arith) (omega (arith, c .before .before .before .before .value-of .ensures)) (omega (arith, c .before .value-of2 .ensures)))
-
-add-i : tie.Need-add-i Inv-loop μ-loop
-add-i c = search needs
-
-loop-less : tie.Need-loop-less Inv-loop μ-loop
-loop-less c = search needs
+    let at-value-of = c .before .before .before .before in
+    let at-loop = at-value-of .before .before .before .before in
+    let at-start = at-loop .before .before .before .before .before in
+    let w = at-start .args .word .now in
+    let l = at-loop .loop in
+    sym (l .inv .1 ∙ pairs-low w (l .i) (omega arith) (omega (arith, at-value-of .value-of .ensures)) (omega (arith, c .before .value-of2 .ensures)))
 
 loop-again : tie.Need-loop-again Inv-loop μ-loop
 loop-again c =
-    let w = c .before .before .before .before .before .before .before .before .before .before .before .before .before .args .word .now in
-    let l = c .before .before .before .before .before .before .before .before .loop in
-    (omega arith, l .inv .1 ∙ pairs-on w (l .i) (omega arith) (omega (arith, c .before .before .before .before .value-of .ensures)) (omega (arith, c .before .value-of2 .ensures)))
+    let at-value-of = c .before .before .before .before in
+    let at-loop = at-value-of .before .before .before .before in
+    let at-start = at-loop .before .before .before .before .before in
+    let w = at-start .args .word .now in
+    let l = at-loop .loop in
+    (omega arith, l .inv .1 ∙ pairs-on w (l .i) (omega arith) (omega (arith, at-value-of .value-of .ensures)) (omega (arith, c .before .value-of2 .ensures)))
 
 returns-5 : tie.Need-returns-5 Inv-loop μ-loop
 returns-5 c =
@@ -99,20 +78,20 @@ is-text-spec =
     (tie.spec
     Inv-loop
     μ-loop
-    slice-aggregate-starts-with
-    starts-with-requires
+    (λ c. search needs)
+    (λ c κs. search needs)
     returns
     loop-holds
-    sub-if2
+    (λ c. search needs)
     returns-2
     shared-slice-read-value-of
-    value-of-requires
+    (λ c κs. search needs)
     returns-3
-    add-value-of
-    shared-slice-read-value-of-2
-    value-of-requires-2
+    (λ c. search needs)
+    (λ c. search needs)
+    (λ c κs. search needs)
     returns-4
-    add-i
-    loop-less
+    (λ c. search needs)
+    (λ c. search needs)
     loop-again
     returns-5)

@@ -9,9 +9,6 @@ use Rattle.script.proofs.Texts.{text-at, text-room}
 use Rattle.script.proofs.text.text_byte.Statement.{statement}
 use Rattle.script.proofs.text.text_byte.Tie as tie
 
-text-len-requires : tie.Need-text-len-requires
-text-len-requires c κs = search needs
-
 returns : tie.Need-returns
 returns c =
     let a = c .before .before .before .args in
@@ -37,22 +34,10 @@ shared-slice-read-value-of c =
     let a = c .before .before .before .before .before .args in
     omega (arith, text-room (a .line .now) (a .t) (a .i) (omega (arith, c .before .before .before .text-len .ensures)))
 
-value-of-requires : tie.Need-value-of-requires
-value-of-requires c κs = search needs
-
 shared-slice-read-value-of-2 : tie.Need-shared-slice-read-value-of-2
 shared-slice-read-value-of-2 c =
     let a = c .before .before .before .before .before .before .before .args in
     omega (arith, text-room (a .line .now) (a .t) (a .i) (omega (arith, c .before .before .before .before .before .text-len .ensures)))
-
-value-of-requires-2 : tie.Need-value-of-requires-2
-value-of-requires-2 c κs = search needs
-
-mul-result : tie.Need-mul-result
-mul-result c = search needs
-
-add-result : tie.Need-add-result
-add-result c = search needs
 
 returns-2 : tie.Need-returns-2
 returns-2 c =
@@ -64,15 +49,15 @@ pub text-byte-spec : {M : Type 1} → statement M
 text-byte-spec =
     tie.close
     (tie.spec
-    text-len-requires
+    (λ c κs. search needs)
     returns
     mul-at
     add-at
     add-next
     shared-slice-read-value-of
-    value-of-requires
+    (λ c κs. search needs)
     shared-slice-read-value-of-2
-    value-of-requires-2
-    mul-result
-    add-result
+    (λ c κs. search needs)
+    (λ c. search needs)
+    (λ c. search needs)
     returns-2)

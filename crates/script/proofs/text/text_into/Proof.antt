@@ -18,32 +18,14 @@ abbrev μ-loop : tie.MeasureT-loop
 μ-loop line t out₀ n i₀ out i =
     n - i
 
-text-len-requires : tie.Need-text-len-requires Inv-loop μ-loop
-text-len-requires c κs = search needs
-
 loop-holds : tie.Need-loop-holds Inv-loop μ-loop
 loop-holds c =
     (omega arith, omega arith, refl, c .text-len .ensures, paste-zero (c .before .before .before .args .out .now) 0 (textBytes (c .before .before .before .args .line .now) (c .before .before .before .args .t)))
-
-same-length : tie.Need-same-length Inv-loop μ-loop
-same-length c = search needs
 
 returns : tie.Need-returns Inv-loop μ-loop
 returns c =
     let l = c .before .before .loop in
     record { count = omega arith; bytes = l .inv .4 }
-
-text-byte-requires : tie.Need-text-byte-requires Inv-loop μ-loop
-text-byte-requires c κs = search needs
-
-slice-write-out : tie.Need-slice-write-out Inv-loop μ-loop
-slice-write-out c = search needs
-
-add-i : tie.Need-add-i Inv-loop μ-loop
-add-i c = search needs
-
-loop-less : tie.Need-loop-less Inv-loop μ-loop
-loop-less c = search needs
 
 loop-again : tie.Need-loop-again Inv-loop μ-loop
 loop-again c =
@@ -63,9 +45,6 @@ loop-again c =
           ∙ ap (λ (k : ℕ). paste (a .out .now) 0 t k) s,
     )
 
-same-length-2 : tie.Need-same-length-2 Inv-loop μ-loop
-same-length-2 c = search needs
-
 returns-2 : tie.Need-returns-2 Inv-loop μ-loop
 returns-2 c =
     let l = c .before .loop in
@@ -77,14 +56,14 @@ text-into-spec =
     (tie.spec
     Inv-loop
     μ-loop
-    text-len-requires
+    (λ c κs. search needs)
     loop-holds
-    same-length
+    (λ c. search needs)
     returns
-    text-byte-requires
-    slice-write-out
-    add-i
-    loop-less
+    (λ c κs. search needs)
+    (λ c. search needs)
+    (λ c. search needs)
+    (λ c. search needs)
     loop-again
-    same-length-2
+    (λ c. search needs)
     returns-2)

@@ -9,9 +9,6 @@ returns : tie.Need-returns
 returns c =
     omega (arith, text-length (c .before .before .args .line .now) (c .before .before .args .t))
 
-sub-room : tie.Need-sub-room
-sub-room c = search needs
-
 returns-2 : tie.Need-returns-2
 returns-2 c =
     omega (arith, text-length (c .before .before .before .before .before .args .line .now) (c .before .before .before .before .before .args .t))
@@ -21,4 +18,10 @@ returns-3 c =
     omega (arith, text-length (c .before .before .before .before .before .args .line .now) (c .before .before .before .before .before .args .t))
 
 pub text-len-spec : {M : Type 1} → statement M
-text-len-spec = tie.close (tie.spec returns sub-room returns-2 returns-3)
+text-len-spec =
+    tie.close
+    (tie.spec
+    returns
+    (λ c. search needs)
+    returns-2
+    returns-3)

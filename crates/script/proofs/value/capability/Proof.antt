@@ -9,15 +9,6 @@ use Rattle.script.proofs.Values.{small-seven, seven-low, seven-two, sev
 use Rattle.script.proofs.value.capability.Statement.{statement}
 use Rattle.script.proofs.value.capability.Tie as tie
 
-number-in-requires : tie.Need-number-in-requires
-number-in-requires c κs = search needs
-
-enum-known-n : tie.Need-enum-known-n
-enum-known-n c = search needs
-
-enum-told : tie.Need-enum-told
-enum-told c = search needs
-
 returns : tie.Need-returns
 returns c =
     λ l.
@@ -27,10 +18,13 @@ returns c =
 
 returns-2 : tie.Need-returns-2
 returns-2 c =
+    let at-n = c .before .before .before .before in
+    let at-number-in = at-n .before .before in
+    let at-start = at-number-in .before .before in
     λ l.
-    let n = c .before .before .before .before .n .given in
-    given-not number64 oneOfSeven small-seven (number (c .before .before .before .before .before .before .before .before .args .word .now)) (n .0 .0)
-    (ap numberTold (sym (n .1)) ∙ c .before .before .before .before .before .before .number-in .ensures) (seven-not (n .0 .0) (c .if2 .left) (c .before .before .match2 .rest .1))
+    let n = at-n .n .given in
+    given-not number64 oneOfSeven small-seven (number (at-start .args .word .now)) (n .0 .0)
+    (ap numberTold (sym (n .1)) ∙ at-number-in .number-in .ensures) (seven-not (n .0 .0) (c .if2 .left) (c .before .before .match2 .rest .1))
 
 returns-3 : tie.Need-returns-3
 unfolding valueTold
@@ -43,10 +37,13 @@ returns-3 c =
 returns-4 : tie.Need-returns-4
 unfolding valueTold
 returns-4 c =
+    let at-n = c .before .before .before .before in
+    let at-number-in = at-n .before .before in
+    let at-start = at-number-in .before .before in
     λ l.
-    let n = c .before .before .before .before .n .given in
-    given-some number64 oneOfSeven small-seven (number (c .before .before .before .before .before .before .before .before .args .word .now)) (n .0 .0)
-    (ap numberTold (sym (n .1)) ∙ c .before .before .before .before .before .before .number-in .ensures) (seven-two (n .0 .0) (c .before .if1 .left) (omega (arith, c .if2 .taken)))
+    let n = at-n .n .given in
+    given-some number64 oneOfSeven small-seven (number (at-start .args .word .now)) (n .0 .0)
+    (ap numberTold (sym (n .1)) ∙ at-number-in .number-in .ensures) (seven-two (n .0 .0) (c .before .if1 .left) (omega (arith, c .if2 .taken)))
 
 returns-5 : tie.Need-returns-5
 returns-5 c =
@@ -56,9 +53,9 @@ pub capability-spec : {M : Type 1} → statement M
 capability-spec =
     tie.close
     (tie.spec
-    number-in-requires
-    enum-known-n
-    enum-told
+    (λ c κs. search needs)
+    (λ c. search needs)
+    (λ c. search needs)
     returns
     returns-2
     returns-3

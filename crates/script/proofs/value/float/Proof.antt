@@ -15,22 +15,10 @@ use Rattle.script.proofs.Values.{small-within, within-yes, within-high,
 use Rattle.script.proofs.value.float.Statement.{statement}
 use Rattle.script.proofs.value.float.Tie as tie
 
-slice-aggregate-same : tie.Need-slice-aggregate-same
-slice-aggregate-same c = search needs
-
-same-requires : tie.Need-same-requires
-same-requires c κs = search needs
-
 returns : tie.Need-returns
 unfolding ascii valueTold div ofBits
 returns c =
     λ l. is-nan (c .before .before .before .before .args .word .now) (sym (c .before .same .ensures) ∙ c .if1 .taken)
-
-slice-aggregate-starts-with : tie.Need-slice-aggregate-starts-with
-slice-aggregate-starts-with c = search needs
-
-starts-with-requires : tie.Need-starts-with-requires
-starts-with-requires c κs = search needs
 
 returns-2 : tie.Need-returns-2
 unfolding ascii
@@ -38,66 +26,69 @@ returns-2 c =
     λ l.
     no-bits (c .before .before .before .before .before .before .before .args .word .now) (sym (c .before .before .before .before .same .ensures) ∙ c .before .before .before .if1 .left) (sym (c .before .starts-with .ensures) ∙ not-true (c .before .starts-with .result) (c .if2 .taken))
 
-number-in-requires : tie.Need-number-in-requires
-number-in-requires c κs = search needs
-
-enum-known-n : tie.Need-enum-known-n
-enum-known-n c = search needs
-
 returns-3 : tie.Need-returns-3
 unfolding ascii
 returns-3 c =
+    let at-number-in = c .before .before .before .before in
+    let at-if2 = at-number-in .before in
+    let at-starts-with = at-if2 .before in
+    let at-if1 = at-starts-with .before .before in
+    let at-same = at-if1 .before in
+    let at-start = at-same .before .before .before in
     λ l.
-    let w = c .before .before .before .before .before .before .before .before .before .before .before .before .args .word .now in
+    let w = at-start .args .word .now in
     let n = c .before .before .n .given in
     given-not (λ n. float (ofBits binary32 n)) (within 0 (2 ^ 32 - 1)) (small-within 0 (2 ^ 32 - 1) (omega arith)) (number w) (n .0 .0)
-    (ap numberTold (sym (n .1)) ∙ c .before .before .before .before .number-in .ensures) (within-high 0 (2 ^ 32 - 1) (n .0 .0) (c .if3 .taken))
-    ∙ bits w (sym (c .before .before .before .before .before .before .before .before .before .same .ensures) ∙ c .before .before .before .before .before .before .before .before .if1 .left) (sym (c .before .before .before .before .before .before .starts-with .ensures) ∙ not-false (c .before .before .before .before .before .before .starts-with .result) (c .before .before .before .before .before .if2 .left))
-
-cast-of-bits : tie.Need-cast-of-bits
-cast-of-bits c = search needs
-
-of-bits-requires : tie.Need-of-bits-requires
-of-bits-requires c κs = search needs
-
-enum-told : tie.Need-enum-told
-enum-told c = search needs
+    (ap numberTold (sym (n .1)) ∙ at-number-in .number-in .ensures) (within-high 0 (2 ^ 32 - 1) (n .0 .0) (c .if3 .taken))
+    ∙ bits w (sym (at-same .same .ensures) ∙ at-if1 .if1 .left) (sym (at-starts-with .starts-with .ensures) ∙ not-false (at-starts-with .starts-with .result) (at-if2 .if2 .left))
 
 returns-4 : tie.Need-returns-4
 unfolding ascii valueTold
 returns-4 c =
+    let at-n = c .before .before .before in
+    let at-number-in = at-n .before .before in
+    let at-if2 = at-number-in .before in
+    let at-starts-with = at-if2 .before in
+    let at-if1 = at-starts-with .before .before in
+    let at-same = at-if1 .before in
+    let at-start = at-same .before .before .before in
     λ l.
-    let w = c .before .before .before .before .before .before .before .before .before .before .before .before .before .args .word .now in
-    let n = c .before .before .before .n .given in
+    let w = at-start .args .word .now in
+    let n = at-n .n .given in
     ap (λ (x : Float). some (float x ∷ [])) (c .of-bits .ensures)
     ∙ given-some (λ n. float (ofBits binary32 n)) (within 0 (2 ^ 32 - 1)) (small-within 0 (2 ^ 32 - 1) (omega arith)) (number w) (n .0 .0)
-    (ap numberTold (sym (n .1)) ∙ c .before .before .before .before .before .number-in .ensures) (within-yes 0 (2 ^ 32 - 1) (n .0 .0) (omega arith) (c .before .if3 .left))
-    ∙ bits w (sym (c .before .before .before .before .before .before .before .before .before .before .same .ensures) ∙ c .before .before .before .before .before .before .before .before .before .if1 .left) (sym (c .before .before .before .before .before .before .before .starts-with .ensures) ∙ not-false (c .before .before .before .before .before .before .before .starts-with .result) (c .before .before .before .before .before .before .if2 .left))
+    (ap numberTold (sym (n .1)) ∙ at-number-in .number-in .ensures) (within-yes 0 (2 ^ 32 - 1) (n .0 .0) (omega arith) (c .before .if3 .left))
+    ∙ bits w (sym (at-same .same .ensures) ∙ at-if1 .if1 .left) (sym (at-starts-with .starts-with .ensures) ∙ not-false (at-starts-with .starts-with .result) (at-if2 .if2 .left))
 
 returns-5 : tie.Need-returns-5
 unfolding ascii
 returns-5 c =
+    let at-if2 = c .before .before .before in
+    let at-starts-with = at-if2 .before in
+    let at-if1 = at-starts-with .before .before in
+    let at-same = at-if1 .before in
+    let at-start = at-same .before .before .before in
     λ l.
-    let w = c .before .before .before .before .before .before .before .before .before .before .args .word .now in
+    let w = at-start .args .word .now in
     given-none (λ n. float (ofBits binary32 n)) (within 0 (2 ^ 32 - 1)) (small-within 0 (2 ^ 32 - 1) (omega arith)) (number w)
     (ap numberTold (sym (c .enum-told .given .1)) ∙ c .before .before .number-in .ensures)
-    ∙ bits w (sym (c .before .before .before .before .before .before .before .same .ensures) ∙ c .before .before .before .before .before .before .if1 .left) (sym (c .before .before .before .before .starts-with .ensures) ∙ not-false (c .before .before .before .before .starts-with .result) (c .before .before .before .if2 .left))
+    ∙ bits w (sym (at-same .same .ensures) ∙ at-if1 .if1 .left) (sym (at-starts-with .starts-with .ensures) ∙ not-false (at-starts-with .starts-with .result) (at-if2 .if2 .left))
 
 pub float-spec : {M : Type 1} → statement M
 float-spec =
     tie.close
     (tie.spec
-    slice-aggregate-same
-    same-requires
+    (λ c. search needs)
+    (λ c κs. search needs)
     returns
-    slice-aggregate-starts-with
-    starts-with-requires
+    (λ c. search needs)
+    (λ c κs. search needs)
     returns-2
-    number-in-requires
-    enum-known-n
+    (λ c κs. search needs)
+    (λ c. search needs)
     returns-3
-    cast-of-bits
-    of-bits-requires
-    enum-told
+    (λ c. search needs)
+    (λ c κs. search needs)
+    (λ c. search needs)
     returns-4
     returns-5)

@@ -7,27 +7,6 @@ use Rattle.script.specs.Told.{i32Of}
 use Rattle.script.proofs.value.i32_of.Statement.{statement}
 use Rattle.script.proofs.value.i32_of.Tie as tie
 
-enum-known-v : tie.Need-enum-known-v
-enum-known-v c = search needs
-
-enum-told : tie.Need-enum-told
-enum-told c = search needs
-
-enum-told-2 : tie.Need-enum-told-2
-enum-told-2 c = search needs
-
-enum-told-3 : tie.Need-enum-told-3
-enum-told-3 c = search needs
-
-enum-told-4 : tie.Need-enum-told-4
-enum-told-4 c = search needs
-
-enum-told-5 : tie.Need-enum-told-5
-enum-told-5 c = search needs
-
-enum-told-6 : tie.Need-enum-told-6
-enum-told-6 c = search needs
-
 returns : tie.Need-returns
 returns c = toZ-ofZ w32 (c .before .v .given .0 .0) (search needs) ∙ sym (ap i32Of (c .before .v .given .1))
 
@@ -53,13 +32,13 @@ pub i32-of-spec : {M : Type 1} → statement M
 i32-of-spec =
     tie.close
     (tie.spec
-    enum-known-v
-    enum-told
-    enum-told-2
-    enum-told-3
-    enum-told-4
-    enum-told-5
-    enum-told-6
+    (λ c. search needs)
+    (λ c. search needs)
+    (λ c. search needs)
+    (λ c. search needs)
+    (λ c. search needs)
+    (λ c. search needs)
+    (λ c. search needs)
     returns
     returns-2
     returns-3

@@ -18,69 +18,55 @@ use Rattle.script.proofs.Values.{small-within, within-yes, within-high,
 use Rattle.script.proofs.value.signed.Statement.{statement}
 use Rattle.script.proofs.value.signed.Tie as tie
 
-slice-aggregate-starts-with : tie.Need-slice-aggregate-starts-with
-slice-aggregate-starts-with c = search needs
-
-starts-with-requires : tie.Need-starts-with-requires
-starts-with-requires c κs = search needs
-
 digits-from-requires : tie.Need-digits-from-requires
 unfolding ascii
 digits-from-requires c κs =
     let s = starts-length (ascii "-") (c .before .before .before .before .args .word .now) (sym (c .before .starts-with .ensures) ∙ c .if1 .taken) in
     (omega (arith, s), (omega arith, omega arith))
 
-enum-known-n : tie.Need-enum-known-n
-enum-known-n c = search needs
-
 returns : tie.Need-returns
 unfolding ascii
 returns c =
+    let at-digits-from = c .before .before .before .before in
+    let at-if1 = at-digits-from .before in
+    let at-starts-with = at-if1 .before in
+    let at-start = at-starts-with .before .before .before in
     λ l.
-    let w = c .before .before .before .before .before .before .before .before .before .args .word .now in
+    let w = at-start .args .word .now in
     let n = c .before .before .n .given in
     given-not (λ n. signed (negℤ (pos n))) (within 0 (2 ^ 31)) (small-within 0 (2 ^ 31) (omega arith)) (digits 10 (drop 1 w)) (n .0 .0)
-    (ap numberTold (sym (n .1)) ∙ c .before .before .before .before .digits-from .ensures) (within-high 0 (2 ^ 31) (n .0 .0) (c .if2 .taken))
-    ∙ minus-sign w (sym (c .before .before .before .before .before .before .starts-with .ensures) ∙ c .before .before .before .before .before .if1 .taken)
-
-negative-requires : tie.Need-negative-requires
-negative-requires c κs = search needs
-
-enum-told : tie.Need-enum-told
-enum-told c = search needs
-
-number-in-requires : tie.Need-number-in-requires
-number-in-requires c κs = search needs
-
-enum-known-n-2 : tie.Need-enum-known-n-2
-enum-known-n-2 c = search needs
+    (ap numberTold (sym (n .1)) ∙ at-digits-from .digits-from .ensures) (within-high 0 (2 ^ 31) (n .0 .0) (c .if2 .taken))
+    ∙ minus-sign w (sym (at-starts-with .starts-with .ensures) ∙ at-if1 .if1 .taken)
 
 returns-2 : tie.Need-returns-2
 unfolding ascii
 returns-2 c =
+    let at-number-in = c .before .before .before .before in
+    let at-if1 = at-number-in .before in
+    let at-starts-with = at-if1 .before in
+    let at-start = at-starts-with .before .before .before in
     λ l.
-    let w = c .before .before .before .before .before .before .before .before .before .args .word .now in
+    let w = at-start .args .word .now in
     let n = c .before .before .n2 .given in
     given-not (λ n. signed (pos n)) (within 0 (2 ^ 31 - 1)) (small-within 0 (2 ^ 31 - 1) (omega arith)) (number w) (n .0 .0)
-    (ap numberTold (sym (n .1)) ∙ c .before .before .before .before .number-in .ensures) (within-high 0 (2 ^ 31 - 1) (n .0 .0) (c .if3 .taken))
-    ∙ no-sign w (sym (c .before .before .before .before .before .before .starts-with .ensures) ∙ c .before .before .before .before .before .if1 .left)
-
-cast-t17 : tie.Need-cast-t17
-cast-t17 c = search needs
-
-enum-told-2 : tie.Need-enum-told-2
-enum-told-2 c = search needs
+    (ap numberTold (sym (n .1)) ∙ at-number-in .number-in .ensures) (within-high 0 (2 ^ 31 - 1) (n .0 .0) (c .if3 .taken))
+    ∙ no-sign w (sym (at-starts-with .starts-with .ensures) ∙ at-if1 .if1 .left)
 
 returns-3 : tie.Need-returns-3
 unfolding ascii valueTold
 returns-3 c =
+    let at-n = c .before .before .before in
+    let at-digits-from = at-n .before .before in
+    let at-if1 = at-digits-from .before in
+    let at-starts-with = at-if1 .before in
+    let at-start = at-starts-with .before .before .before in
     λ l.
-    let w = c .before .before .before .before .before .before .before .before .before .before .args .word .now in
-    let n = c .before .before .before .n .given in
+    let w = at-start .args .word .now in
+    let n = at-n .n .given in
     ap (λ (z : ℤ). some (signed z ∷ [])) (toZ-ofZ w32 (c .negative .result) (search needs) ∙ c .negative .ensures)
     ∙ given-some (λ n. signed (negℤ (pos n))) (within 0 (2 ^ 31)) (small-within 0 (2 ^ 31) (omega arith)) (digits 10 (drop 1 w)) (n .0 .0)
-    (ap numberTold (sym (n .1)) ∙ c .before .before .before .before .before .digits-from .ensures) (within-yes 0 (2 ^ 31) (n .0 .0) (omega arith) (c .before .if2 .left))
-    ∙ minus-sign w (sym (c .before .before .before .before .before .before .before .starts-with .ensures) ∙ c .before .before .before .before .before .before .if1 .taken)
+    (ap numberTold (sym (n .1)) ∙ at-digits-from .digits-from .ensures) (within-yes 0 (2 ^ 31) (n .0 .0) (omega arith) (c .before .if2 .left))
+    ∙ minus-sign w (sym (at-starts-with .starts-with .ensures) ∙ at-if1 .if1 .taken)
 
 returns-4 : tie.Need-returns-4
 unfolding ascii
@@ -94,13 +80,17 @@ returns-4 c =
 returns-5 : tie.Need-returns-5
 unfolding ascii valueTold
 returns-5 c =
+    let at-number-in = c .before .before .before .before in
+    let at-if1 = at-number-in .before in
+    let at-starts-with = at-if1 .before in
+    let at-start = at-starts-with .before .before .before in
     λ l.
-    let w = c .before .before .before .before .before .before .before .before .before .args .word .now in
+    let w = at-start .args .word .now in
     let n = c .before .before .n2 .given in
     ap (λ (z : ℤ). some (signed z ∷ [])) (toZ-pos w32 (n .0 .0) (omega arith))
     ∙ given-some (λ n. signed (pos n)) (within 0 (2 ^ 31 - 1)) (small-within 0 (2 ^ 31 - 1) (omega arith)) (number w) (n .0 .0)
-    (ap numberTold (sym (n .1)) ∙ c .before .before .before .before .number-in .ensures) (within-yes 0 (2 ^ 31 - 1) (n .0 .0) (omega arith) (c .if3 .left))
-    ∙ no-sign w (sym (c .before .before .before .before .before .before .starts-with .ensures) ∙ c .before .before .before .before .before .if1 .left)
+    (ap numberTold (sym (n .1)) ∙ at-number-in .number-in .ensures) (within-yes 0 (2 ^ 31 - 1) (n .0 .0) (omega arith) (c .if3 .left))
+    ∙ no-sign w (sym (at-starts-with .starts-with .ensures) ∙ at-if1 .if1 .left)
 
 returns-6 : tie.Need-returns-6
 unfolding ascii
@@ -115,18 +105,18 @@ pub signed-spec : {M : Type 1} → statement M
 signed-spec =
     tie.close
     (tie.spec
-    slice-aggregate-starts-with
-    starts-with-requires
+    (λ c. search needs)
+    (λ c κs. search needs)
     digits-from-requires
-    enum-known-n
+    (λ c. search needs)
     returns
-    negative-requires
-    enum-told
-    number-in-requires
-    enum-known-n-2
+    (λ c κs. search needs)
+    (λ c. search needs)
+    (λ c κs. search needs)
+    (λ c. search needs)
     returns-2
-    cast-t17
-    enum-told-2
+    (λ c. search needs)
+    (λ c. search needs)
     returns-3
     returns-4
     returns-5

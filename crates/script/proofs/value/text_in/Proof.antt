@@ -9,28 +9,10 @@ use Rattle.script.proofs.Texts.{text-none, text-long, text-given}
 use Rattle.script.proofs.value.text_in.Statement.{statement}
 use Rattle.script.proofs.value.text_in.Tie as tie
 
-sub-is-text : tie.Need-sub-is-text
-sub-is-text c = search needs
-
-part-is-text-start : tie.Need-part-is-text-start
-part-is-text-start c = search needs
-
-part-is-text-end : tie.Need-part-is-text-end
-part-is-text-end c = search needs
-
-is-text-requires : tie.Need-is-text-requires
-is-text-requires c κs = search needs
-
 returns : tie.Need-returns
 returns c =
     let a = c .before .before .before .before .args in
     text-none (part (a .from) (a .end) (a .line .now)) (sym (c .before .is-text .ensures) ∙ not-true (c .before .is-text .result) (c .if1 .taken))
-
-add-t6 : tie.Need-add-t6
-add-t6 c = search needs
-
-sub-t10 : tie.Need-sub-t10
-sub-t10 c = search needs
 
 sub-t11 : tie.Need-sub-t11
 sub-t11 c =
@@ -49,12 +31,12 @@ pub text-in-spec : {M : Type 1} → statement M
 text-in-spec =
     tie.close
     (tie.spec
-    sub-is-text
-    part-is-text-start
-    part-is-text-end
-    is-text-requires
+    (λ c. search needs)
+    (λ c. search needs)
+    (λ c. search needs)
+    (λ c κs. search needs)
     returns
-    add-t6
-    sub-t10
+    (λ c. search needs)
+    (λ c. search needs)
     sub-t11
     returns-2)

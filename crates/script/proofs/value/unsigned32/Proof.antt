@@ -9,43 +9,42 @@ use Rattle.script.proofs.Values.{small-within, within-yes, within-low, 
 use Rattle.script.proofs.value.unsigned32.Statement.{statement}
 use Rattle.script.proofs.value.unsigned32.Tie as tie
 
-number-in-requires : tie.Need-number-in-requires
-number-in-requires c κs = search needs
-
-enum-known-n : tie.Need-enum-known-n
-enum-known-n c = search needs
-
 returns : tie.Need-returns
 returns c =
+    let at-number-in = c .before .before .before .before in
+    let at-start = at-number-in .before .before in
     λ l.
-    let a = c .before .before .before .before .before .before .args in
+    let a = at-start .args in
     let n = c .before .before .n .given in
-    given-not number32 (within (a .least) (a .most)) (small-within (a .least) (a .most) (omega (arith, c .before .before .before .before .before .before .pre))) (number (a .word .now)) (n .0 .0)
-    (ap numberTold (sym (n .1)) ∙ c .before .before .before .before .number-in .ensures) (within-low (a .least) (a .most) (n .0 .0) (c .if1 .taken))
+    given-not number32 (within (a .least) (a .most)) (small-within (a .least) (a .most) (omega (arith, at-start .pre))) (number (a .word .now)) (n .0 .0)
+    (ap numberTold (sym (n .1)) ∙ at-number-in .number-in .ensures) (within-low (a .least) (a .most) (n .0 .0) (c .if1 .taken))
 
 returns-2 : tie.Need-returns-2
 returns-2 c =
+    let at-n = c .before .before .before in
+    let at-number-in = at-n .before .before in
+    let at-start = at-number-in .before .before in
     λ l.
-    let a = c .before .before .before .before .before .before .before .args in
-    let n = c .before .before .before .n .given in
-    given-not number32 (within (a .least) (a .most)) (small-within (a .least) (a .most) (omega (arith, c .before .before .before .before .before .before .before .pre))) (number (a .word .now)) (n .0 .0)
-    (ap numberTold (sym (n .1)) ∙ c .before .before .before .before .before .number-in .ensures) (within-high (a .least) (a .most) (n .0 .0) (c .if2 .taken))
+    let a = at-start .args in
+    let n = at-n .n .given in
+    given-not number32 (within (a .least) (a .most)) (small-within (a .least) (a .most) (omega (arith, at-start .pre))) (number (a .word .now)) (n .0 .0)
+    (ap numberTold (sym (n .1)) ∙ at-number-in .number-in .ensures) (within-high (a .least) (a .most) (n .0 .0) (c .if2 .taken))
 
 cast-t8 : tie.Need-cast-t8
 cast-t8 c =
     omega (arith, c .before .before .before .before .before .before .before .pre)
 
-enum-told : tie.Need-enum-told
-enum-told c = search needs
-
 returns-3 : tie.Need-returns-3
 unfolding valueTold
 returns-3 c =
+    let at-n = c .before .before .before in
+    let at-number-in = at-n .before .before in
+    let at-start = at-number-in .before .before in
     λ l.
-    let a = c .before .before .before .before .before .before .before .args in
-    let n = c .before .before .before .n .given in
-    given-some number32 (within (a .least) (a .most)) (small-within (a .least) (a .most) (omega (arith, c .before .before .before .before .before .before .before .pre))) (number (a .word .now)) (n .0 .0)
-    (ap numberTold (sym (n .1)) ∙ c .before .before .before .before .before .number-in .ensures) (within-yes (a .least) (a .most) (n .0 .0) (c .before .if1 .left) (c .if2 .left))
+    let a = at-start .args in
+    let n = at-n .n .given in
+    given-some number32 (within (a .least) (a .most)) (small-within (a .least) (a .most) (omega (arith, at-start .pre))) (number (a .word .now)) (n .0 .0)
+    (ap numberTold (sym (n .1)) ∙ at-number-in .number-in .ensures) (within-yes (a .least) (a .most) (n .0 .0) (c .before .if1 .left) (c .if2 .left))
 
 returns-4 : tie.Need-returns-4
 returns-4 c =
@@ -58,11 +57,11 @@ pub unsigned32-spec : {M : Type 1} → statement M
 unsigned32-spec =
     tie.close
     (tie.spec
-    number-in-requires
-    enum-known-n
+    (λ c κs. search needs)
+    (λ c. search needs)
     returns
     returns-2
     cast-t8
-    enum-told
+    (λ c. search needs)
     returns-3
     returns-4)

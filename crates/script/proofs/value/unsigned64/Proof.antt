@@ -10,15 +10,6 @@ use Rattle.script.proofs.Values.{small64, given-none, given-some}
 use Rattle.script.proofs.value.unsigned64.Statement.{statement}
 use Rattle.script.proofs.value.unsigned64.Tie as tie
 
-number-in-requires : tie.Need-number-in-requires
-number-in-requires c κs = search needs
-
-enum-known-n : tie.Need-enum-known-n
-enum-known-n c = search needs
-
-enum-told : tie.Need-enum-told
-enum-told c = search needs
-
 returns : tie.Need-returns
 unfolding valueTold
 returns c =
@@ -32,4 +23,11 @@ returns-2 c =
     λ l. given-none number64 fits64 small64 (number (c .before .before .before .before .args .word .now)) (ap numberTold (sym (c .enum-told .given .1)) ∙ c .before .before .number-in .ensures)
 
 pub unsigned64-spec : {M : Type 1} → statement M
-unsigned64-spec = tie.close (tie.spec number-in-requires enum-known-n enum-told returns returns-2)
+unsigned64-spec =
+    tie.close
+    (tie.spec
+    (λ c κs. search needs)
+    (λ c. search needs)
+    (λ c. search needs)
+    returns
+    returns-2)

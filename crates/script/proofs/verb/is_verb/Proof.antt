@@ -17,33 +17,12 @@ use Rattle.script.proofs.verb.is_verb.Tie as tie
 cut : (l : List ℕ) (r : ℕ) → r ≡ 0 + length (before 0x20 l) → take r l ≡ before 0x20 l
 cut l r e = let z : r ≡ length (before 0x20 l) = omega arith in ap (λ (n : ℕ). take n l) z ∙ take-before 0x20 l
 
-mul-from : tie.Need-mul-from
-mul-from c = search needs
-
-add-end : tie.Need-add-end
-add-end c = search needs
-
-sub-name : tie.Need-sub-name
-sub-name c = search needs
-
-part-name-start : tie.Need-part-name-start
-part-name-start c = search needs
-
-part-name-end : tie.Need-part-name-end
-part-name-end c = search needs
-
-find-byte-requires : tie.Need-find-byte-requires
-find-byte-requires c κs = search needs
-
 slice-aggregate-same : tie.Need-slice-aggregate-same
 unfolding lines table
 slice-aggregate-same c =
     let i = c .before .before .before .before .before .args .i in
     let l = take (i * 37 + 33 - i * 37) (drop (i * 37) (lines table)) in
     sym (length-take-le (c .before .find-byte .result) l (omega (arith, c .before .find-byte .ensures, before-le 0x20 l)))
-
-same-requires : tie.Need-same-requires
-same-requires c κs = search needs
 
 returns : tie.Need-returns
 unfolding lines table
@@ -59,12 +38,12 @@ pub is-verb-spec : {M : Type 1} → statement M
 is-verb-spec =
     tie.close
     (tie.spec
-    mul-from
-    add-end
-    sub-name
-    part-name-start
-    part-name-end
-    find-byte-requires
+    (λ c. search needs)
+    (λ c. search needs)
+    (λ c. search needs)
+    (λ c. search needs)
+    (λ c. search needs)
+    (λ c κs. search needs)
     slice-aggregate-same
-    same-requires
+    (λ c κs. search needs)
     returns)

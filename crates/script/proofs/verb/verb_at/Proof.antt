@@ -6,12 +6,13 @@ use Rattle.script.proofs.Table.{verb-of}
 use Rattle.script.proofs.verb.verb_at.Statement.{statement}
 use Rattle.script.proofs.verb.verb_at.Tie as tie
 
-array-copy-out-result : tie.Need-array-copy-out-result
-array-copy-out-result c = search needs
-
 returns : tie.Need-returns
 unfolding table
 returns c = verb-of Now (c .before .args .i) (search needs)
 
 pub verb-at-spec : {M : Type 1} → statement M
-verb-at-spec = tie.close (tie.spec array-copy-out-result returns)
+verb-at-spec =
+    tie.close
+    (tie.spec
+    (λ c. search needs)
+    returns)

@@ -25,15 +25,6 @@ loop-holds : tie.Need-loop-holds Inv-loop μ-loop
 loop-holds c =
     (omega arith, omega arith, digits-start (c .before .before .args .word .now) (c .before .before .args .from) (c .before .before .args .base) (omega arith))
 
-shared-slice-read-value-of : tie.Need-shared-slice-read-value-of Inv-loop μ-loop
-shared-slice-read-value-of c = search needs
-
-value-of-requires : tie.Need-value-of-requires Inv-loop μ-loop
-value-of-requires c κs = search needs
-
-wide-requires : tie.Need-wide-requires Inv-loop μ-loop
-wide-requires c κs = search needs
-
 returns-2 : tie.Need-returns-2 Inv-loop μ-loop
 returns-2 c =
     let a = c .before .before .before .before .before .before .before .before .args in
@@ -51,37 +42,41 @@ div-if3 c =
 
 returns-3 : tie.Need-returns-3 Inv-loop μ-loop
 returns-3 c =
-    let a = c .before .before .before .before .before .before .before .before .before .args in
-    let l = c .before .before .before .before .before .before .loop in
-    let d = c .before .before .wide .ensures ∙ c .before .before .before .value-of .ensures in
-    let b : 1 ≤ a .base = omega (arith, c .before .before .before .before .before .before .before .before .before .pre) in
+    let at-value-of = c .before .before .before in
+    let at-loop = at-value-of .before .before .before in
+    let at-start = at-loop .before .before .before in
+    let a = at-start .args in
+    let l = at-loop .loop in
+    let d = c .before .before .wide .ensures ∙ at-value-of .value-of .ensures in
+    let b : 1 ≤ a .base = omega (arith, at-start .pre) in
     let o = over (a .base) (c .before .before .wide .result) (l .v) b (c .if3 .taken) (omega arith) in
     digits-over (a .word .now) (a .from) (a .base) (l .v) (l .i) (l .inv .2) (omega arith) b (omega (arith, d)) (omega (arith, o, d))
 
 mul-v : tie.Need-mul-v Inv-loop μ-loop
 mul-v c =
-    let a = c .before .before .before .before .before .before .before .before .before .args in
-    let b : 1 ≤ a .base = omega (arith, c .before .before .before .before .before .before .before .before .before .pre) in
-    omega (arith, room (a .base) (c .before .before .wide .result) (c .before .before .before .before .before .before .loop .v) b (c .if3 .left) (omega arith))
+    let at-loop = c .before .before .before .before .before .before in
+    let at-start = at-loop .before .before .before in
+    let a = at-start .args in
+    let b : 1 ≤ a .base = omega (arith, at-start .pre) in
+    omega (arith, room (a .base) (c .before .before .wide .result) (at-loop .loop .v) b (c .if3 .left) (omega arith))
 
 add-v : tie.Need-add-v Inv-loop μ-loop
 add-v c =
-    let a = c .before .before .before .before .before .before .before .before .before .args in
-    let b : 1 ≤ a .base = omega (arith, c .before .before .before .before .before .before .before .before .before .pre) in
-    omega (arith, room (a .base) (c .before .before .wide .result) (c .before .before .before .before .before .before .loop .v) b (c .if3 .left) (omega arith))
-
-add-i : tie.Need-add-i Inv-loop μ-loop
-add-i c = search needs
-
-loop-less : tie.Need-loop-less Inv-loop μ-loop
-loop-less c = search needs
+    let at-loop = c .before .before .before .before .before .before in
+    let at-start = at-loop .before .before .before in
+    let a = at-start .args in
+    let b : 1 ≤ a .base = omega (arith, at-start .pre) in
+    omega (arith, room (a .base) (c .before .before .wide .result) (at-loop .loop .v) b (c .if3 .left) (omega arith))
 
 loop-again : tie.Need-loop-again Inv-loop μ-loop
 loop-again c =
-    let a = c .before .before .before .before .before .before .before .before .before .args in
-    let l = c .before .before .before .before .before .before .loop in
-    let d = c .before .before .wide .ensures ∙ c .before .before .before .value-of .ensures in
-    let b : 1 ≤ a .base = omega (arith, c .before .before .before .before .before .before .before .before .before .pre) in (
+    let at-value-of = c .before .before .before in
+    let at-loop = at-value-of .before .before .before in
+    let at-start = at-loop .before .before .before in
+    let a = at-start .args in
+    let l = at-loop .loop in
+    let d = c .before .before .wide .ensures ∙ at-value-of .value-of .ensures in
+    let b : 1 ≤ a .base = omega (arith, at-start .pre) in (
       omega arith,
       omega (arith, room (a .base) (c .before .before .wide .result) (l .v) b (c .if3 .left) (omega arith)),
       rw d (digits-step (a .word .now) (a .from) (a .base) (l .v) (l .i) (l .inv .2) (omega arith) (omega (arith, d))),
@@ -101,16 +96,16 @@ digits-from-spec =
     μ-loop
     returns
     loop-holds
-    shared-slice-read-value-of
-    value-of-requires
-    wide-requires
+    (λ c. search needs)
+    (λ c κs. search needs)
+    (λ c κs. search needs)
     returns-2
     sub-if3
     div-if3
     returns-3
     mul-v
     add-v
-    add-i
-    loop-less
+    (λ c. search needs)
+    (λ c. search needs)
     loop-again
     returns-4)

@@ -30,9 +30,6 @@ small64 (suc n) h = record { sfits = omega arith }
 wide : (n : ℕ) → n ≤ 2 ^ 31 → toZ w64 (ofZ w64 (pos 0 -ℤ toZ w64 n)) ≡ negℤ (pos n)
 wide n h = ap (λ (z : ℤ). toZ w64 (ofZ w64 z)) (minus n h) ∙ toZ-ofZ w64 (negℤ (pos n)) (small64 n h)
 
-cast-z : tie.Need-cast-z
-cast-z c = search needs
-
 sub-result : tie.Need-sub-result
 sub-result c = subst (λ (z : ℤ). SFits w64 z) (sym (minus (c .args .n) (c .pre))) (small64 (c .args .n) (c .pre))
 
@@ -44,4 +41,10 @@ returns c =
     ap (λ (z : ℤ). toZ w32 (ofZ w32 z)) (wide (c .args .n) (c .pre)) ∙ toZ-ofZ w32 (negℤ (pos (c .args .n))) (small (c .args .n) (c .pre))
 
 pub negative-spec : {M : Type 1} → statement M
-negative-spec = tie.close (tie.spec cast-z sub-result cast-result returns)
+negative-spec =
+    tie.close
+    (tie.spec
+    (λ c. search needs)
+    sub-result
+    cast-result
+    returns)

@@ -8,20 +8,11 @@ use Rattle.script.proofs.Numbers.{hexadecimal, decimal}
 use Rattle.script.proofs.word.number_in.Statement.{statement}
 use Rattle.script.proofs.word.number_in.Tie as tie
 
-slice-aggregate-starts-with : tie.Need-slice-aggregate-starts-with
-slice-aggregate-starts-with c = search needs
-
-starts-with-requires : tie.Need-starts-with-requires
-starts-with-requires c κs = search needs
-
 digits-from-requires : tie.Need-digits-from-requires
 unfolding ascii
 digits-from-requires c κs =
     let s = starts-length (ascii "0x") (c .before .before .before .before .args .word .now) (sym (c .before .starts-with .ensures) ∙ c .if1 .taken) in
     (omega (arith, s), (omega arith, omega arith))
-
-digits-from-requires-2 : tie.Need-digits-from-requires-2
-digits-from-requires-2 c κs = search needs
 
 returns : tie.Need-returns
 unfolding ascii
@@ -37,9 +28,9 @@ pub number-in-spec : {M : Type 1} → statement M
 number-in-spec =
     tie.close
     (tie.spec
-    slice-aggregate-starts-with
-    starts-with-requires
+    (λ c. search needs)
+    (λ c κs. search needs)
     digits-from-requires
-    digits-from-requires-2
+    (λ c κs. search needs)
     returns
     returns-2)

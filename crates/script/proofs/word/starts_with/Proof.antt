@@ -17,13 +17,16 @@ slice-aggregate-same : tie.Need-slice-aggregate-same
 slice-aggregate-same c =
     sym (length-take-le (length (c .before .before .before .before .args .prefix .now)) (c .before .before .before .before .args .word .now) (omega arith))
 
-same-requires : tie.Need-same-requires
-same-requires c κs = search needs
-
 returns-2 : tie.Need-returns-2
 unfolding startsWith
 returns-2 c =
     c .same .ensures
 
 pub starts-with-spec : {M : Type 1} → statement M
-starts-with-spec = tie.close (tie.spec returns slice-aggregate-same same-requires returns-2)
+starts-with-spec =
+    tie.close
+    (tie.spec
+    returns
+    slice-aggregate-same
+    (λ c κs. search needs)
+    returns-2)
