@@ -15,12 +15,12 @@ use Rattle.model.specs.Plan.{Plan, records, answer, refusal}
 use Rattle.model.specs.Plan as plan
 use Rattle.model.specs.Decide.{decidePlain, decide}
 use Rattle.model.specs.Step.{Step, refuses, unchanged, carriedOut, step}
-use Rattle.steps.proofs.Steps.{step-answer}
+use Rattle.model_steps.proofs.Steps.{step-answer}
 use Rattle.control.specs.Sound.{Sound, isSound}
 use Rattle.control.proofs.Sounds.{bounds-sound}
-use Rattle.store.specs.View.{Store, store, session, isWhole, Whole}
-use Rattle.store.specs.Enact.{Enacted}
-use Rattle.store.proofs.Views.{whole-parts}
+use Rattle.session.specs.View.{Store, store, session, isWhole, Whole}
+use Rattle.session.specs.Enact.{Enacted}
+use Rattle.session.proofs.Views.{whole-parts}
 use Rattle.answers.specs.Answer.{errorOf, numberOf, outcomeOf}
 use Rattle.answers.specs.declared.Error.{Error}
 use Rattle.answers.specs.declared.Outcome.{Outcome}

@@ -10,7 +10,7 @@ use Rattle.model.specs.Call.{Input, Load, Call, Turn, split}
 use Rattle.model.specs.Plan.{records}
 use Rattle.model.specs.Step.{Step, refuses, step}
 use Rattle.control.specs.Sound.{isSound}
-use Rattle.store.specs.View.{Store, store, session, isWhole, Whole}
+use Rattle.session.specs.View.{Store, store, session, isWhole, Whole}
 use Rattle.answers.specs.Answer.{outcomeOf}
 use Rattle.answers.specs.declared.Error.{Error}
 use Rattle.answers.specs.declared.Outcome.{Outcome}

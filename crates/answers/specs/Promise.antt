@@ -5,7 +5,7 @@ use lib.Ieee.{Float}
 use denote.Ref.{RefT}
 use denote.Triple.Both.{Both}
 use Rattle.model.specs.Call.{Input, Plain, Call}
-use Rattle.store.specs.View.{Store, store}
+use Rattle.session.specs.View.{Store, store}
 use Rattle.answers.specs.declared.Answer.{Answer}
 use Rattle.answers.specs.Meets.{Answered, AnsweredControl}
 

@@ -1,8 +1,8 @@
 // The turns of each workload.
 use bench_calls::DEVICE;
-use converter::eis::ConnectionRequest;
-use converter::eis::Request;
-use converter::eis::TextRequest;
+use requests::eis::ConnectionRequest;
+use requests::eis::Request;
+use requests::eis::TextRequest;
 
 // What a turn is. Keys, Eight and Deep are a press and a release of a key; the last two a frame of so many keys.
 pub enum Workload {

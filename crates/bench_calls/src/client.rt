@@ -1,12 +1,12 @@
 // What a client sends in the turns of the benchmark, and what it sent, taken.
 use crate::session::DEVICE;
-use converter::eis::DeviceRequest;
-use converter::eis::KeyboardRequest;
-use converter::eis::Request;
-use converter::eis::TouchscreenRequest;
 use converter::request;
 use converter::request::NextRequest;
 use eiproto::eiproto_enum::KeyState;
+use requests::eis::DeviceRequest;
+use requests::eis::KeyboardRequest;
+use requests::eis::Request;
+use requests::eis::TouchscreenRequest;
 
 pub fn with_text(
     control: &mut [u64],

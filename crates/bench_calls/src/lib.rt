@@ -2,6 +2,8 @@
 mod client;
 mod session;
 
+pub use crate::session::DEVICE;
+pub use crate::session::begin;
 pub use client::frame;
 pub use client::keys;
 pub use client::many_keys;
@@ -9,5 +11,3 @@ pub use client::next;
 pub use client::stroke;
 pub use client::with_text;
 pub use client::without_text;
-pub use session::DEVICE;
-pub use session::begin;

@@ -18,12 +18,12 @@ use Rattle.model.specs.Edit.{Edit, raised, connectionWith, withConnection, enac
 use Rattle.model.specs.Plan.{Sent, records, refusal, Plan, send}
 use Rattle.model.specs.Decide.{destroyed, seatsObjects, removeSeats, explanationText, explained, disconnected, decidePlain, decide}
 use Rattle.model.specs.Step.{refuses, step}
-use Rattle.steps.proofs.Counted.{removes-seats}
-use Rattle.steps.proofs.Steps.{step-remove, step-remove-short}
+use Rattle.model_steps.proofs.Counted.{removes-seats}
+use Rattle.model_steps.proofs.Steps.{step-remove, step-remove-short}
 use Rattle.control.specs.Control.{connectionOf}
-use Rattle.store.specs.View.{Store, store, sessionIn, session, Whole}
-use Rattle.store.specs.Enact.{Enacts, EnactsRows}
-use Rattle.store.proofs.Views.{enacted-join, view-connection, pending-few}
+use Rattle.session.specs.View.{Store, store, sessionIn, session, Whole}
+use Rattle.session.specs.Enact.{Enacts, EnactsRows}
+use Rattle.session.proofs.Views.{enacted-join, view-connection, pending-few}
 use Rattle.events.specs.declared.Mark.{Mark}
 use Rattle.events.specs.Events.{Sends, Destroys, bareDevices}
 use Rattle.events.proofs.Writes.{append-length, one-length, sends-join, destroyed-length}

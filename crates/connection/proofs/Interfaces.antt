@@ -12,8 +12,8 @@ use Rattle.model.specs.Plan.{Plan, answer, refuse}
 use Rattle.model.specs.Plan as plan
 use Rattle.model.specs.Decide.{checkUtf8, isSome, negotiated, versionAnswer, decidePlain}
 use Rattle.control.specs.Control.{connectionOf}
-use Rattle.store.specs.View.{Store, session, Whole}
-use Rattle.store.proofs.Views.{view-connection}
+use Rattle.session.specs.View.{Store, session, Whole}
+use Rattle.session.proofs.Views.{view-connection}
 use Rattle.answers.specs.declared.Error.{Error}
 use Rattle.answers.specs.declared.Outcome.{Outcome}
 use Rattle.answers.specs.declared.Answer.{Answer}

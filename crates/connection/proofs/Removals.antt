@@ -12,12 +12,12 @@ use Rattle.model.specs.Edit.{Edit, raised}
 use Rattle.model.specs.Plan.{Sent, send}
 use Rattle.model.specs.Decide.{destroyed, sendDestroyed, decidePlain, decide}
 use Rattle.model.specs.Step.{refuses, step}
-use Rattle.steps.proofs.Counted.{removesAll}
-use Rattle.steps.proofs.Steps.{step-remove, step-remove-short}
+use Rattle.model_steps.proofs.Counted.{removesAll}
+use Rattle.model_steps.proofs.Steps.{step-remove, step-remove-short}
 use Rattle.control.specs.Control.{connectionOf}
-use Rattle.store.specs.View.{Store, store, session, isWhole}
-use Rattle.store.specs.Enact.{Enacts, EnactsRows}
-use Rattle.store.proofs.Views.{whole-parts, enacted-join, view-connection, pending-few}
+use Rattle.session.specs.View.{Store, store, session, isWhole}
+use Rattle.session.specs.Enact.{Enacts, EnactsRows}
+use Rattle.session.proofs.Views.{whole-parts, enacted-join, view-connection, pending-few}
 use Rattle.events.specs.declared.Mark.{Mark}
 use Rattle.events.specs.Events.{Destroys}
 use Rattle.events.proofs.Writes.{destroyed-length}

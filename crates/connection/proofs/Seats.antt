@@ -19,11 +19,11 @@ use Rattle.model.specs.Edit.{Edit}
 use Rattle.model.specs.Plan.{Sent, on, records, refusal, refuse}
 use Rattle.model.specs.Decide.{version, versionOr1, checkCapabilities, nameEvents, capabilityEvents, addSeat, decidePlain, decide}
 use Rattle.model.specs.Step.{refuses, step}
-use Rattle.steps.proofs.Steps.{seatPlan, step-seat-full, step-seat-spent, step-seat-short, step-seat}
+use Rattle.model_steps.proofs.Steps.{seatPlan, step-seat-full, step-seat-spent, step-seat-short, step-seat}
 use Rattle.control.specs.Control.{seatCount, connectionOf}
-use Rattle.store.specs.View.{Store, store, session, Whole}
-use Rattle.store.specs.Enact.{Enacts}
-use Rattle.store.proofs.Views.{connection-is, view-connection, seats-length}
+use Rattle.session.specs.View.{Store, store, session, Whole}
+use Rattle.session.specs.Enact.{Enacts}
+use Rattle.session.proofs.Views.{connection-is, view-connection, seats-length}
 use Rattle.events.specs.Events.{Sends}
 use Rattle.events.proofs.Writes.{append-length, one-length, cons-length, sends-join}
 use Rattle.answers.specs.declared.Error.{Error}

@@ -20,7 +20,7 @@ ghost use Rattle.model.specs.Decide.{nameEvents, negotiated};
 ghost use Rattle.control.specs.Answer.{versionTold};
 ghost use Rattle.control.specs.Control.{controlLength, connectionOf};
 ghost use Rattle.control.specs.Sound.{Sound};
-ghost use Rattle.store.specs.View.{Lent};
+ghost use Rattle.session.specs.View.{Lent};
 ghost use Rattle.answers.specs.Promise.{Promise, Reply};
 ghost use Rattle.connection.specs.Call.{optional, Checks, seatEvents};
 ghost use Rattle.connection.specs.Lent.{text, HandlesControl, HandlesRows, Writes};
@@ -131,7 +131,7 @@ fn add_seat_at(
         return Answer::refused(Error::ShortOut);
     }
     let count = write_seat_events(control, id, version, given, name, capabilities, out);
-    store::add_seat(control, capabilities);
+    session::add_seat(control, capabilities);
     Answer {
         outcome: Outcome::Seat(id),
         count,
@@ -151,7 +151,7 @@ pub fn add_seat(
 ) -> Answer
     ensures { λ r. ⌜ Promise control words reals texts out (Plain.addSeat (text given name) capabilities) r ⌝ }
 {
-    if !store::whole(control, words, reals, texts) {
+    if !session::whole(control, words, reals, texts) {
         return Answer::refused(Error::BadState);
     }
     match check_optional(given, name) {
@@ -200,7 +200,7 @@ fn disconnected_at(
         explained: given,
     };
     let count = events::send(out, last.at, connection, told, explanation);
-    store::raise(control, last.serial);
+    session::raise(control, last.serial);
     removal::remove_seats(control, words, reals);
     Answer::sent(count)
 }
@@ -218,7 +218,7 @@ pub fn disconnected(
 ) -> Answer
     ensures { λ r. ⌜ Promise control words reals texts out (Plain.disconnected reason (text given explanation)) r ⌝ }
 {
-    if !store::whole(control, words, reals, texts) {
+    if !session::whole(control, words, reals, texts) {
         return Answer::refused(Error::BadState);
     }
     match check_optional(given, explanation) {
@@ -231,7 +231,7 @@ pub fn disconnected(
 pub fn last_serial(control: &[u64], words: &[u64], reals: &[f32], texts: &[u8]) -> Answer
     ensures { λ r. ⌜ Reply control words reals texts Plain.lastSerial r ⌝ }
 {
-    if !store::whole(control, words, reals, texts) {
+    if !session::whole(control, words, reals, texts) {
         return Answer::refused(Error::BadState);
     }
     Answer::told(Outcome::Value(control::last_serial(control)))
@@ -258,7 +258,7 @@ pub fn has_interface(
 ) -> Answer
     ensures { λ r. ⌜ Reply control words reals texts (Plain.hasInterface (now (name .entry))) r ⌝ }
 {
-    if !store::whole(control, words, reals, texts) {
+    if !session::whole(control, words, reals, texts) {
         return Answer::refused(Error::BadState);
     }
     if !utf8::valid(name) {
@@ -280,7 +280,7 @@ pub fn interface_version(
 ) -> Answer
     ensures { λ r. ⌜ Reply control words reals texts (Plain.interfaceVersion (now (name .entry))) r ⌝ }
 {
-    if !store::whole(control, words, reals, texts) {
+    if !session::whole(control, words, reals, texts) {
         return Answer::refused(Error::BadState);
     }
     if !utf8::valid(name) {

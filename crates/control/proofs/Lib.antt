@@ -4,3 +4,10 @@ pub mod Interfaces
 pub mod Versions
 pub mod Models
 pub mod Examples
+pub mod Views
+pub mod LinkBits
+pub mod Changes
+pub mod Rows
+pub mod Lists
+pub mod Touches
+pub mod Starts

@@ -1,5 +1,7 @@
 // The control words of a session, read where they are: `control` has 224 words (specs/Control). Each function but `sound` asks that they
 // are sound, or only that there are 224.
+pub mod edits;
+
 use eiproto::event::DeviceCapability;
 ghost use mathlib.Core.Path.{_≡_};
 ghost use Prim.Native.Nat.{ℕ, _≤_, _<_};

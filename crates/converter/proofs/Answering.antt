@@ -4,8 +4,8 @@ use mathlib.Core.Path.{_≡_}
 use mathlib.Core.Bool.{true}
 use mathlib.Core.List.{List}
 use Rattle.model.specs.Call.{Input, Call}
-use Rattle.store.specs.View.{Store, isWhole, Whole}
-use Rattle.store.proofs.Views.{whole-parts}
+use Rattle.session.specs.View.{Store, isWhole, Whole}
+use Rattle.session.proofs.Views.{whole-parts}
 use Rattle.answers.specs.Meets.{Handled, Answered}
 use Rattle.answers.specs.declared.Answer.{Answer}
 use Rattle.answers.proofs.Meetings.{whole-answered}

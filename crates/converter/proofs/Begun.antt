@@ -14,16 +14,16 @@ use Rattle.model.specs.Session.{Connection, fresh}
 use Rattle.control.specs.Table.{tab}
 use Rattle.control.specs.Control.{controlLength, deviceCount, queueHead, queueLength, connectionOf}
 use Rattle.control.specs.Sound.{Sound}
-use Rattle.control_edits.specs.Change.{Reconnected, Fresh, withVersions}
-use Rattle.store.specs.View.{Store, store, wordsLength, realsLength, textsLength, requestAt, queueRow, deviceIn, queueIn, session, Whole}
-use Rattle.store.proofs.Views.{session-of}
+use Rattle.control.specs.Change.{Reconnected, Fresh, withVersions}
+use Rattle.session.specs.View.{Store, store, wordsLength, realsLength, textsLength, requestAt, queueRow, deviceIn, queueIn, session, Whole}
+use Rattle.session.proofs.Views.{session-of}
 use Rattle.handshake.specs.View.{versionIn, versionsOf}
 use Rattle.handshake.specs.declared.handshake.InterfaceVersion.{InterfaceVersion}
 use Rattle.handshake.specs.declared.handshake.EisHandshakeResp.{EisHandshakeResp}
 use Rattle.answers.specs.declared.Error.{Error}
 use Rattle.answers.specs.declared.Outcome.{Outcome}
 use Rattle.answers.specs.declared.Answer.{Answer}
-use Rattle.untimed.proofs.Handling.{Tells}
+use Rattle.client_requests.proofs.Handling.{Tells}
 use Rattle.converter.specs.Next.{hasLengths, Begins}
 
 -- ---- the first i of the versions

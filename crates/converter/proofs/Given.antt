@@ -21,12 +21,12 @@ use Rattle.model.specs.Plan as plan
 use Rattle.model.specs.Plan.{answer, refusal}
 use Rattle.model.specs.Decide.{nextOf, decidePlain, decide}
 use Rattle.model.specs.Step.{Step, textBytes, carriedOut, refuses, unchanged, step}
-use Rattle.steps.proofs.Steps.{deliverPlan, step-answer, step-deliver, step-deliver-short, deliver-gave}
+use Rattle.model_steps.proofs.Steps.{deliverPlan, step-answer, step-deliver, step-deliver-short, deliver-gave}
 use Rattle.control.specs.Table.{tab}
 use Rattle.control.specs.Control.{queueHead, queueLength}
-use Rattle.store.specs.View.{Store, queueRow, requestIn, textOf, requestAt, queueIn, session, isWhole, Whole}
-use Rattle.store.specs.Enact.{Enacted}
-use Rattle.store.proofs.Views.{requests-are}
+use Rattle.session.specs.View.{Store, queueRow, requestIn, textOf, requestAt, queueIn, session, isWhole, Whole}
+use Rattle.session.specs.Enact.{Enacted}
+use Rattle.session.proofs.Views.{requests-are}
 use Rattle.answers.specs.Meets.{turn}
 use Rattle.answers.specs.declared.Error.{Error}
 use Rattle.converter.specs.Next.{nextOutcome, givenIn, givenText, Gives, Delivered}

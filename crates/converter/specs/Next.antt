@@ -11,7 +11,7 @@ use Rattle.model.specs.Session.{Request, fresh}
 use Rattle.model.specs.Plan as plan
 use Rattle.model.specs.Step.{Step, refuses, step}
 use Rattle.requests.specs.Request.{textLength}
-use Rattle.store.specs.View.{Store, session, requestIn, wordsLength, realsLength, textsLength, isWhole, Whole}
+use Rattle.session.specs.View.{Store, session, requestIn, wordsLength, realsLength, textsLength, isWhole, Whole}
 use Rattle.control.specs.Control.{controlLength}
 use Rattle.handshake.specs.View.{versionsOf}
 use Rattle.handshake.specs.declared.handshake.EisHandshakeResp.{EisHandshakeResp}

@@ -1,2 +1,1 @@
-pub mod eis;
 pub mod request;

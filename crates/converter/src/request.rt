@@ -1,18 +1,23 @@
 // `EisRequestConverter` of src/request.rs: what a client sends, gathered into timed frames, and handed over one by one.
 // A session lies in four lent slices; `store` says what they mean.
-use crate::eis::Request;
 use answers::Answer;
 use answers::Error;
 use control::CONTROL_LENGTH;
 use handshake::handshake::EisHandshakeResp;
+use requests::eis::Request;
 use requests::request::EisRequest;
-use store::REALS_LENGTH;
-use store::TEXTS_LENGTH;
-use store::WORDS_LENGTH;
-ghost use Rattle.store.specs.View.{store};
+use session::REALS_LENGTH;
+use session::TEXTS_LENGTH;
+use session::WORDS_LENGTH;
+ghost use Rattle.session.specs.View.{store, Whole};
 ghost use Rattle.answers.specs.Promise.{PromiseAt};
 ghost use Rattle.handlers.specs.Call.{callOf};
 ghost use Rattle.converter.specs.Next.{Begins, Delivered};
+ghost use mathlib.Core.Path.{_≡_};
+ghost use mathlib.Core.Bool.{true};
+ghost use Prim.Native.Nat.{ℕ};
+ghost use Rattle.answers.specs.Meets.{Handled};
+ghost use Rattle.converter.specs.Interface.{onInterface};
 
 // A client's request on the object of this id and version, at this clock. The text is that of a request that carries one.
 pub fn handle_request(
@@ -29,7 +34,7 @@ pub fn handle_request(
 ) -> Answer
     ensures { λ r. ⌜ PromiseAt control words reals texts out (callOf request object version (now (text .entry))) clock r ⌝ }
 {
-    if !store::whole(control, words, reals, texts) {
+    if !session::whole(control, words, reals, texts) {
         return Answer::refused(Error::BadState);
     }
     match request {
@@ -52,7 +57,7 @@ pub fn handle_request(
             clock,
         ),
         // Pointer, PointerAbsolute, Scroll, Button, Keyboard, Touchscreen and Text.
-        _ => interfaces::handle_interface_request(
+        _ => handle_interface_request(
             control,
             words,
             reals,
@@ -88,14 +93,14 @@ pub fn new(
     if texts.len() != TEXTS_LENGTH {
         return Answer::refused(Error::BadState);
     }
-    control_edits::new(control, response.connection, response.serial, response.next);
+    control::edits::new(control, response.connection, response.serial, response.next);
     let mut place: usize = 0;
     while place < 12 {
         let row = response.interfaces[place];
         let at = place;
         place += 1;
         if row.negotiated {
-            control_edits::set_version(control, at, row.version);
+            control::edits::set_version(control, at, row.version);
         }
     }
     Answer::accepted()
@@ -118,7 +123,7 @@ pub fn next_request(
 ) -> NextRequest
     ensures { λ r. ⌜ Delivered (store (now (control .entry)) (now (words .entry)) (now (reals .entry)) (now (texts .entry))) (store (now (control .exit)) (now (words .entry)) (now (reals .entry)) (now (texts .entry))) (now (buffer .entry)) (now (buffer .exit)) r ⌝ }
 {
-    if !store::whole(control, words, reals, texts) {
+    if !session::whole(control, words, reals, texts) {
         return NextRequest::Refused(Error::BadState);
     }
     if control::queue_length(control) == 0 {
@@ -132,4 +137,83 @@ pub fn next_request(
     texts::copy_text(texts, queue::oldest_slot(control, words, reals), n, buffer);
     queue::pop(control);
     NextRequest::Given(request)
+}
+
+// A request on an interface of a device: no other is handed on to this function.
+pub fn handle_interface_request(
+    control: &mut [u64],
+    words: &mut [u64],
+    reals: &mut [f32],
+    texts: &mut [u8],
+    object: u64,
+    version: u32,
+    request: Request,
+    text: &[u8],
+    out: &mut [u8],
+) -> Answer
+    requires { ⌜ Whole (store (now control) (now words) (now reals) (now texts)) × (onInterface request ≡ true) ⌝ }
+    ensures { λ r. ⌜ ((clock : ℕ) → Handled (store (now (control .entry)) (now (words .entry)) (now (reals .entry)) (now (texts .entry))) (store (now (control .exit)) (now (words .exit)) (now (reals .exit)) (now (texts .exit))) (now (out .entry)) (now (out .exit)) (callOf request object version (now (text .entry))) clock r) ⌝ }
+{
+    match request {
+        Request::Pointer(r) => handlers::handle_pointer_request(
+            control,
+            words,
+            reals,
+            object,
+            r,
+            out,
+        ),
+        Request::PointerAbsolute(r) => handlers::handle_pointer_absolute_request(
+            control,
+            words,
+            reals,
+            object,
+            r,
+            out,
+        ),
+        Request::Scroll(r) => handlers::handle_scroll_request(
+            control,
+            words,
+            reals,
+            object,
+            r,
+            out,
+        ),
+        Request::Button(r) => handlers::handle_button_request(
+            control,
+            words,
+            reals,
+            object,
+            r,
+            out,
+        ),
+        Request::Keyboard(r) => handlers::handle_keyboard_request(
+            control,
+            words,
+            reals,
+            object,
+            r,
+            out,
+        ),
+        Request::Touchscreen(r) => handlers::handle_touchscreen_request(
+            control,
+            words,
+            reals,
+            object,
+            version,
+            r,
+            out,
+        ),
+        Request::Text(r) => handlers::handle_text_request(
+            control,
+            words,
+            reals,
+            texts,
+            object,
+            r,
+            text,
+            out,
+        ),
+        _ => Answer::accepted(),
+    }
 }

@@ -19,13 +19,13 @@ use Rattle.model.specs.Plan.{Sent, on, records, answer, send}
 use Rattle.model.specs.Plan as plan
 use Rattle.model.specs.Decide.{lists, decide}
 use Rattle.model.specs.Step.{refuses, step}
-use Rattle.steps.proofs.Steps.{step-sent, step-sent-short}
+use Rattle.model_steps.proofs.Steps.{step-sent, step-sent-short}
 use Rattle.control.specs.Table.{first}
 use Rattle.control.specs.Control.{deviceCount, connectionOf, coreAt, coresOf}
 use Rattle.control.specs.Sound.{Sound}
-use Rattle.store.specs.View.{Store, store, session, Whole}
-use Rattle.store.specs.Enact.{Enacts}
-use Rattle.store.proofs.Views.{enacted-none, enacted-join, devices-length}
+use Rattle.session.specs.View.{Store, store, session, Whole}
+use Rattle.session.specs.Enact.{Enacts}
+use Rattle.session.proofs.Views.{enacted-none, enacted-join, devices-length}
 use Rattle.events.specs.Events.{Sends}
 use Rattle.events.proofs.Writes.{one-length}
 use Rattle.answers.specs.Answer.{outcomeOf}

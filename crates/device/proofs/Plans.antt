@@ -14,11 +14,11 @@ use Rattle.model.specs.Session.{View, view}
 use Rattle.model.specs.Edit.{Edit, nextSerial}
 use Rattle.model.specs.Plan.{on, answer, refuse, send, Outcome}
 use Rattle.model.specs.Decide.{onFound, sendNext, notify, objectsOf, sendDestroyed, removeDevice, lists, decidePlain}
-use Rattle.steps.proofs.Counted.{quietAll, quiet-raise, quiet-amend}
+use Rattle.model_steps.proofs.Counted.{quietAll, quiet-raise, quiet-amend}
 use Rattle.control.specs.Table.{first}
 use Rattle.control.specs.Control.{connectionOf, coreAt, coresOf}
-use Rattle.store.specs.View.{Store, session}
-use Rattle.store.proofs.Views.{deviceSeen, view-connection, device-interfaces, found-device, no-device}
+use Rattle.session.specs.View.{Store, session}
+use Rattle.session.proofs.Views.{deviceSeen, view-connection, device-interfaces, found-device, no-device}
 use Rattle.device.specs.declared.Notice.{Notice}
 use Rattle.device.specs.Notice.{noticeCall, noticeEvent, noticeEdits}
 

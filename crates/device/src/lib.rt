@@ -12,7 +12,7 @@ ghost use Prim.Native.Nat.{_<_};
 ghost use Rattle.model.specs.Call.{Plain};
 ghost use Rattle.control.specs.Control.{deviceCount};
 ghost use Rattle.control.specs.Sound.{Sound};
-ghost use Rattle.store.specs.Enact.{Enacts};
+ghost use Rattle.session.specs.Enact.{Enacts};
 ghost use Rattle.answers.specs.Promise.{Promise, PromiseControl, ReplyControl};
 ghost use Rattle.device.specs.Notice.{noticeCall, noticeEvent, noticeEdits};
 
@@ -27,7 +27,7 @@ pub fn remove_device(
 ) -> Answer
     ensures { λ r. ⌜ Promise control words reals texts out (Plain.removeDevice device) r ⌝ }
 {
-    if !store::whole(control, words, reals, texts) {
+    if !session::whole(control, words, reals, texts) {
         return Answer::refused(Error::BadState);
     }
     match control::find_device(control, device) {
@@ -37,7 +37,7 @@ pub fn remove_device(
             }
             let serial = control::last_serial(control);
             let mark = events::write_device(control, k, out, Mark { at: 0, serial });
-            store::raise(control, mark.serial);
+            session::raise(control, mark.serial);
             removal::remove_device(control, words, reals, k);
             Answer::sent(mark.at)
         }
@@ -72,7 +72,7 @@ fn enact(control: &mut [u64], k: usize, notice: Notice)
     ensures { λ _. ⌜ Enacts (now (control .entry)) (now (control .exit)) (noticeEdits notice k) ⌝ }
 {
     match notice {
-        Notice::Paused => store::clear_touches(control, k),
+        Notice::Paused => session::clear_touches(control, k),
         Notice::Resumed => {}
         Notice::StartEmulating { .. } => {}
         Notice::StopEmulating => {}
@@ -88,13 +88,13 @@ fn notify(control: &mut [u64], device: u64, notice: Notice, out: &mut [u8]) -> A
     }
     match control::find_device(control, device) {
         Slot::At(k) => {
-            let serial = control_edits::next_serial(control::last_serial(control));
+            let serial = control::edits::next_serial(control::last_serial(control));
             let told = event_of(notice, serial);
             if out.len() < event::fixed_length(told) {
                 return Answer::refused(Error::ShortOut);
             }
             let count = events::send(out, 0, device, told, b"");
-            store::raise(control, serial);
+            session::raise(control, serial);
             enact(control, k, notice);
             Answer::sent(count)
         }

@@ -8,8 +8,8 @@ use Rattle.model.specs.Session.{Seat, Device, mapDevice, view}
 use Rattle.model.specs.Decide.{objectsOf, devicesObjects, seatObjects, seatsObjects}
 use Rattle.control.specs.Table.{tab}
 use Rattle.control.specs.Control.{deviceCount, coreAt}
-use Rattle.store.specs.View.{Store, deviceIn, session}
-use Rattle.store.proofs.Views.{deviceSeen, seen-devices, device-seat}
+use Rattle.session.specs.View.{Store, deviceIn, session}
+use Rattle.session.proofs.Views.{deviceSeen, seen-devices, device-seat}
 use Rattle.events.specs.Events.{bare, bareDevices}
 
 -- devices in the same order, on the same seats and with the same objects

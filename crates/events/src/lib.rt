@@ -45,7 +45,7 @@ pub fn write_destroyed(out: &mut [u8], mark: Mark, object: u64) -> Mark
     requires { ⌜ mark .at + 14 ≤ length (now out) ⌝ }
     ensures { λ r. ⌜ Destroys (now (out .entry)) (now (out .exit)) mark (object ∷ []) r ⌝ }
 {
-    let serial = control_edits::next_serial(mark.serial);
+    let serial = control::edits::next_serial(mark.serial);
     let at = send(out, mark.at, object, Event::Destroyed { serial }, b"");
     Mark { at, serial }
 }

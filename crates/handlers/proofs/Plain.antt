@@ -14,13 +14,13 @@ use Rattle.model.specs.Edit.{Edit}
 use Rattle.model.specs.Plan as plan
 use Rattle.model.specs.Plan.{answer, refuse, ignore, edit}
 use Rattle.model.specs.Decide.{checkUtf8, checkName, handleHandshake, handleSeat, handleDevice, decidePlain, decide}
-use Rattle.store.specs.View.{Store, session, requestIn, Whole}
+use Rattle.session.specs.View.{Store, session, requestIn, Whole}
 use Rattle.answers.specs.Answer.{outcomeOf}
 use Rattle.answers.specs.Meets.{Handled}
 use Rattle.answers.specs.declared.Error.{Error}
 use Rattle.answers.specs.declared.Outcome.{Outcome}
 use Rattle.answers.specs.declared.Answer.{Answer}
-use Rattle.untimed.proofs.Handling.{Tells, handled-answer}
+use Rattle.client_requests.proofs.Handling.{Tells, handled-answer}
 
 -- the same call, told otherwise
 pub for-call : {s e : Store} {out later : List ℕ} {x y : Call Input} {r : Answer} (clock : ℕ) → x ≡ y → Handled s e out later y clock r → Handled s e out later x clock r

@@ -4,18 +4,18 @@ use mathlib.Core.List.{List}
 use Rattle.eiproto.specs.declared.event.DeviceCapability.{DeviceCapability}
 use Rattle.model.specs.Call as model
 use Rattle.model.specs.Call.{Input, Plain, Call}
-use Rattle.handlers.specs.declared.eis.HandshakeRequest.{HandshakeRequest}
-use Rattle.handlers.specs.declared.eis.ConnectionRequest.{ConnectionRequest}
-use Rattle.handlers.specs.declared.eis.SeatRequest.{SeatRequest}
-use Rattle.handlers.specs.declared.eis.DeviceRequest.{DeviceRequest}
-use Rattle.handlers.specs.declared.eis.PointerRequest.{PointerRequest}
-use Rattle.handlers.specs.declared.eis.PointerAbsoluteRequest.{PointerAbsoluteRequest}
-use Rattle.handlers.specs.declared.eis.ScrollRequest.{ScrollRequest}
-use Rattle.handlers.specs.declared.eis.ButtonRequest.{ButtonRequest}
-use Rattle.handlers.specs.declared.eis.KeyboardRequest.{KeyboardRequest}
-use Rattle.handlers.specs.declared.eis.TouchscreenRequest.{TouchscreenRequest}
-use Rattle.handlers.specs.declared.eis.TextRequest.{TextRequest}
-use Rattle.handlers.specs.declared.eis.Request.{Request}
+use Rattle.requests.specs.declared.eis.HandshakeRequest.{HandshakeRequest}
+use Rattle.requests.specs.declared.eis.ConnectionRequest.{ConnectionRequest}
+use Rattle.requests.specs.declared.eis.SeatRequest.{SeatRequest}
+use Rattle.requests.specs.declared.eis.DeviceRequest.{DeviceRequest}
+use Rattle.requests.specs.declared.eis.PointerRequest.{PointerRequest}
+use Rattle.requests.specs.declared.eis.PointerAbsoluteRequest.{PointerAbsoluteRequest}
+use Rattle.requests.specs.declared.eis.ScrollRequest.{ScrollRequest}
+use Rattle.requests.specs.declared.eis.ButtonRequest.{ButtonRequest}
+use Rattle.requests.specs.declared.eis.KeyboardRequest.{KeyboardRequest}
+use Rattle.requests.specs.declared.eis.TouchscreenRequest.{TouchscreenRequest}
+use Rattle.requests.specs.declared.eis.TextRequest.{TextRequest}
+use Rattle.requests.specs.declared.eis.Request.{Request}
 
 -- a Release of the interface for a capability
 abbrev pub release : DeviceCapability → (interface : ℕ) → Call Input

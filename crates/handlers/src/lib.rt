@@ -1,19 +1,33 @@
 // What a client sends, and the handlers of src/request.rs for the requests that are not timed.
 // A session lies in four lent slices; `store` says what they mean.
-pub mod eis;
-
-use crate::eis::ConnectionRequest;
-use crate::eis::DeviceRequest;
-use crate::eis::HandshakeRequest;
-use crate::eis::SeatRequest;
 use answers::Answer;
 use answers::Error;
+use eiproto::event::DeviceCapability;
+use requests::cell;
+use requests::cell::Cell;
+use requests::eis::ButtonRequest;
+use requests::eis::ConnectionRequest;
+use requests::eis::DeviceRequest;
+use requests::eis::HandshakeRequest;
+use requests::eis::KeyboardRequest;
+use requests::eis::PointerAbsoluteRequest;
+use requests::eis::PointerRequest;
+use requests::eis::ScrollRequest;
+use requests::eis::SeatRequest;
+use requests::eis::TextRequest;
+use requests::eis::TouchscreenRequest;
 use requests::request::EisRequest;
 ghost use mathlib.Core.List.{List};
 ghost use Prim.Native.Nat.{ℕ};
-ghost use Rattle.store.specs.View.{Lent};
-ghost use Rattle.answers.specs.Meets.{HandledRows, HandledControl};
-ghost use Rattle.handlers.specs.Call.{handshakeCall, connectionCall, seatCall, deviceCall};
+ghost use Rattle.session.specs.View.{Lent, store, itemAt, Whole};
+ghost use Rattle.answers.specs.Meets.{HandledRows, HandledControl, Handled};
+ghost use Rattle.handlers.specs.Call.{handshakeCall, connectionCall, seatCall, deviceCall, pointerCall, pointerAbsoluteCall, scrollCall, buttonCall, keyboardCall, touchscreenCall, textCall};
+ghost use mathlib.Core.Path.{_≡_};
+ghost use Rattle.requests.specs.Row.{rowOf};
+ghost use Rattle.model.specs.Call.{Kind, Input, bare, sight, load, Call};
+ghost use Rattle.model.specs.Edit.{item};
+ghost use Rattle.model.specs.Decide.{Rule, handledBy, handler};
+ghost use Rattle.handlers.specs.Waits.{Waits, Queues};
 
 // A handshake's request in a running session, after what its text may meet.
 pub fn handle_handshake_request(request: HandshakeRequest, text: &[u8]) -> Answer
@@ -54,8 +68,12 @@ pub fn handle_connection_request(
     ensures { λ r. ⌜ ((clock : ℕ) → HandledRows (now (control .entry)) (now (words .entry)) (now (reals .entry)) (now (control .exit)) (now (words .exit)) (now (reals .exit)) (now (out .entry)) (now (out .exit)) (connectionCall request) clock r) ⌝ }
 {
     match request {
-        ConnectionRequest::Sync { callback, version } => untimed::sync(callback, version, out),
-        ConnectionRequest::Disconnect => untimed::queue_untimed(
+        ConnectionRequest::Sync { callback, version } => client_requests::untimed::sync(
+            callback,
+            version,
+            out,
+        ),
+        ConnectionRequest::Disconnect => client_requests::untimed::queue_untimed(
             control,
             words,
             reals,
@@ -76,14 +94,28 @@ pub fn handle_seat_request(
     ensures { λ r. ⌜ ((clock : ℕ) → HandledRows (now (control .entry)) (now (words .entry)) (now (reals .entry)) (now (control .exit)) (now (words .exit)) (now (reals .exit)) (now (out .entry)) (now (out .exit)) (seatCall request seat) clock r) ⌝ }
 {
     match request {
-        SeatRequest::Release => untimed::release_seat(control, seat, out),
+        SeatRequest::Release => client_requests::untimed::release_seat(control, seat, out),
         SeatRequest::Bind { capabilities } => {
             let bind = EisRequest::Bind { seat, capabilities };
-            untimed::queue_for_seat(control, words, reals, seat, capabilities, bind)
+            client_requests::untimed::queue_for_seat(
+                control,
+                words,
+                reals,
+                seat,
+                capabilities,
+                bind,
+            )
         }
         SeatRequest::RequestDevice { capabilities } => {
             let request_device = EisRequest::RequestDevice { seat, capabilities };
-            untimed::queue_for_seat(control, words, reals, seat, capabilities, request_device)
+            client_requests::untimed::queue_for_seat(
+                control,
+                words,
+                reals,
+                seat,
+                capabilities,
+                request_device,
+            )
         }
     }
 }
@@ -102,7 +134,7 @@ pub fn handle_device_request(
     match request {
         DeviceRequest::Release => {
             let closed = EisRequest::DeviceClosed { device };
-            untimed::queue_for_device(control, words, reals, device, clock, closed)
+            client_requests::untimed::queue_for_device(control, words, reals, device, clock, closed)
         }
         DeviceRequest::StartEmulating {
             last_serial,
@@ -113,20 +145,27 @@ pub fn handle_device_request(
                 last_serial,
                 sequence,
             };
-            untimed::queue_for_device(control, words, reals, device, clock, start)
+            client_requests::untimed::queue_for_device(control, words, reals, device, clock, start)
         }
         DeviceRequest::StopEmulating { last_serial } => {
             let stop = EisRequest::DeviceStopEmulating {
                 device,
                 last_serial,
             };
-            untimed::queue_for_device(control, words, reals, device, clock, stop)
+            client_requests::untimed::queue_for_device(control, words, reals, device, clock, stop)
         }
         DeviceRequest::Frame {
             last_serial,
             timestamp,
-        } => untimed::queue_frame(control, words, reals, device, last_serial, timestamp),
-        DeviceRequest::Ready => untimed::queue_for_device(
+        } => client_requests::untimed::queue_frame(
+            control,
+            words,
+            reals,
+            device,
+            last_serial,
+            timestamp,
+        ),
+        DeviceRequest::Ready => client_requests::untimed::queue_for_device(
             control,
             words,
             reals,
@@ -134,5 +173,301 @@ pub fn handle_device_request(
             clock,
             EisRequest::Ready { device },
         ),
+    }
+}
+
+// A request of which nothing is asked but a known interface, made pending.
+fn queue_request(
+    control: &mut [u64],
+    words: &mut [u64],
+    reals: &mut [f32],
+    capability: DeviceCapability,
+    interface: u64,
+    request: Cell,
+) -> Answer
+    requires { ⌜ Lent (now control) (now words) (now reals) × Queues capability ⌝ }
+    ensures { λ r. ⌜ ((kind : Kind) (version : ℕ) (input : Input) → handler kind ≡ handledBy capability Rule.queued → Waits input request (bare kind) → (out : List ℕ) (clock : ℕ) → HandledRows (now (control .entry)) (now (words .entry)) (now (reals .entry)) (now (control .exit)) (now (words .exit)) (now (reals .exit)) out out (Call.timed interface version input) clock r) ⌝ }
+{
+    let decision = client_requests::timed::decide(control, capability, interface);
+    client_requests::timed::queue_request(control, words, reals, decision, request)
+}
+
+pub fn handle_keyboard_request(
+    control: &mut [u64],
+    words: &mut [u64],
+    reals: &mut [f32],
+    keyboard: u64,
+    request: KeyboardRequest,
+    out: &mut [u8],
+) -> Answer
+    requires { ⌜ Lent (now control) (now words) (now reals) ⌝ }
+    ensures { λ r. ⌜ ((version clock : ℕ) → HandledRows (now (control .entry)) (now (words .entry)) (now (reals .entry)) (now (control .exit)) (now (words .exit)) (now (reals .exit)) (now (out .entry)) (now (out .exit)) (keyboardCall request keyboard version) clock r) ⌝ }
+{
+    match request {
+        KeyboardRequest::Release => client_requests::untimed::release_interface(
+            control,
+            DeviceCapability::Keyboard,
+            keyboard,
+            out,
+        ),
+        KeyboardRequest::Key { key, state } => {
+            let request = cell::keyboard_key(0, 0, key, state);
+            queue_request(
+                control,
+                words,
+                reals,
+                DeviceCapability::Keyboard,
+                keyboard,
+                request,
+            )
+        }
+    }
+}
+
+pub fn handle_pointer_request(
+    control: &mut [u64],
+    words: &mut [u64],
+    reals: &mut [f32],
+    pointer: u64,
+    request: PointerRequest,
+    out: &mut [u8],
+) -> Answer
+    requires { ⌜ Lent (now control) (now words) (now reals) ⌝ }
+    ensures { λ r. ⌜ ((version clock : ℕ) → HandledRows (now (control .entry)) (now (words .entry)) (now (reals .entry)) (now (control .exit)) (now (words .exit)) (now (reals .exit)) (now (out .entry)) (now (out .exit)) (pointerCall request pointer version) clock r) ⌝ }
+{
+    match request {
+        PointerRequest::Release => client_requests::untimed::release_interface(
+            control,
+            DeviceCapability::Pointer,
+            pointer,
+            out,
+        ),
+        PointerRequest::MotionRelative { x, y } => {
+            let request = cell::pointer_motion(0, 0, x, y);
+            queue_request(
+                control,
+                words,
+                reals,
+                DeviceCapability::Pointer,
+                pointer,
+                request,
+            )
+        }
+    }
+}
+
+pub fn handle_pointer_absolute_request(
+    control: &mut [u64],
+    words: &mut [u64],
+    reals: &mut [f32],
+    pointer_absolute: u64,
+    request: PointerAbsoluteRequest,
+    out: &mut [u8],
+) -> Answer
+    requires { ⌜ Lent (now control) (now words) (now reals) ⌝ }
+    ensures { λ r. ⌜ ((version clock : ℕ) → HandledRows (now (control .entry)) (now (words .entry)) (now (reals .entry)) (now (control .exit)) (now (words .exit)) (now (reals .exit)) (now (out .entry)) (now (out .exit)) (pointerAbsoluteCall request «pointer_absolute» version) clock r) ⌝ }
+{
+    match request {
+        PointerAbsoluteRequest::Release => client_requests::untimed::release_interface(
+            control,
+            DeviceCapability::PointerAbsolute,
+            pointer_absolute,
+            out,
+        ),
+        PointerAbsoluteRequest::MotionAbsolute { x, y } => {
+            let request = cell::pointer_motion_absolute(0, 0, x, y);
+            queue_request(
+                control,
+                words,
+                reals,
+                DeviceCapability::PointerAbsolute,
+                pointer_absolute,
+                request,
+            )
+        }
+    }
+}
+
+pub fn handle_button_request(
+    control: &mut [u64],
+    words: &mut [u64],
+    reals: &mut [f32],
+    interface: u64,
+    request: ButtonRequest,
+    out: &mut [u8],
+) -> Answer
+    requires { ⌜ Lent (now control) (now words) (now reals) ⌝ }
+    ensures { λ r. ⌜ ((version clock : ℕ) → HandledRows (now (control .entry)) (now (words .entry)) (now (reals .entry)) (now (control .exit)) (now (words .exit)) (now (reals .exit)) (now (out .entry)) (now (out .exit)) (buttonCall request interface version) clock r) ⌝ }
+{
+    match request {
+        ButtonRequest::Release => client_requests::untimed::release_interface(
+            control,
+            DeviceCapability::Button,
+            interface,
+            out,
+        ),
+        ButtonRequest::Button { button, state } => {
+            let request = cell::button(0, 0, button, state);
+            queue_request(
+                control,
+                words,
+                reals,
+                DeviceCapability::Button,
+                interface,
+                request,
+            )
+        }
+    }
+}
+
+// "ScrollStop with `is_cancel` not 0 becomes ScrollCancel; `x` and `y` become true when not 0."
+fn scroll_stop(x: u32, y: u32, is_cancel: u32) -> Cell
+    ensures { λ r. ⌜ ((texts : List ℕ) → item (sight (Input.ScrollStop x y «is_cancel»)) (load (Input.ScrollStop x y «is_cancel»)) ≡ itemAt texts (rowOf r)) ⌝ }
+{
+    if is_cancel != 0 {
+        cell::scroll_cancel(0, 0, x != 0, y != 0)
+    } else {
+        cell::scroll_stop(0, 0, x != 0, y != 0)
+    }
+}
+
+pub fn handle_scroll_request(
+    control: &mut [u64],
+    words: &mut [u64],
+    reals: &mut [f32],
+    scroll: u64,
+    request: ScrollRequest,
+    out: &mut [u8],
+) -> Answer
+    requires { ⌜ Lent (now control) (now words) (now reals) ⌝ }
+    ensures { λ r. ⌜ ((version clock : ℕ) → HandledRows (now (control .entry)) (now (words .entry)) (now (reals .entry)) (now (control .exit)) (now (words .exit)) (now (reals .exit)) (now (out .entry)) (now (out .exit)) (scrollCall request scroll version) clock r) ⌝ }
+{
+    match request {
+        ScrollRequest::Release => client_requests::untimed::release_interface(
+            control,
+            DeviceCapability::Scroll,
+            scroll,
+            out,
+        ),
+        ScrollRequest::Scroll { x, y } => {
+            let request = cell::scroll_delta(0, 0, x, y);
+            queue_request(
+                control,
+                words,
+                reals,
+                DeviceCapability::Scroll,
+                scroll,
+                request,
+            )
+        }
+        ScrollRequest::ScrollDiscrete { x, y } => {
+            let request = cell::scroll_discrete(0, 0, x, y);
+            queue_request(
+                control,
+                words,
+                reals,
+                DeviceCapability::Scroll,
+                scroll,
+                request,
+            )
+        }
+        ScrollRequest::ScrollStop { x, y, is_cancel } => {
+            let request = scroll_stop(x, y, is_cancel);
+            queue_request(
+                control,
+                words,
+                reals,
+                DeviceCapability::Scroll,
+                scroll,
+                request,
+            )
+        }
+    }
+}
+
+pub fn handle_touchscreen_request(
+    control: &mut [u64],
+    words: &mut [u64],
+    reals: &mut [f32],
+    touchscreen: u64,
+    version: u32,
+    request: TouchscreenRequest,
+    out: &mut [u8],
+) -> Answer
+    requires { ⌜ Lent (now control) (now words) (now reals) ⌝ }
+    ensures { λ r. ⌜ ((clock : ℕ) → HandledRows (now (control .entry)) (now (words .entry)) (now (reals .entry)) (now (control .exit)) (now (words .exit)) (now (reals .exit)) (now (out .entry)) (now (out .exit)) (touchscreenCall request touchscreen version) clock r) ⌝ }
+{
+    match request {
+        TouchscreenRequest::Release => client_requests::untimed::release_interface(
+            control,
+            DeviceCapability::Touch,
+            touchscreen,
+            out,
+        ),
+        TouchscreenRequest::Down { touchid, x, y } => {
+            let decision = client_requests::timed::decide_down(control, touchscreen, touchid);
+            let request = cell::touch_down(0, 0, touchid, x, y);
+            client_requests::timed::queue_down(control, words, reals, decision, touchid, request)
+        }
+        TouchscreenRequest::Motion { touchid, x, y } => {
+            let decision = client_requests::timed::decide_held(control, touchscreen, touchid);
+            let request = cell::touch_motion(0, 0, touchid, x, y);
+            client_requests::timed::queue_request(control, words, reals, decision, request)
+        }
+        TouchscreenRequest::Up { touchid } => {
+            let decision = client_requests::timed::decide_held(control, touchscreen, touchid);
+            let request = cell::touch_up(0, 0, touchid);
+            client_requests::timed::queue_up(control, words, reals, decision, touchid, request)
+        }
+        TouchscreenRequest::Cancel { touchid } => {
+            let decision = client_requests::timed::decide_cancel(
+                control,
+                touchscreen,
+                version,
+                touchid,
+            );
+            let request = cell::touch_cancel(0, 0, touchid);
+            client_requests::timed::queue_up(control, words, reals, decision, touchid, request)
+        }
+    }
+}
+
+pub fn handle_text_request(
+    control: &mut [u64],
+    words: &mut [u64],
+    reals: &mut [f32],
+    texts: &mut [u8],
+    interface: u64,
+    request: TextRequest,
+    text: &[u8],
+    out: &mut [u8],
+) -> Answer
+    requires { ⌜ Whole (store (now control) (now words) (now reals) (now texts)) ⌝ }
+    ensures { λ r. ⌜ ((version clock : ℕ) → Handled (store (now (control .entry)) (now (words .entry)) (now (reals .entry)) (now (texts .entry))) (store (now (control .exit)) (now (words .exit)) (now (reals .exit)) (now (texts .exit))) (now (out .entry)) (now (out .exit)) (textCall request interface version (now (text .entry))) clock r) ⌝ }
+{
+    match request {
+        TextRequest::Release => client_requests::untimed::release_interface(
+            control,
+            DeviceCapability::Text,
+            interface,
+            out,
+        ),
+        TextRequest::Keysym { keysym, state } => {
+            let request = cell::text_keysym(0, 0, keysym, state);
+            queue_request(
+                control,
+                words,
+                reals,
+                DeviceCapability::Text,
+                interface,
+                request,
+            )
+        }
+        TextRequest::Utf8 => {
+            if !utf8::valid(text) {
+                return Answer::refused(Error::BadUtf8);
+            }
+            client_requests::timed::queue_utf8(control, words, reals, texts, interface, text)
+        }
     }
 }

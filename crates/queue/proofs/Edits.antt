@@ -14,11 +14,11 @@ use Rattle.control.specs.Sound.{Sound}
 use Rattle.control.proofs.Sounds.{pending-bound}
 use Rattle.control.proofs.Tables.{case-eq, tab-ext, tab-same, tab-push}
 use Rattle.control.proofs.Models.{at-slot}
-use Rattle.control_edits.specs.Change.{SameDevices, Amended, Requeued, withPending}
-use Rattle.store.specs.View.{store, pendingRow, queueRow, requestAt, itemAt, deviceIn, queueIn, sessionIn, session}
-use Rattle.store.specs.Enact.{Enacted}
-use Rattle.store.proofs.Views.{session-of, device-ext, queue-ext}
-use Rattle.store.proofs.Edits.{amended-session}
+use Rattle.control.specs.Change.{SameDevices, Amended, Requeued, withPending}
+use Rattle.session.specs.View.{store, pendingRow, queueRow, requestAt, itemAt, deviceIn, queueIn, sessionIn, session}
+use Rattle.session.specs.Enact.{Enacted}
+use Rattle.session.proofs.Views.{session-of, device-ext, queue-ext}
+use Rattle.session.proofs.Edits.{amended-session}
 use Rattle.queue.specs.Queue.{Copied}
 use Rattle.queue.proofs.Tables.{tab-add, tab-rest, framed-tab, framed-slot}
 use Rattle.queue.proofs.Entries.{framed-request}

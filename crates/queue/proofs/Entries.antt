@@ -9,7 +9,7 @@ use Rattle.requests.specs.declared.request.EisRequest.the-variants.{Disconnect,
 use Rattle.requests.specs.Request.{framedRequest, textLength}
 use Rattle.requests.specs.Row.{Row, entry, framedRow}
 use Rattle.model.specs.Session.{Untimed, Request}
-use Rattle.store.specs.View.{requestIn, itemIn, textOf, requestAt, itemAt}
+use Rattle.session.specs.View.{requestIn, itemIn, textOf, requestAt, itemAt}
 
 -- a request r framed, with a text x; and r with another text y
 record Arm (d t : ℕ) (r : EisRequest) (x y : List ℕ) (u : Untimed) : Type 0 where

@@ -6,7 +6,7 @@ use mathlib.Core.List.{List}
 use lib.Dec.{leb}
 use Rattle.control.specs.Control.{queueLength}
 use Rattle.requests.specs.Row.{Row, framedRow}
-use Rattle.store.specs.View.{pendingRow, queueRow}
+use Rattle.session.specs.View.{pendingRow, queueRow}
 
 -- the entries that the frame of n pending requests needs: "n + 1 for a Frame", none with nothing pending
 unfoldable pub frameEntries : ℕ → ℕ

@@ -14,8 +14,8 @@ ghost use Rattle.model.specs.Edit.{Edit, item};
 ghost use Rattle.control.specs.Control.{deviceCount, queueHead, queueLength, coreAt, pendingAt};
 ghost use Rattle.control.specs.Sound.{Sound};
 ghost use lib.ListN.{length};
-ghost use Rattle.store.specs.View.{store, Lent, wordsLength, realsLength, requestIn, itemAt, queueRow};
-ghost use Rattle.store.specs.Enact.{Enacted, Enacts, EnactsRows};
+ghost use Rattle.session.specs.View.{store, Lent, wordsLength, realsLength, requestIn, itemAt, queueRow};
+ghost use Rattle.session.specs.Enact.{Enacted, Enacts, EnactsRows};
 ghost use Rattle.queue.specs.Queue.{Copied, frameEntries, hasRoom};
 
 // Where the ring begins, behind the pending lists.
@@ -57,7 +57,7 @@ pub fn pend(control: &mut [u64], words: &mut [u64], reals: &mut [f32], k: usize,
 {
     let n = control::pending_count(control, k);
     row::put_cell(words, reals, PENDING * k + n, request);
-    control_edits::set_pending(control, k, n + 1);
+    control::edits::set_pending(control, k, n + 1);
 }
 
 // An untimed request more in the queue.
@@ -68,7 +68,7 @@ pub fn push(control: &mut [u64], words: &mut [u64], reals: &mut [f32], request: 
     let head = control::queue_head(control);
     let queued = control::queue_length(control);
     row::put(words, reals, queue_row(head, queued), request, 32);
-    control_edits::set_queue(control, head, queued + 1);
+    control::edits::set_queue(control, head, queued + 1);
 }
 
 // Copies n pending rows behind the queue, as the frame of their device queues them.
@@ -125,8 +125,8 @@ pub fn frame(
         queue_row(head, queued + n),
         cell::frame(device, serial, time),
     );
-    control_edits::set_queue(control, head, queued + n + 1);
-    control_edits::set_pending(control, k, 0);
+    control::edits::set_queue(control, head, queued + n + 1);
+    control::edits::set_pending(control, k, 0);
 }
 
 // The oldest queued request.
@@ -152,5 +152,5 @@ pub fn pop(control: &mut [u64])
 {
     let head = control::queue_head(control);
     let queued = control::queue_length(control);
-    control_edits::set_queue(control, (head + 1) % QUEUED, queued - 1);
+    control::edits::set_queue(control, (head + 1) % QUEUED, queued - 1);
 }

@@ -15,9 +15,9 @@ use Rattle.control.specs.Control.{seatCount, deviceCount, seatAt, connectionOf,
 use Rattle.control.specs.Sound.{Sound}
 use Rattle.control.proofs.Tables.{tab-at, tab-length}
 use Rattle.control.proofs.Models.{seats-are, seats-length}
-use Rattle.store.specs.View.{Store, deviceIn, session}
-use Rattle.store.specs.Enact.{Enacted}
-use Rattle.store.proofs.Views.{connection-is, deviceAt, devices-are, devices-length, enacted-join}
+use Rattle.session.specs.View.{Store, deviceIn, session}
+use Rattle.session.specs.Enact.{Enacted}
+use Rattle.session.proofs.Views.{connection-is, deviceAt, devices-are, devices-length, enacted-join}
 
 -- ---- the devices of a seat
 

@@ -13,11 +13,11 @@ use Rattle.control.specs.Control.{deviceCount, queueHead, coreAt}
 use Rattle.control.specs.Sound.{Sound}
 use Rattle.control.proofs.Sounds.{pending-bound}
 use Rattle.control.proofs.Tables.{case-eq}
-use Rattle.control_edits.specs.Change.{Removed}
-use Rattle.control_edits.proofs.Lists.{removed-devices}
-use Rattle.store.specs.View.{pendingRow, queueRow, requestAt, itemAt, deviceIn, sessionIn, session}
-use Rattle.store.specs.Enact.{EnactsRows}
-use Rattle.store.proofs.Views.{device-ext, queue-ext}
+use Rattle.control.specs.Change.{Removed}
+use Rattle.control.proofs.Lists.{removed-devices}
+use Rattle.session.specs.View.{pendingRow, queueRow, requestAt, itemAt, deviceIn, sessionIn, session}
+use Rattle.session.specs.Enact.{EnactsRows}
+use Rattle.session.proofs.Views.{device-ext, queue-ext}
 use Rattle.removal.specs.Shift.{Shifted}
 
 -- one value more moved down

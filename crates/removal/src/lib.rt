@@ -7,8 +7,8 @@ ghost use lib.ListN.{length, getD};
 ghost use Rattle.model.specs.Edit.{Edit};
 ghost use Rattle.model.specs.Decide.{removeSeats};
 ghost use Rattle.control.specs.Control.{deviceCount, connectionOf};
-ghost use Rattle.store.specs.View.{Lent};
-ghost use Rattle.store.specs.Enact.{EnactsRows};
+ghost use Rattle.session.specs.View.{Lent};
+ghost use Rattle.session.specs.Enact.{EnactsRows};
 ghost use Rattle.removal.specs.Shift.{Shifted};
 
 // The words and the reals of a device's 64 pending rows.
@@ -58,7 +58,7 @@ pub fn remove_device(control: &mut [u64], words: &mut [u64], reals: &mut [f32], 
         SLOT_REALS * (k + 1),
         SLOT_REALS * behind,
     );
-    control_edits::remove_device_row(control, k);
+    control::edits::remove_device_row(control, k);
 }
 
 // Every device of a seat taken out.
@@ -84,6 +84,6 @@ pub fn remove_seats(control: &mut [u64], words: &mut [u64], reals: &mut [f32])
     while 0 < control::seat_count(control) {
         let seat = control::seat_id(control, 0);
         remove_devices_of(control, words, reals, seat);
-        store::remove_seat(control, seat);
+        session::remove_seat(control, seat);
     }
 }

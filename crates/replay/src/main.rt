@@ -34,5 +34,5 @@ fn same(a: &[u8], b: &[u8]) -> bool {
 }
 
 fn main() {
-    play::play(explains());
+    script_play::play(explains());
 }

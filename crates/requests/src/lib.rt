@@ -1,3 +1,4 @@
 pub mod cell;
+pub mod eis;
 pub mod request;
 pub mod row;

@@ -22,12 +22,12 @@ use Rattle.model.specs.Edit.{Edit, newInterfaces}
 use Rattle.model.specs.Plan.{Sent, on, records, refusal, refuse}
 use Rattle.model.specs.Decide.{onFound, seatOf, version, versionOr1, checkCapabilities, nameEvents, interfaceEvents, addDevice, decidePlain, decide}
 use Rattle.model.specs.Step.{refuses, step}
-use Rattle.steps.proofs.Steps.{devicePlan, step-device-full, step-device-spent, step-device-short, step-device}
+use Rattle.model_steps.proofs.Steps.{devicePlan, step-device-full, step-device-spent, step-device-short, step-device}
 use Rattle.control.specs.Table.{first}
 use Rattle.control.specs.Control.{deviceCount, seatAt, connectionOf}
-use Rattle.store.specs.View.{Store, store, session, isWhole, Whole}
-use Rattle.store.specs.Enact.{Enacts}
-use Rattle.store.proofs.Views.{connection-is, view-connection, devices-length, found-seat, no-seat}
+use Rattle.session.specs.View.{Store, store, session, isWhole, Whole}
+use Rattle.session.specs.Enact.{Enacts}
+use Rattle.session.proofs.Views.{connection-is, view-connection, devices-length, found-seat, no-seat}
 use Rattle.events.specs.Events.{Sends}
 use Rattle.events.proofs.Writes.{append-length, one-length, cons-length, sends-join}
 use Rattle.events.proofs.Announced.{interfaces-length}

@@ -11,8 +11,8 @@ use Rattle.model.specs.Plan.{answer, refuse, Outcome}
 use Rattle.model.specs.Decide.{onFound, seatObjects, sendDestroyed, removeSeat, decidePlain}
 use Rattle.control.specs.Table.{first}
 use Rattle.control.specs.Control.{connectionOf}
-use Rattle.store.specs.View.{Store, session}
-use Rattle.store.proofs.Views.{found-seat, no-seat}
+use Rattle.session.specs.View.{Store, session}
+use Rattle.session.proofs.Views.{found-seat, no-seat}
 
 module _ (s : Store) (seat clock : ℕ) where
   pub seat-unknown : first (λ t. eqb (t .id) seat) (connectionOf (s .control) .seats) ≡ none

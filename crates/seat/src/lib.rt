@@ -93,7 +93,7 @@ fn add_device_at(
     }
     let number = kind.number();
     let count = write_device_events(control, seat, id, version, given, name, number, both, out);
-    store::add_device(control, seat, both);
+    session::add_device(control, seat, both);
     Answer {
         outcome: Outcome::Device(id),
         count,
@@ -115,7 +115,7 @@ pub fn add_device(
 ) -> Answer
     ensures { λ r. ⌜ Promise control words reals texts out (Plain.addDevice seat (text given name) kind capabilities) r ⌝ }
 {
-    if !store::whole(control, words, reals, texts) {
+    if !session::whole(control, words, reals, texts) {
         return Answer::refused(Error::BadState);
     }
     match connection::check_optional(given, name) {
@@ -152,7 +152,7 @@ pub fn remove_seat(
 ) -> Answer
     ensures { λ r. ⌜ Promise control words reals texts out (Plain.removeSeat seat) r ⌝ }
 {
-    if !store::whole(control, words, reals, texts) {
+    if !session::whole(control, words, reals, texts) {
         return Answer::refused(Error::BadState);
     }
     match control::find_seat(control, seat) {
@@ -162,9 +162,9 @@ pub fn remove_seat(
             }
             let serial = control::last_serial(control);
             let mark = events::write_seat(control, seat, out, Mark { at: 0, serial });
-            store::raise(control, mark.serial);
+            session::raise(control, mark.serial);
             removal::remove_devices_of(control, words, reals, seat);
-            store::remove_seat(control, seat);
+            session::remove_seat(control, seat);
             Answer::sent(mark.at)
         }
         Slot::Unknown => Answer::refused(Error::UnknownHandle),

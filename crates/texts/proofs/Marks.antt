@@ -14,7 +14,7 @@ use mir.Val.{Fits}
 use Rattle.eiproto.specs.Bits.{bit, bitsOf}
 use Rattle.eiproto.proofs.Bits.{bits-length}
 use Rattle.control.proofs.Tables.{case-eq}
-use Rattle.control_edits.proofs.Links.{cleared}
+use Rattle.control.proofs.LinkBits.{cleared}
 use Rattle.texts.specs.declared.LiveTexts.{LiveTexts}
 use Rattle.texts.specs.Texts.{textsAmong, Counted}
 

@@ -21,7 +21,7 @@ use Rattle.control.specs.Table.{tab}
 use Rattle.control.specs.Control.{deviceCount, queueHead, queueLength, coreAt}
 use Rattle.control.specs.Sound.{Sound}
 use Rattle.control.proofs.Tables.{case-eq, tab-append}
-use Rattle.store.specs.View.{pendingRow, queueRow, requestIn, itemIn, textOf, requestAt, itemAt, deviceIn, queueIn, sessionIn, session}
+use Rattle.session.specs.View.{pendingRow, queueRow, requestIn, itemIn, textOf, requestAt, itemAt, deviceIn, queueIn, sessionIn, session}
 use Rattle.texts.specs.declared.LiveTexts.{LiveTexts}
 use Rattle.texts.specs.Texts.{textsAmong, Counted, Live}
 

@@ -23,9 +23,9 @@ use Rattle.model.specs.Call.{Kind, Sight, Input, sight, Load}
 use Rattle.model.specs.Edit.{Edit, item, enactAll}
 use Rattle.control.specs.Control.{queueHead}
 use Rattle.control.proofs.Tables.{case-eq}
-use Rattle.store.specs.View.{store, textsLength, pendingRow, queueRow, requestIn, itemIn, textOf, requestAt, itemAt, session}
-use Rattle.store.specs.Enact.{Enacted}
-use Rattle.store.proofs.Views.{device-ext, queue-ext, session-ext}
+use Rattle.session.specs.View.{store, textsLength, pendingRow, queueRow, requestIn, itemIn, textOf, requestAt, itemAt, session}
+use Rattle.session.specs.Enact.{Enacted}
+use Rattle.session.proofs.Views.{device-ext, queue-ext, session-ext}
 use Rattle.texts.specs.Texts.{Free}
 use Rattle.wire.specs.Bits.{splice}
 use Rattle.wire.proofs.Splices.{splice-none, length-splice, splice-front, splice-splice}

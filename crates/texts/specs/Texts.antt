@@ -10,7 +10,7 @@ use Rattle.eiproto.specs.Bits.{bit, bitsOf}
 use Rattle.requests.specs.Row.{Row, rowAt}
 use Rattle.model.specs.Step.{counts}
 use Rattle.control.specs.Control.{deviceCount, queueHead, queueLength, coreAt}
-use Rattle.store.specs.View.{store, session, pendingRow, queueRow}
+use Rattle.session.specs.View.{store, session, pendingRow, queueRow}
 use Rattle.texts.specs.declared.LiveTexts.{LiveTexts}
 
 -- how many of the first n slots are a text's: below 32

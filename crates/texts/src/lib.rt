@@ -12,8 +12,8 @@ ghost use Rattle.wire.specs.Bits.{splice};
 ghost use Rattle.model.specs.Call.{Load, Input, sight};
 ghost use Rattle.model.specs.Edit.{Edit};
 ghost use Rattle.control.specs.Control.{deviceCount, pendingAt};
-ghost use Rattle.store.specs.View.{store, wordsLength, realsLength, pendingRow, queueRow, Lent, Whole};
-ghost use Rattle.store.specs.Enact.{Enacted};
+ghost use Rattle.session.specs.View.{store, wordsLength, realsLength, pendingRow, queueRow, Lent, Whole};
+ghost use Rattle.session.specs.Enact.{Enacted};
 ghost use Rattle.texts.specs.Texts.{Free, Counted, Live};
 
 pub const SLOT_LENGTH: usize = 256;

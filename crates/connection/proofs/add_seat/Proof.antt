@@ -1,8 +1,8 @@
 -- 21, 10 or 11, 13, then the limits. Assumes nothing.
 use mathlib.Core.Path.{sym, _∙_}
 use borrow.Author.Needs.{needs}
-use Rattle.store.specs.View.{Store, store}
-use Rattle.store.proofs.Views.{whole-parts}
+use Rattle.session.specs.View.{Store, store}
+use Rattle.session.proofs.Views.{whole-parts}
 use Rattle.answers.proofs.Meetings.{whole-failed, whole-passed, damaged-answered, whole-answered}
 use Rattle.connection.specs.Call.{optional}
 use Rattle.connection.proofs.Texts.{checks-as}

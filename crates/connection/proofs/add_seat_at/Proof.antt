@@ -5,7 +5,7 @@ use borrow.Author.Needs.{needs}
 use Rattle.eiproto.specs.Interface.{eiSeat}
 use Rattle.model.specs.Decide.{version, versionOr1}
 use Rattle.control.specs.Control.{connectionOf}
-use Rattle.store.specs.View.{store}
+use Rattle.session.specs.View.{store}
 use Rattle.connection.specs.Call.{optional}
 use Rattle.connection.proofs.Seats.{seat-full, seat-spent, seat-short, seat-done}
 use Rattle.connection.proofs.add_seat_at.Statement.{statement}

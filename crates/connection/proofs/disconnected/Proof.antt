@@ -1,7 +1,7 @@
 -- 21, 10 or 11, then the room. Assumes nothing.
 use borrow.Author.Needs.{needs}
-use Rattle.store.specs.View.{Store, store}
-use Rattle.store.proofs.Views.{whole-parts, whole-lent}
+use Rattle.session.specs.View.{Store, store}
+use Rattle.session.proofs.Views.{whole-parts, whole-lent}
 use Rattle.answers.proofs.Meetings.{whole-failed, whole-passed, damaged-answered, whole-answered}
 use Rattle.connection.specs.Call.{optional}
 use Rattle.connection.proofs.Texts.{checks-as}

@@ -7,8 +7,8 @@ use borrow.Author.Needs.{needs}
 use lib.ListN.{length}
 use Rattle.model.specs.Decide.{seatsObjects}
 use Rattle.control.specs.Control.{connectionOf}
-use Rattle.store.specs.View.{store}
-use Rattle.store.proofs.Views.{lent-after}
+use Rattle.session.specs.View.{store}
+use Rattle.session.proofs.Views.{lent-after}
 use Rattle.events.specs.Events.{bareDevices}
 use Rattle.connection.proofs.Removals.{last-is}
 use Rattle.connection.proofs.Disconnects.{sample-most, end-fits, disconnected-short, disconnected-done}

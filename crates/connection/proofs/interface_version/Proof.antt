@@ -2,8 +2,8 @@
 use mathlib.Core.Path.{refl, sym, ap, _∙_}
 use borrow.Author.Tests.{not-true, not-false}
 use borrow.Author.Needs.{needs}
-use Rattle.store.specs.View.{Store, store}
-use Rattle.store.proofs.Views.{whole-parts}
+use Rattle.session.specs.View.{Store, store}
+use Rattle.session.proofs.Views.{whole-parts}
 use Rattle.control.specs.Answer.{versionTold}
 use Rattle.model.specs.Decide.{versionAnswer}
 use Rattle.answers.specs.declared.Outcome.{Outcome}

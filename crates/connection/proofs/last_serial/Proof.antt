@@ -1,7 +1,7 @@
 -- 21, or the answer. Assumes nothing.
 use borrow.Author.Needs.{needs}
-use Rattle.store.specs.View.{Store, store}
-use Rattle.store.proofs.Views.{whole-parts}
+use Rattle.session.specs.View.{Store, store}
+use Rattle.session.proofs.Views.{whole-parts}
 use Rattle.answers.proofs.Meetings.{whole-failed, whole-passed, damaged-answered, whole-answered}
 use Rattle.connection.proofs.Interfaces.{serial-told}
 use Rattle.connection.proofs.last_serial.Statement.{statement}

@@ -5,13 +5,14 @@ use borrow.Author.Needs.{needs}
 use Rattle.control.proofs.connection_id.Statement.{statement}
 use Rattle.control.proofs.connection_id.Tie as tie
 
-shared-slice-read-result : tie.Need-shared-slice-read-result
-shared-slice-read-result c = search needs
-
 returns : tie.Need-returns
 unfolding connectionOf
 returns c =
     refl
 
 pub connection-id-spec : {M : Type 1} → statement M
-connection-id-spec = tie.close (tie.spec shared-slice-read-result returns)
+connection-id-spec =
+    tie.close
+    (tie.spec
+    (λ c. search needs)  -- shared-slice-read-result
+    returns)

@@ -21,15 +21,9 @@ abbrev μ-loop : tie.MeasureT-loop
 μ-loop control id n slot₀ slot =
     n - slot
 
-device-count-requires : tie.Need-device-count-requires Inv-loop μ-loop
-device-count-requires c κs = search needs
-
 loop-holds : tie.Need-loop-holds Inv-loop μ-loop
 loop-holds c =
     (omega arith, λ j l. absurd (omega arith))
-
-device-id-requires : tie.Need-device-id-requires Inv-loop μ-loop
-device-id-requires c κs = search needs
 
 returns : tie.Need-returns Inv-loop μ-loop
 unfolding coresOf
@@ -38,12 +32,6 @@ returns c =
     let w : List ℕ = a .control .now in
     sym (tab-first (λ x. eqb (x .id) (a .id)) (deviceCount w) (c .before .before .before .loop .slot) (coreAt w) (omega arith)
     (eq-eqb _ _ (sym (c .before .device-id .ensures) ∙ c .if1 .taken)) (c .before .before .before .loop .inv .1))
-
-add-slot : tie.Need-add-slot Inv-loop μ-loop
-add-slot c = search needs
-
-loop-less : tie.Need-loop-less Inv-loop μ-loop
-loop-less c = search needs
 
 loop-again : tie.Need-loop-again Inv-loop μ-loop
 loop-again c =
@@ -62,11 +50,11 @@ find-device-spec =
     (tie.spec
     Inv-loop
     μ-loop
-    device-count-requires
+    (λ c κs. search needs)  -- device-count-requires
     loop-holds
-    device-id-requires
+    (λ c κs. search needs)  -- device-id-requires
     returns
-    add-slot
-    loop-less
+    (λ c. search needs)  -- add-slot
+    (λ c. search needs)  -- loop-less
     loop-again
     returns-2)

@@ -20,15 +20,9 @@ abbrev μ-loop : tie.MeasureT-loop
 μ-loop control bit id n slot₀ slot =
     n - slot
 
-device-count-requires : tie.Need-device-count-requires Inv-loop μ-loop
-device-count-requires c κs = search needs
-
 loop-holds : tie.Need-loop-holds Inv-loop μ-loop
 loop-holds c =
     (omega arith, λ j l. absurd (omega arith))
-
-links-requires : tie.Need-links-requires Inv-loop μ-loop
-links-requires c κs = search needs
 
 returns : tie.Need-returns Inv-loop μ-loop
 unfolding coresOf
@@ -37,12 +31,6 @@ returns c =
     let w : List ℕ = a .control .now in
     sym (tab-first (λ d. linksIn (a .bit) (a .id) (d .interfaces)) (deviceCount w) (c .before .before .before .loop .slot) (coreAt w) (omega arith)
     (sym (c .before .links .ensures) ∙ c .if1 .taken) (c .before .before .before .loop .inv .1))
-
-add-slot : tie.Need-add-slot Inv-loop μ-loop
-add-slot c = search needs
-
-loop-less : tie.Need-loop-less Inv-loop μ-loop
-loop-less c = search needs
 
 loop-again : tie.Need-loop-again Inv-loop μ-loop
 loop-again c =
@@ -61,11 +49,11 @@ find-interface-spec =
     (tie.spec
     Inv-loop
     μ-loop
-    device-count-requires
+    (λ c κs. search needs)  -- device-count-requires
     loop-holds
-    links-requires
+    (λ c κs. search needs)  -- links-requires
     returns
-    add-slot
-    loop-less
+    (λ c. search needs)  -- add-slot
+    (λ c. search needs)  -- loop-less
     loop-again
     returns-2)

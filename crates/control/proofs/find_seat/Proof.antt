@@ -21,15 +21,9 @@ abbrev μ-loop : tie.MeasureT-loop
 μ-loop control id n place₀ place =
     n - place
 
-seat-count-requires : tie.Need-seat-count-requires Inv-loop μ-loop
-seat-count-requires c κs = search needs
-
 loop-holds : tie.Need-loop-holds Inv-loop μ-loop
 loop-holds c =
     (omega arith, λ j l. absurd (omega arith))
-
-seat-id-requires : tie.Need-seat-id-requires Inv-loop μ-loop
-seat-id-requires c κs = search needs
 
 returns : tie.Need-returns Inv-loop μ-loop
 unfolding connectionOf
@@ -38,12 +32,6 @@ returns c =
     let w : List ℕ = a .control .now in
     sym (tab-first (λ x. eqb (x .id) (a .id)) (seatCount w) (c .before .before .before .loop .place) (seatAt w) (omega arith)
     (eq-eqb _ _ (sym (c .before .seat-id .ensures) ∙ c .if1 .taken)) (c .before .before .before .loop .inv .1))
-
-add-place : tie.Need-add-place Inv-loop μ-loop
-add-place c = search needs
-
-loop-less : tie.Need-loop-less Inv-loop μ-loop
-loop-less c = search needs
 
 loop-again : tie.Need-loop-again Inv-loop μ-loop
 loop-again c =
@@ -62,11 +50,11 @@ find-seat-spec =
     (tie.spec
     Inv-loop
     μ-loop
-    seat-count-requires
+    (λ c κs. search needs)  -- seat-count-requires
     loop-holds
-    seat-id-requires
+    (λ c κs. search needs)  -- seat-id-requires
     returns
-    add-place
-    loop-less
+    (λ c. search needs)  -- add-place
+    (λ c. search needs)  -- loop-less
     loop-again
     returns-2)

@@ -14,9 +14,6 @@ returns : tie.Need-returns
 returns c =
     sym (bit-past (c .before .args .place) (c .before .args .mask) (omega arith) (omega arith))
 
-shl-result : tie.Need-shl-result
-shl-result c = search needs
-
 div-result : tie.Need-div-result
 div-result c =
     omega (arith, one-shl (c .before .args .place) (omega arith), pow-pos (c .before .args .place))
@@ -26,4 +23,10 @@ returns-2 c =
     ap (λ (x : ℕ). eqb (c .before .args .mask / x % 2) 1) (one-shl (c .before .args .place) (omega arith))
 
 pub has-bit-spec : {M : Type 1} → statement M
-has-bit-spec = tie.close (tie.spec returns shl-result div-result returns-2)
+has-bit-spec =
+    tie.close
+    (tie.spec
+    returns
+    (λ c. search needs)  -- shl-result
+    div-result
+    returns-2)

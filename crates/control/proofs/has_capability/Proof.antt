@@ -6,16 +6,15 @@ use borrow.Author.Needs.{needs}
 use Rattle.control.proofs.has_capability.Statement.{statement}
 use Rattle.control.proofs.has_capability.Tie as tie
 
-device-capabilities-requires : tie.Need-device-capabilities-requires
-device-capabilities-requires c κs = search needs
-
-has-bit-requires : tie.Need-has-bit-requires
-has-bit-requires c κs = search needs
-
 returns : tie.Need-returns
 returns c =
     let a = c .before .before .before .args in
     c .has-bit .ensures ∙ ap (bit (a .bit)) (c .before .device-capabilities .ensures) ∙ sym (core-lists (a .control .now) (a .k) (a .bit))
 
 pub has-capability-spec : {M : Type 1} → statement M
-has-capability-spec = tie.close (tie.spec device-capabilities-requires has-bit-requires returns)
+has-capability-spec =
+    tie.close
+    (tie.spec
+    (λ c κs. search needs)  -- device-capabilities-requires
+    (λ c κs. search needs)  -- has-bit-requires
+    returns)

@@ -5,16 +5,15 @@ use borrow.Author.Needs.{needs}
 use Rattle.control.proofs.last_serial.Statement.{statement}
 use Rattle.control.proofs.last_serial.Tie as tie
 
-shared-slice-read-result : tie.Need-shared-slice-read-result
-shared-slice-read-result c = search needs
-
-cast-result : tie.Need-cast-result
-cast-result c = search needs
-
 returns : tie.Need-returns
 unfolding connectionOf
 returns c =
     refl
 
 pub last-serial-spec : {M : Type 1} → statement M
-last-serial-spec = tie.close (tie.spec shared-slice-read-result cast-result returns)
+last-serial-spec =
+    tie.close
+    (tie.spec
+    (λ c. search needs)  -- shared-slice-read-result
+    (λ c. search needs)  -- cast-result
+    returns)

@@ -6,30 +6,6 @@ use borrow.Author.Needs.{needs}
 use Rattle.control.proofs.row_sound.Statement.{statement}
 use Rattle.control.proofs.row_sound.Tie as tie
 
-mul-at : tie.Need-mul-at
-mul-at c = search needs
-
-add-at : tie.Need-add-at
-add-at c = search needs
-
-add-if1 : tie.Need-add-if1
-add-if1 c = search needs
-
-mul-if1 : tie.Need-mul-if1
-mul-if1 c = search needs
-
-shared-slice-read-if1 : tie.Need-shared-slice-read-if1
-shared-slice-read-if1 c = search needs
-
-add-result : tie.Need-add-result
-add-result c = search needs
-
-mul-result : tie.Need-mul-result
-mul-result c = search needs
-
-shared-slice-read-result : tie.Need-shared-slice-read-result
-shared-slice-read-result c = search needs
-
 returns : tie.Need-returns
 returns c =
     let a = c .before .before .before .args in row-second (a .control .now) (a .k) (omega arith)
@@ -42,13 +18,13 @@ pub row-sound-spec : {M : Type 1} → statement M
 row-sound-spec =
     tie.close
     (tie.spec
-    mul-at
-    add-at
-    add-if1
-    mul-if1
-    shared-slice-read-if1
-    add-result
-    mul-result
-    shared-slice-read-result
+    (λ c. search needs)  -- mul-at
+    (λ c. search needs)  -- add-at
+    (λ c. search needs)  -- add-if1
+    (λ c. search needs)  -- mul-if1
+    (λ c. search needs)  -- shared-slice-read-if1
+    (λ c. search needs)  -- add-result
+    (λ c. search needs)  -- mul-result
+    (λ c. search needs)  -- shared-slice-read-result
     returns
     returns-2)

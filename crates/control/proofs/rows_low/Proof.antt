@@ -23,36 +23,6 @@ loop-holds : tie.Need-loop-holds Inv-loop μ-loop
 loop-holds c =
     (omega arith, λ j l. absurd (omega arith))
 
-mul-at : tie.Need-mul-at Inv-loop μ-loop
-mul-at c = search needs
-
-add-at : tie.Need-add-at Inv-loop μ-loop
-add-at c = search needs
-
-add-pending : tie.Need-add-pending Inv-loop μ-loop
-add-pending c = search needs
-
-mul-pending : tie.Need-mul-pending Inv-loop μ-loop
-mul-pending c = search needs
-
-shared-slice-read-pending : tie.Need-shared-slice-read-pending Inv-loop μ-loop
-shared-slice-read-pending c = search needs
-
-add-held : tie.Need-add-held Inv-loop μ-loop
-add-held c = search needs
-
-mul-held : tie.Need-mul-held Inv-loop μ-loop
-mul-held c = search needs
-
-shared-slice-read-held : tie.Need-shared-slice-read-held Inv-loop μ-loop
-shared-slice-read-held c = search needs
-
-add-k : tie.Need-add-k Inv-loop μ-loop
-add-k c = search needs
-
-loop-less : tie.Need-loop-less Inv-loop μ-loop
-loop-less c = search needs
-
 loop-again : tie.Need-loop-again Inv-loop μ-loop
 loop-again c =
     let a = c .before .before .before .before .args .control .now in
@@ -82,16 +52,16 @@ rows-low-spec =
     Inv-loop
     μ-loop
     loop-holds
-    mul-at
-    add-at
-    add-pending
-    mul-pending
-    shared-slice-read-pending
-    add-held
-    mul-held
-    shared-slice-read-held
-    add-k
-    loop-less
+    (λ c. search needs)  -- mul-at
+    (λ c. search needs)  -- add-at
+    (λ c. search needs)  -- add-pending
+    (λ c. search needs)  -- mul-pending
+    (λ c. search needs)  -- shared-slice-read-pending
+    (λ c. search needs)  -- add-held
+    (λ c. search needs)  -- mul-held
+    (λ c. search needs)  -- shared-slice-read-held
+    (λ c. search needs)  -- add-k
+    (λ c. search needs)  -- loop-less
     loop-again
     returns
     returns-2)

@@ -12,39 +12,21 @@ returns : tie.Need-returns
 returns c =
     sym (unsound _ (λ s. omega arith))
 
-shared-slice-read-if2 : tie.Need-shared-slice-read-if2
-shared-slice-read-if2 c = search needs
-
 returns-2 : tie.Need-returns-2
 returns-2 c =
     sym (unsound _ (λ s. omega arith))
-
-shared-slice-read-if3 : tie.Need-shared-slice-read-if3
-shared-slice-read-if3 c = search needs
 
 returns-3 : tie.Need-returns-3
 returns-3 c =
     sym (unsound _ (λ s. omega arith))
 
-shared-slice-read-if4 : tie.Need-shared-slice-read-if4
-shared-slice-read-if4 c = search needs
-
 returns-4 : tie.Need-returns-4
 returns-4 c =
     sym (unsound _ (λ s. omega arith))
 
-shared-slice-read-if5 : tie.Need-shared-slice-read-if5
-shared-slice-read-if5 c = search needs
-
 returns-5 : tie.Need-returns-5
 returns-5 c =
     sym (unsound _ (λ s. omega arith))
-
-device-count-requires : tie.Need-device-count-requires
-device-count-requires c κs = search needs
-
-rows-low-requires : tie.Need-rows-low-requires
-rows-low-requires c κs = search needs
 
 returns-6 : tie.Need-returns-6
 returns-6 c =
@@ -52,9 +34,6 @@ returns-6 c =
     let counted = c .before .before .device-count .ensures in
     sym (sym (rows-decide a (search needs) (search needs) (search needs) (search needs) (search needs))
     ∙ rows-all a (deviceCount a) (λ k l. c .before .rows-low .ensures (c .if6 .taken) k (rw counted l)))
-
-rows-sound-requires : tie.Need-rows-sound-requires
-rows-sound-requires c κs = search needs
 
 returns-7 : tie.Need-returns-7
 returns-7 c =
@@ -67,16 +46,16 @@ sound-spec =
     tie.close
     (tie.spec
     returns
-    shared-slice-read-if2
+    (λ c. search needs)  -- shared-slice-read-if2
     returns-2
-    shared-slice-read-if3
+    (λ c. search needs)  -- shared-slice-read-if3
     returns-3
-    shared-slice-read-if4
+    (λ c. search needs)  -- shared-slice-read-if4
     returns-4
-    shared-slice-read-if5
+    (λ c. search needs)  -- shared-slice-read-if5
     returns-5
-    device-count-requires
-    rows-low-requires
+    (λ c κs. search needs)  -- device-count-requires
+    (λ c κs. search needs)  -- rows-low-requires
     returns-6
-    rows-sound-requires
+    (λ c κs. search needs)  -- rows-sound-requires
     returns-7)

@@ -6,15 +6,6 @@ use borrow.Author.Needs.{needs}
 use Rattle.control.proofs.version_or_1.Statement.{statement}
 use Rattle.control.proofs.version_or_1.Tie as tie
 
-version-requires : tie.Need-version-requires
-version-requires c κs = search needs
-
-enum-known-v : tie.Need-enum-known-v
-enum-known-v c = search needs
-
-enum-told : tie.Need-enum-told
-enum-told c = search needs
-
 returns : tie.Need-returns
 unfolding versionOr1
 returns c =
@@ -26,4 +17,11 @@ returns-2 c =
     ap versionOr1 (ap versionTold (sym (c .enum-told .given .1)) ∙ c .before .before .version .ensures)
 
 pub version-or-1-spec : {M : Type 1} → statement M
-version-or-1-spec = tie.close (tie.spec version-requires enum-known-v enum-told returns returns-2)
+version-or-1-spec =
+    tie.close
+    (tie.spec
+    (λ c κs. search needs)  -- version-requires
+    (λ c. search needs)  -- enum-known-v
+    (λ c. search needs)  -- enum-told
+    returns
+    returns-2)

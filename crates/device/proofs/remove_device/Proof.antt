@@ -5,10 +5,10 @@ use native.Mathlib.Omega.{arith}
 use borrow.Author.Needs.{needs}
 use Rattle.model.specs.Call.{Plain}
 use Rattle.model.specs.Edit.{Edit}
-use Rattle.steps.proofs.Counted.{removes-device}
+use Rattle.model_steps.proofs.Counted.{removes-device}
 use Rattle.control.specs.Answer.{slotTold}
-use Rattle.store.specs.View.{Store, store}
-use Rattle.store.proofs.Views.{whole-parts, found-bound, whole-lent, lent-after}
+use Rattle.session.specs.View.{Store, store}
+use Rattle.session.proofs.Views.{whole-parts, found-bound, whole-lent, lent-after}
 use Rattle.events.proofs.Seen.{objects-seen}
 use Rattle.answers.specs.declared.Error.{Error}
 use Rattle.answers.specs.declared.Outcome.{Outcome}

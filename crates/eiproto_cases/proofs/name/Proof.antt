@@ -11,29 +11,17 @@ Inv-loop i n k₀ k = k ≤ n
 abbrev μ-loop : tie.MeasureT-loop
 μ-loop i n k₀ k = n - k
 
-name-len-requires : tie.Need-name-len-requires Inv-loop μ-loop
-name-len-requires c κs = search needs
-
-loop-holds : tie.Need-loop-holds Inv-loop μ-loop
-loop-holds c = omega arith
-
-name-byte-requires : tie.Need-name-byte-requires Inv-loop μ-loop
-name-byte-requires c κs = search needs
-
-byte-requires : tie.Need-byte-requires Inv-loop μ-loop
-byte-requires c κs = search needs
-
-add-k : tie.Need-add-k Inv-loop μ-loop
-add-k c = omega arith
-
-loop-less : tie.Need-loop-less Inv-loop μ-loop
-loop-less c = omega arith
-
-loop-again : tie.Need-loop-again Inv-loop μ-loop
-loop-again c = omega arith
-
-returns : tie.Need-returns Inv-loop μ-loop
-returns c = search needs
-
 pub name-spec : {M : Type 1} → statement M
-name-spec = tie.close (tie.spec Inv-loop μ-loop name-len-requires loop-holds name-byte-requires byte-requires add-k loop-less loop-again returns)
+name-spec =
+    tie.close
+    (tie.spec
+    Inv-loop
+    μ-loop
+    (λ c κs. search needs)  -- name-len-requires
+    (λ c. omega arith)  -- loop-holds
+    (λ c κs. search needs)  -- name-byte-requires
+    (λ c κs. search needs)  -- byte-requires
+    (λ c. omega arith)  -- add-k
+    (λ c. omega arith)  -- loop-less
+    (λ c. omega arith)  -- loop-again
+    (λ c. search needs))  -- returns

@@ -24,23 +24,20 @@ loop-holds : tie.Need-loop-holds Inv-loop μ-loop
 loop-holds c =
     (c .before .pre .1, omega arith)
 
-lowest-requires : tie.Need-lowest-requires Inv-loop μ-loop
-lowest-requires c κs = search needs
-
-without-lowest-requires : tie.Need-without-lowest-requires Inv-loop μ-loop
-without-lowest-requires c κs = search needs
-
 negotiated-requires : tie.Need-negotiated-requires Inv-loop μ-loop
 negotiated-requires c κs =
     c .before .before .before .before .before .pre .0 .long
 
 add-total : tie.Need-add-total Inv-loop μ-loop
 add-total c =
-    let a = c .before .before .before .before .before .before .before .args in
+    let at-lowest = c .before .before .before in
+    let at-loop = at-lowest .before .before in
+    let at-start = at-loop .before .before in
+    let a = at-start .args in
     let n = connectionOf (a .control .now) in
-    let o = c .before .before .before .before .before .loop in
-    let hit = room-hit n (a .seat) (o .left) _ _ (omega arith) (o .inv .0) (c .before .before .before .lowest .ensures) (c .before .before .without-lowest .ensures) (sym (c .before .negotiated .ensures) ∙ c .if1 .taken) in
-    omega (arith, o .inv .1, room-most n (a .seat) (a .capabilities) (c .before .before .before .before .before .before .before .pre .1), hit)
+    let o = at-loop .loop in
+    let hit = room-hit n (a .seat) (o .left) _ _ (omega arith) (o .inv .0) (at-lowest .lowest .ensures) (c .before .before .without-lowest .ensures) (sym (c .before .negotiated .ensures) ∙ c .if1 .taken) in
+    omega (arith, o .inv .1, room-most n (a .seat) (a .capabilities) (at-start .pre .1), hit)
 
 loop-less : tie.Need-loop-less Inv-loop μ-loop
 loop-less c =
@@ -83,8 +80,8 @@ capabilities-length-spec =
     Inv-loop
     μ-loop
     loop-holds
-    lowest-requires
-    without-lowest-requires
+    (λ c κs. search needs)  -- lowest-requires
+    (λ c κs. search needs)  -- without-lowest-requires
     negotiated-requires
     add-total
     loop-less

@@ -17,28 +17,10 @@ abbrev μ-loop : tie.MeasureT-loop
 μ-loop control seat devices total₀ k₀ total k =
     devices - k
 
-device-count-requires : tie.Need-device-count-requires Inv-loop μ-loop
-device-count-requires c κs = search needs
-
 loop-holds : tie.Need-loop-holds Inv-loop μ-loop
 loop-holds c =
     let a = c .before .before .args in
     (omega arith, (omega (arith, ap length (up-none (ofSeat (a .control .now) (a .seat)))), omega arith))
-
-add-k : tie.Need-add-k Inv-loop μ-loop
-add-k c = search needs
-
-device-seat-requires : tie.Need-device-seat-requires Inv-loop μ-loop
-device-seat-requires c κs = search needs
-
-device-objects-requires : tie.Need-device-objects-requires Inv-loop μ-loop
-device-objects-requires c κs = search needs
-
-add-total : tie.Need-add-total Inv-loop μ-loop
-add-total c = search needs
-
-loop-less : tie.Need-loop-less Inv-loop μ-loop
-loop-less c = search needs
 
 loop-again : tie.Need-loop-again Inv-loop μ-loop
 loop-again c =
@@ -52,9 +34,6 @@ loop-again c =
         omega (arith, o .inv .1 .1, c .device-objects .ensures .1),
       ),
     )
-
-loop-less-2 : tie.Need-loop-less-2 Inv-loop μ-loop
-loop-less-2 c = search needs
 
 loop-again-2 : tie.Need-loop-again-2 Inv-loop μ-loop
 loop-again-2 c =
@@ -83,14 +62,14 @@ seat-objects-spec =
     (tie.spec
     Inv-loop
     μ-loop
-    device-count-requires
+    (λ c κs. search needs)  -- device-count-requires
     loop-holds
-    add-k
-    device-seat-requires
-    device-objects-requires
-    add-total
-    loop-less
+    (λ c. search needs)  -- add-k
+    (λ c κs. search needs)  -- device-seat-requires
+    (λ c κs. search needs)  -- device-objects-requires
+    (λ c. search needs)  -- add-total
+    (λ c. search needs)  -- loop-less
     loop-again
-    loop-less-2
+    (λ c. search needs)  -- loop-less-2
     loop-again-2
     returns)

@@ -17,27 +17,9 @@ abbrev μ-loop : tie.MeasureT-loop
 μ-loop control seats total₀ place₀ total place =
     seats - place
 
-seat-count-requires : tie.Need-seat-count-requires Inv-loop μ-loop
-seat-count-requires c κs = search needs
-
 loop-holds : tie.Need-loop-holds Inv-loop μ-loop
 loop-holds c =
     (omega arith, (omega (arith, ap length (up-none (ofPlace (c .before .before .args .control .now)))), omega arith))
-
-seat-id-requires : tie.Need-seat-id-requires Inv-loop μ-loop
-seat-id-requires c κs = search needs
-
-seat-objects-requires : tie.Need-seat-objects-requires Inv-loop μ-loop
-seat-objects-requires c κs = search needs
-
-add-total : tie.Need-add-total Inv-loop μ-loop
-add-total c = search needs
-
-add-place : tie.Need-add-place Inv-loop μ-loop
-add-place c = search needs
-
-loop-less : tie.Need-loop-less Inv-loop μ-loop
-loop-less c = search needs
 
 loop-again : tie.Need-loop-again Inv-loop μ-loop
 loop-again c =
@@ -63,12 +45,12 @@ seats-objects-spec =
     (tie.spec
     Inv-loop
     μ-loop
-    seat-count-requires
+    (λ c κs. search needs)  -- seat-count-requires
     loop-holds
-    seat-id-requires
-    seat-objects-requires
-    add-total
-    add-place
-    loop-less
+    (λ c κs. search needs)  -- seat-id-requires
+    (λ c κs. search needs)  -- seat-objects-requires
+    (λ c. search needs)  -- add-total
+    (λ c. search needs)  -- add-place
+    (λ c. search needs)  -- loop-less
     loop-again
     returns)

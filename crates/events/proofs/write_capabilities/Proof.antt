@@ -23,35 +23,28 @@ loop-holds : tie.Need-loop-holds Inv-loop μ-loop
 loop-holds c =
     (c .before .before .pre .1 .0, partly-none (c .before .before .args .out .now) (c .before .before .args .from) refl (c .before .before .pre .1 .1))
 
-lowest-requires : tie.Need-lowest-requires Inv-loop μ-loop
-lowest-requires c κs = search needs
-
-without-lowest-requires : tie.Need-without-lowest-requires Inv-loop μ-loop
-without-lowest-requires c κs = search needs
-
 negotiated-requires : tie.Need-negotiated-requires Inv-loop μ-loop
 negotiated-requires c κs =
     c .before .before .before .before .before .before .pre .0 .long
 
-interface-of-bit-requires : tie.Need-interface-of-bit-requires Inv-loop μ-loop
-interface-of-bit-requires c κs = search needs
-
-cast-t15 : tie.Need-cast-t15 Inv-loop μ-loop
-cast-t15 c = search needs
-
 shl-t16 : tie.Need-shl-t16 Inv-loop μ-loop
 shl-t16 c =
-    omega (arith, c .before .before .before .before .before .lowest .ensures, lowest (c .before .before .before .before .before .before .before .loop .left) (omega arith) (omega (arith, c .before .before .before .before .before .before .before .loop .inv .0)) .small)
-
-slice-aggregate-send : tie.Need-slice-aggregate-send Inv-loop μ-loop
-slice-aggregate-send c = search needs
+    let at-lowest = c .before .before .before .before .before in
+    let at-loop = at-lowest .before .before in
+    omega (arith, at-lowest .lowest .ensures, lowest (at-loop .loop .left) (omega arith) (omega (arith, at-loop .loop .inv .0)) .small)
 
 send-requires : tie.Need-send-requires Inv-loop μ-loop
 send-requires c κs =
-    let a = c .before .before .before .before .before .before .before .before .before .before .before .args in
-    let o = c .before .before .before .before .before .before .before .before .loop in
-    let t = sym (c .before .before .before .before .negotiated .ensures) ∙ c .before .before .before .if1 .taken in
-    let hit = announced-hit (connectionOf (a .control .now)) (a .seat) (o .left) _ _ (omega arith) (o .inv .0) (c .before .before .before .before .before .before .lowest .ensures) (c .before .before .before .before .before .without-lowest .ensures) t in
+    let at-if1 = c .before .before .before in
+    let at-negotiated = at-if1 .before in
+    let at-without-lowest = at-negotiated .before in
+    let at-lowest = at-without-lowest .before in
+    let at-loop = at-lowest .before .before in
+    let at-start = at-loop .before .before .before in
+    let a = at-start .args in
+    let o = at-loop .loop in
+    let t = sym (at-negotiated .negotiated .ensures) ∙ at-if1 .if1 .taken in
+    let hit = announced-hit (connectionOf (a .control .now)) (a .seat) (o .left) _ _ (omega arith) (o .inv .0) (at-lowest .lowest .ensures) (at-without-lowest .without-lowest .ensures) t in
     capability-fits _ _ _ _ hit (o .inv .1)
 
 loop-less : tie.Need-loop-less Inv-loop μ-loop
@@ -61,14 +54,21 @@ loop-less c =
 
 loop-again : tie.Need-loop-again Inv-loop μ-loop
 loop-again c =
-    let a = c .before .before .before .before .before .before .before .before .before .before .before .before .before .before .args in
-    let o = c .before .before .before .before .before .before .before .before .before .before .before .loop in
+    let at-interface-of-bit = c .before .before .before .before .before in
+    let at-if1 = at-interface-of-bit .before in
+    let at-negotiated = at-if1 .before in
+    let at-without-lowest = at-negotiated .before in
+    let at-lowest = at-without-lowest .before in
+    let at-loop = at-lowest .before .before in
+    let at-start = at-loop .before .before .before in
+    let a = at-start .args in
+    let o = at-loop .loop in
     let p : 0 < o .left = omega arith in
     let h : o .left < 128 = o .inv .0 in
-    let l = c .before .before .before .before .before .before .before .before .before .lowest .ensures in
-    let w = c .before .before .before .before .before .before .before .before .without-lowest .ensures in
-    let t = sym (c .before .before .before .before .before .before .before .negotiated .ensures) ∙ c .before .before .before .before .before .before .if1 .taken in
-    let s = capability-sent (a .seat) (o .left) _ p h l (c .before .before .before .before .before .interface-of-bit .ensures) (c .before .before .send .ensures) in (
+    let l = at-lowest .lowest .ensures in
+    let w = at-without-lowest .without-lowest .ensures in
+    let t = sym (at-negotiated .negotiated .ensures) ∙ at-if1 .if1 .taken in
+    let s = capability-sent (a .seat) (o .left) _ p h l (at-interface-of-bit .interface-of-bit .ensures) (c .before .before .send .ensures) in (
       left-small (o .left) _ p h w,
       partly-more (announced-hit (connectionOf (a .control .now)) (a .seat) (o .left) _ _ p h l w t) (o .inv .1) (c .before .before .send .kept .0) s,
     )
@@ -105,13 +105,13 @@ write-capabilities-spec =
     Inv-loop
     μ-loop
     loop-holds
-    lowest-requires
-    without-lowest-requires
+    (λ c κs. search needs)  -- lowest-requires
+    (λ c κs. search needs)  -- without-lowest-requires
     negotiated-requires
-    interface-of-bit-requires
-    cast-t15
+    (λ c κs. search needs)  -- interface-of-bit-requires
+    (λ c. search needs)  -- cast-t15
     shl-t16
-    slice-aggregate-send
+    (λ c. search needs)  -- slice-aggregate-send
     send-requires
     loop-less
     loop-again

@@ -20,31 +20,16 @@ abbrev μ-loop : tie.MeasureT-loop
 μ-loop control k out₀ id made left₀ so-far₀ out left so-far =
     left
 
-device-id-requires : tie.Need-device-id-requires Inv-loop μ-loop
-device-id-requires c κs = search needs
-
-device-capabilities-requires : tie.Need-device-capabilities-requires Inv-loop μ-loop
-device-capabilities-requires c κs = search needs
-
 loop-holds : tie.Need-loop-holds Inv-loop μ-loop
 loop-holds c =
     let a = c .before .before .before .before .args in
     let e = objects-are (a .control .now) (a .k) (c .before .device-id .ensures) (c .device-capabilities .ensures) in
     (omega arith, going-none (a .out .now) (a .mark) e (omega (arith, c .before .before .before .before .pre .1 .1, ap length e)))
 
-lowest-requires : tie.Need-lowest-requires Inv-loop μ-loop
-lowest-requires c κs = search needs
-
-interface-id-requires : tie.Need-interface-id-requires Inv-loop μ-loop
-interface-id-requires c κs = search needs
-
 write-destroyed-requires : tie.Need-write-destroyed-requires Inv-loop μ-loop
 write-destroyed-requires c κs =
     let o = c .before .before .before .before .loop in
     going-room (ids-more (o .left) _ (omega arith) (o .inv .0) refl _ _ _ (c .before .before .lowest .ensures) (c .interface-id .ensures)) (o .inv .1)
-
-without-lowest-requires : tie.Need-without-lowest-requires Inv-loop μ-loop
-without-lowest-requires c κs = search needs
 
 loop-less : tie.Need-loop-less Inv-loop μ-loop
 loop-less c =
@@ -53,21 +38,22 @@ loop-less c =
 
 loop-again : tie.Need-loop-again Inv-loop μ-loop
 loop-again c =
-    let o = c .before .before .before .before .before .before .before .before .loop in
+    let at-write-destroyed = c .before .before .before in
+    let at-interface-id = at-write-destroyed .before in
+    let at-lowest = at-interface-id .before .before in
+    let at-loop = at-lowest .before .before in
+    let o = at-loop .loop in
     let p : 0 < o .left = omega arith in
     let h : o .left < 128 = o .inv .0 in
     let w = c .without-lowest .ensures in (
       left-small (o .left) _ p h w,
-      going-more (ids-more (o .left) _ p h w _ _ _ (c .before .before .before .before .before .before .lowest .ensures) (c .before .before .before .before .interface-id .ensures)) (o .inv .1) (c .before .before .before .write-destroyed .kept .0) (c .before .before .before .write-destroyed .ensures),
+      going-more (ids-more (o .left) _ p h w _ _ _ (at-lowest .lowest .ensures) (at-interface-id .interface-id .ensures)) (o .inv .1) (at-write-destroyed .write-destroyed .kept .0) (at-write-destroyed .write-destroyed .ensures),
     )
 
 write-destroyed-requires-2 : tie.Need-write-destroyed-requires-2 Inv-loop μ-loop
 write-destroyed-requires-2 c κs =
     let o = c .before .before .loop in
     going-room (ids-last _ _ (o .left) (omega arith)) (o .inv .1)
-
-same-length : tie.Need-same-length Inv-loop μ-loop
-same-length c = search needs
 
 returns : tie.Need-returns Inv-loop μ-loop
 returns c =
@@ -80,15 +66,15 @@ write-device-spec =
     (tie.spec
     Inv-loop
     μ-loop
-    device-id-requires
-    device-capabilities-requires
+    (λ c κs. search needs)  -- device-id-requires
+    (λ c κs. search needs)  -- device-capabilities-requires
     loop-holds
-    lowest-requires
-    interface-id-requires
+    (λ c κs. search needs)  -- lowest-requires
+    (λ c κs. search needs)  -- interface-id-requires
     write-destroyed-requires
-    without-lowest-requires
+    (λ c κs. search needs)  -- without-lowest-requires
     loop-less
     loop-again
     write-destroyed-requires-2
-    same-length
+    (λ c. search needs)  -- same-length
     returns)

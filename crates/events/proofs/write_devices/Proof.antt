@@ -19,53 +19,44 @@ abbrev μ-loop : tie.MeasureT-loop
 μ-loop control seat out₀ devices so-far₀ k₀ out so-far k =
     devices - k
 
-device-count-requires : tie.Need-device-count-requires Inv-loop μ-loop
-device-count-requires c κs = search needs
-
 loop-holds : tie.Need-loop-holds Inv-loop μ-loop
 loop-holds c =
     let a = c .before .before .before .args in
     (omega arith, (refl, rw (up-none (ofSeat (a .control .now) (a .seat))) (destroys-none (a .out .now) (a .mark))))
 
-add-k : tie.Need-add-k Inv-loop μ-loop
-add-k c = search needs
-
-device-seat-requires : tie.Need-device-seat-requires Inv-loop μ-loop
-device-seat-requires c κs = search needs
-
 write-device-requires : tie.Need-write-device-requires Inv-loop μ-loop
 write-device-requires c κs =
-    let a = c .before .before .before .before .before .before .before .before .args in
+    let at-loop = c .before .before .before .before in
+    let at-start = at-loop .before .before .before .before in
+    let a = at-start .args in
     let w = a .control .now in
-    let o = c .before .before .before .before .loop in
+    let o = at-loop .loop in
     let hit = seat-hit w (a .seat) (o .k) (sym (c .before .before .device-seat .ensures) ∙ c .before .if1 .taken) in (
-      c .before .before .before .before .before .before .before .before .pre .0,
+      at-start .pre .0,
       (
-        omega (arith, c .before .before .before .before .before .before .before .before .pre .0 .devices),
-        omega (arith, o .inv .1 .0, o .inv .1 .1 .at, c .before .before .before .before .before .before .before .before .pre .1, ap length (devices-are w (a .seat)), ap length hit, up-room (ofSeat w (a .seat)) (o .k) (deviceCount w) (omega arith)),
+        omega (arith, at-start .pre .0 .devices),
+        omega (arith, o .inv .1 .0, o .inv .1 .1 .at, at-start .pre .1, ap length (devices-are w (a .seat)), ap length hit, up-room (ofSeat w (a .seat)) (o .k) (deviceCount w) (omega arith)),
       ),
     )
 
-loop-less : tie.Need-loop-less Inv-loop μ-loop
-loop-less c = search needs
-
 loop-again : tie.Need-loop-again Inv-loop μ-loop
 loop-again c =
-    let a = c .before .before .before .before .before .before .before .before .before .before .before .args in
+    let at-if1 = c .before .before .before .before in
+    let at-device-seat = at-if1 .before in
+    let at-loop = at-device-seat .before .before in
+    let at-start = at-loop .before .before .before .before in
+    let a = at-start .args in
     let w = a .control .now in
-    let o = c .before .before .before .before .before .before .before .loop in
-    let hit = seat-hit w (a .seat) (o .k) (sym (c .before .before .before .before .before .device-seat .ensures) ∙ c .before .before .before .before .if1 .taken) in
+    let o = at-loop .loop in
+    let hit = seat-hit w (a .seat) (o .k) (sym (at-device-seat .device-seat .ensures) ∙ at-if1 .if1 .taken) in
     let fits = up-room (ofSeat w (a .seat)) (o .k) (deviceCount w) (omega arith) in (
       omega arith,
       (
         c .before .before .write-device .kept .1 .1 .0 ∙ o .inv .1 .0,
         rw (up-more (ofSeat w (a .seat)) (o .k), hit)
-            (destroys-join (omega (arith, o .inv .1 .1 .at, c .before .before .before .before .before .before .before .before .before .before .before .pre .1, ap length (devices-are w (a .seat)), ap length hit, fits)) (o .inv .1 .1) (c .before .before .write-device .ensures)),
+            (destroys-join (omega (arith, o .inv .1 .1 .at, at-start .pre .1, ap length (devices-are w (a .seat)), ap length hit, fits)) (o .inv .1 .1) (c .before .before .write-device .ensures)),
       ),
     )
-
-loop-less-2 : tie.Need-loop-less-2 Inv-loop μ-loop
-loop-less-2 c = search needs
 
 loop-again-2 : tie.Need-loop-again-2 Inv-loop μ-loop
 loop-again-2 c =
@@ -92,14 +83,14 @@ write-devices-spec =
     (tie.spec
     Inv-loop
     μ-loop
-    device-count-requires
+    (λ c κs. search needs)  -- device-count-requires
     loop-holds
-    add-k
-    device-seat-requires
+    (λ c. search needs)  -- add-k
+    (λ c κs. search needs)  -- device-seat-requires
     write-device-requires
-    loop-less
+    (λ c. search needs)  -- loop-less
     loop-again
-    loop-less-2
+    (λ c. search needs)  -- loop-less-2
     loop-again-2
     same-length
     returns)

@@ -26,9 +26,6 @@ abbrev μ-loop : tie.MeasureT-loop
 μ-loop control device capabilities out₀ from at₀ id₀ left₀ t12 out at id left =
     left
 
-add-id : tie.Need-add-id Inv-loop μ-loop
-add-id c = search needs
-
 loop-holds : tie.Need-loop-holds Inv-loop μ-loop
 loop-holds c =
     let a = c .before .before .args in
@@ -41,28 +38,20 @@ loop-holds c =
       ),
     )
 
-lowest-requires : tie.Need-lowest-requires Inv-loop μ-loop
-lowest-requires c κs = search needs
-
-without-lowest-requires : tie.Need-without-lowest-requires Inv-loop μ-loop
-without-lowest-requires c κs = search needs
-
-interface-of-bit-requires : tie.Need-interface-of-bit-requires Inv-loop μ-loop
-interface-of-bit-requires c κs = search needs
-
 version-or-1-requires : tie.Need-version-or-1-requires Inv-loop μ-loop
 version-or-1-requires c κs =
     c .before .before .before .before .before .before .before .pre .0 .long
 
-slice-aggregate-send : tie.Need-slice-aggregate-send Inv-loop μ-loop
-slice-aggregate-send c = search needs
-
 send-requires : tie.Need-send-requires Inv-loop μ-loop
 send-requires c κs =
-    let a = c .before .before .before .before .before .before .before .before .before .before .args in
+    let at-without-lowest = c .before .before .before .before in
+    let at-lowest = at-without-lowest .before in
+    let at-loop = at-lowest .before .before in
+    let at-start = at-loop .before .before .before in
+    let a = at-start .args in
     let n = connectionOf (a .control .now) in
-    let o = c .before .before .before .before .before .before .before .loop in
-    interface-fits n (a .device) _ _ _ _ _ (coming-more n (a .device) (o .id) (o .left) _ _ (omega arith) (o .inv .0) (c .before .before .before .before .before .lowest .ensures) (c .before .before .before .before .without-lowest .ensures)) (o .inv .1 .1)
+    let o = at-loop .loop in
+    interface-fits n (a .device) _ _ _ _ _ (coming-more n (a .device) (o .id) (o .left) _ _ (omega arith) (o .inv .0) (at-lowest .lowest .ensures) (at-without-lowest .without-lowest .ensures)) (o .inv .1 .1)
 
 add-id-2 : tie.Need-add-id-2 Inv-loop μ-loop
 add-id-2 c =
@@ -76,17 +65,23 @@ loop-less c =
 
 loop-again : tie.Need-loop-again Inv-loop μ-loop
 loop-again c =
-    let a = c .before .before .before .before .before .before .before .before .before .before .before .before .before .args in
+    let at-version-or-1 = c .before .before .before .before .before in
+    let at-interface-of-bit = at-version-or-1 .before in
+    let at-without-lowest = at-interface-of-bit .before in
+    let at-lowest = at-without-lowest .before in
+    let at-loop = at-lowest .before .before in
+    let at-start = at-loop .before .before .before in
+    let a = at-start .args in
     let n = connectionOf (a .control .now) in
-    let o = c .before .before .before .before .before .before .before .before .before .before .loop in
+    let o = at-loop .loop in
     let p : 0 < o .left = omega arith in
     let h : o .left < 128 = o .inv .0 in
-    let w = c .before .before .before .before .before .before .before .without-lowest .ensures in
-    let s = interface-sent n (a .device) (o .id) (c .before .before .before .before .before .before .before .before .lowest .result) (c .before .before .before .before .before .before .interface-of-bit .ensures) (c .before .before .before .before .before .version-or-1 .ensures) (c .before .before .send .ensures) in (
+    let w = at-without-lowest .without-lowest .ensures in
+    let s = interface-sent n (a .device) (o .id) (at-lowest .lowest .result) (at-interface-of-bit .interface-of-bit .ensures) (at-version-or-1 .version-or-1 .ensures) (c .before .before .send .ensures) in (
       left-small (o .left) _ p h w,
       (
         omega (arith, o .inv .1 .0, bits-fewer (o .left) _ p h w),
-        partly-more (coming-more n (a .device) (o .id) (o .left) _ _ p h (c .before .before .before .before .before .before .before .before .lowest .ensures) w) (o .inv .1 .1) (c .before .before .send .kept .0) s,
+        partly-more (coming-more n (a .device) (o .id) (o .left) _ _ p h (at-lowest .lowest .ensures) w) (o .inv .1 .1) (c .before .before .send .kept .0) s,
       ),
     )
 
@@ -106,13 +101,13 @@ write-interfaces-spec =
     (tie.spec
     Inv-loop
     μ-loop
-    add-id
+    (λ c. search needs)  -- add-id
     loop-holds
-    lowest-requires
-    without-lowest-requires
-    interface-of-bit-requires
+    (λ c κs. search needs)  -- lowest-requires
+    (λ c κs. search needs)  -- without-lowest-requires
+    (λ c κs. search needs)  -- interface-of-bit-requires
     version-or-1-requires
-    slice-aggregate-send
+    (λ c. search needs)  -- slice-aggregate-send
     send-requires
     add-id-2
     loop-less

@@ -14,18 +14,22 @@ write-devices-requires c κs =
 
 write-destroyed-requires : tie.Need-write-destroyed-requires
 write-destroyed-requires c κs =
-    let a = c .before .before .before .before .before .before .before .args in
-    omega (arith, c .before .before .before .before .before .before .before .pre .1, c .before .before .before .write-devices .kept .1 .1 .0, c .before .before .before .write-devices .ensures .at, seat-more (a .seat) (bareDevices (a .control .now)))
+    let at-write-devices = c .before .before .before in
+    let at-start = at-write-devices .before .before .before .before in
+    let a = at-start .args in
+    omega (arith, at-start .pre .1, at-write-devices .write-devices .kept .1 .1 .0, at-write-devices .write-devices .ensures .at, seat-more (a .seat) (bareDevices (a .control .now)))
 
 same-length : tie.Need-same-length
 same-length c = search needs
 
 returns : tie.Need-returns
 returns c =
-    let a = c .before .before .before .before .before .before .before .before .before .before .args in
-    let w = c .before .before .before .before .before .before .write-devices .ensures in
+    let at-write-devices = c .before .before .before .before .before .before in
+    let at-start = at-write-devices .before .before .before .before in
+    let a = at-start .args in
+    let w = at-write-devices .write-devices .ensures in
     rw (seat-is (a .seat) (bareDevices (a .control .now)))
-    (destroys-join (omega (arith, c .before .before .before .before .before .before .before .before .before .before .pre .1, w .at, seat-more (a .seat) (bareDevices (a .control .now)))) w (c .before .before .write-destroyed .ensures))
+    (destroys-join (omega (arith, at-start .pre .1, w .at, seat-more (a .seat) (bareDevices (a .control .now)))) w (c .before .before .write-destroyed .ensures))
 
 pub write-seat-spec : {M : Type 1} → statement M
 write-seat-spec =

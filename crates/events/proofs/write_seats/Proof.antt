@@ -19,42 +19,35 @@ abbrev μ-loop : tie.MeasureT-loop
 μ-loop control out₀ seats so-far₀ place₀ out so-far place =
     seats - place
 
-seat-count-requires : tie.Need-seat-count-requires Inv-loop μ-loop
-seat-count-requires c κs = search needs
-
 loop-holds : tie.Need-loop-holds Inv-loop μ-loop
 loop-holds c =
     let a = c .before .before .before .args in
     (omega arith, (refl, rw (up-none (ofPlace (a .control .now))) (destroys-none (a .out .now) (a .mark))))
 
-seat-id-requires : tie.Need-seat-id-requires Inv-loop μ-loop
-seat-id-requires c κs = search needs
-
 write-seat-requires : tie.Need-write-seat-requires Inv-loop μ-loop
 write-seat-requires c κs =
-    let w = c .before .before .before .before .before .before .before .args .control .now in
-    let o = c .before .before .before .loop in (
-      c .before .before .before .before .before .before .before .pre .0,
-      omega (arith, o .inv .1 .0, o .inv .1 .1 .at, c .before .before .before .before .before .before .before .pre .1, ap length (seats-are-up w), ap length (place-is w (o .place) _ (c .before .seat-id .ensures)), up-room (ofPlace w) (o .place) (seatCount w) (omega arith)),
+    let at-loop = c .before .before .before in
+    let at-start = at-loop .before .before .before .before in
+    let w = at-start .args .control .now in
+    let o = at-loop .loop in (
+      at-start .pre .0,
+      omega (arith, o .inv .1 .0, o .inv .1 .1 .at, at-start .pre .1, ap length (seats-are-up w), ap length (place-is w (o .place) _ (c .before .seat-id .ensures)), up-room (ofPlace w) (o .place) (seatCount w) (omega arith)),
     )
-
-add-place : tie.Need-add-place Inv-loop μ-loop
-add-place c = search needs
-
-loop-less : tie.Need-loop-less Inv-loop μ-loop
-loop-less c = search needs
 
 loop-again : tie.Need-loop-again Inv-loop μ-loop
 loop-again c =
-    let w = c .before .before .before .before .before .before .before .before .before .before .args .control .now in
-    let o = c .before .before .before .before .before .before .loop in
-    let is = place-is w (o .place) _ (c .before .before .before .before .seat-id .ensures) in
+    let at-seat-id = c .before .before .before .before in
+    let at-loop = at-seat-id .before .before in
+    let at-start = at-loop .before .before .before .before in
+    let w = at-start .args .control .now in
+    let o = at-loop .loop in
+    let is = place-is w (o .place) _ (at-seat-id .seat-id .ensures) in
     let fits = up-room (ofPlace w) (o .place) (seatCount w) (omega arith) in (
       omega arith,
       (
         c .before .before .write-seat .kept .1 .1 .0 ∙ o .inv .1 .0,
         rw (up-more (ofPlace w) (o .place), ← is)
-            (destroys-join (omega (arith, o .inv .1 .1 .at, c .before .before .before .before .before .before .before .before .before .before .pre .1, ap length (seats-are-up w), ap length is, fits)) (o .inv .1 .1) (c .before .before .write-seat .ensures)),
+            (destroys-join (omega (arith, o .inv .1 .1 .at, at-start .pre .1, ap length (seats-are-up w), ap length is, fits)) (o .inv .1 .1) (c .before .before .write-seat .ensures)),
       ),
     )
 
@@ -75,12 +68,12 @@ write-seats-spec =
     (tie.spec
     Inv-loop
     μ-loop
-    seat-count-requires
+    (λ c κs. search needs)  -- seat-count-requires
     loop-holds
-    seat-id-requires
+    (λ c κs. search needs)  -- seat-id-requires
     write-seat-requires
-    add-place
-    loop-less
+    (λ c. search needs)  -- add-place
+    (λ c. search needs)  -- loop-less
     loop-again
     same-length
     returns)

@@ -2,22 +2,13 @@
 use mathlib.Core.Path.{sym, ap, _∙_}
 use native.Mathlib.Omega.{arith}
 use borrow.Author.Tests.{not-true, not-false}
-use Rattle.store.specs.View.{store}
+use Rattle.session.specs.View.{store}
 use Rattle.handlers.specs.Call.{handshakeCall}
-use Rattle.handlers.specs.declared.eis.HandshakeRequest.{HandshakeRequest}
+use Rattle.requests.specs.declared.eis.HandshakeRequest.{HandshakeRequest}
 use Rattle.handlers.proofs.Plain.{for-call, name-bad, name-long, name-late, interface-bad, interface-late, version-late, finish-late, context-late}
 use borrow.Author.Needs.{needs}
 use Rattle.handlers.proofs.handle_handshake_request.Statement.{statement}
 use Rattle.handlers.proofs.handle_handshake_request.Tie as tie
-
-enum-told : tie.Need-enum-told
-enum-told c = search needs
-
-valid-requires : tie.Need-valid-requires
-valid-requires c κs = search needs
-
-refused-requires : tie.Need-refused-requires
-refused-requires c κs = search needs
 
 returns : tie.Need-returns
 returns c =
@@ -26,9 +17,6 @@ returns c =
     for-call clock (ap (λ (x : HandshakeRequest). handshakeCall x (a .text .now)) (c .before .before .before .enum-told .given .1))
     (name-bad (store d w r texts) out clock _ whole (a .text .now) (sym (c .before .before .valid .ensures) ∙ not-true _ (c .before .if1 .taken)) (c .refused .ensures))
 
-refused-requires-2 : tie.Need-refused-requires-2
-refused-requires-2 c κs = search needs
-
 returns-2 : tie.Need-returns-2
 returns-2 c =
     let a = c .before .before .before .before .before .before .before .args in
@@ -36,45 +24,12 @@ returns-2 c =
     for-call clock (ap (λ (x : HandshakeRequest). handshakeCall x (a .text .now)) (c .before .before .before .before .enum-told .given .1))
     (name-long (store d w r texts) out clock _ whole (a .text .now) (sym (c .before .before .before .valid .ensures) ∙ not-false _ (c .before .before .if1 .left)) (omega arith) (c .refused2 .ensures))
 
-refused-requires-3 : tie.Need-refused-requires-3
-refused-requires-3 c κs = search needs
-
-enum-told-2 : tie.Need-enum-told-2
-enum-told-2 c = search needs
-
-valid-requires-2 : tie.Need-valid-requires-2
-valid-requires-2 c κs = search needs
-
-refused-requires-4 : tie.Need-refused-requires-4
-refused-requires-4 c κs = search needs
-
 returns-3 : tie.Need-returns-3
 returns-3 c =
     let a = c .before .before .before .before .before .before .args in
     λ d out clock w r texts whole.
     for-call clock (ap (λ (x : HandshakeRequest). handshakeCall x (a .text .now)) (c .before .before .before .enum-told2 .given .1))
     (interface-bad (store d w r texts) out clock _ whole (a .text .now) _ (sym (c .before .before .valid2 .ensures) ∙ not-true _ (c .before .if3 .taken)) (c .refused4 .ensures))
-
-refused-requires-5 : tie.Need-refused-requires-5
-refused-requires-5 c κs = search needs
-
-enum-told-3 : tie.Need-enum-told-3
-enum-told-3 c = search needs
-
-refused-requires-6 : tie.Need-refused-requires-6
-refused-requires-6 c κs = search needs
-
-enum-told-4 : tie.Need-enum-told-4
-enum-told-4 c = search needs
-
-refused-requires-7 : tie.Need-refused-requires-7
-refused-requires-7 c κs = search needs
-
-enum-told-5 : tie.Need-enum-told-5
-enum-told-5 c = search needs
-
-refused-requires-8 : tie.Need-refused-requires-8
-refused-requires-8 c κs = search needs
 
 returns-4 : tie.Need-returns-4
 returns-4 c =
@@ -115,24 +70,24 @@ pub handle-handshake-request-spec : {M : Type 1} → statement M
 handle-handshake-request-spec =
     tie.close
     (tie.spec
-    enum-told
-    valid-requires
-    refused-requires
+    (λ c. search needs)  -- enum-told
+    (λ c κs. search needs)  -- valid-requires
+    (λ c κs. search needs)  -- refused-requires
     returns
-    refused-requires-2
+    (λ c κs. search needs)  -- refused-requires-2
     returns-2
-    refused-requires-3
-    enum-told-2
-    valid-requires-2
-    refused-requires-4
+    (λ c κs. search needs)  -- refused-requires-3
+    (λ c. search needs)  -- enum-told-2
+    (λ c κs. search needs)  -- valid-requires-2
+    (λ c κs. search needs)  -- refused-requires-4
     returns-3
-    refused-requires-5
-    enum-told-3
-    refused-requires-6
-    enum-told-4
-    refused-requires-7
-    enum-told-5
-    refused-requires-8
+    (λ c κs. search needs)  -- refused-requires-5
+    (λ c. search needs)  -- enum-told-3
+    (λ c κs. search needs)  -- refused-requires-6
+    (λ c. search needs)  -- enum-told-4
+    (λ c κs. search needs)  -- refused-requires-7
+    (λ c. search needs)  -- enum-told-5
+    (λ c κs. search needs)  -- refused-requires-8
     returns-4
     returns-5
     returns-6

@@ -22,47 +22,24 @@ loop-holds : tie.Need-loop-holds Inv-loop μ-loop
 loop-holds c =
     let a = c .before .before .args in (omega arith, (refl, (refl, copied-none (rowAt (a .words .now) (a .reals .now)) (a .k) (a .head) (a .queued) (a .device) (a .time))))
 
-mul-copy-framed : tie.Need-mul-copy-framed Inv-loop μ-loop
-mul-copy-framed c = search needs
-
-add-copy-framed : tie.Need-add-copy-framed Inv-loop μ-loop
-add-copy-framed c = search needs
-
-add-queue-row : tie.Need-add-queue-row Inv-loop μ-loop
-add-queue-row c = search needs
-
-queue-row-requires : tie.Need-queue-row-requires Inv-loop μ-loop
-queue-row-requires c κs = search needs
-
-copy-framed-requires : tie.Need-copy-framed-requires Inv-loop μ-loop
-copy-framed-requires c κs = search needs
-
-add-j : tie.Need-add-j Inv-loop μ-loop
-add-j c = search needs
-
-loop-less : tie.Need-loop-less Inv-loop μ-loop
-loop-less c = search needs
-
 loop-again : tie.Need-loop-again Inv-loop μ-loop
 loop-again c =
-    let at = c .before .before .before .before .before .before .before .before .before .loop in
-    let f = c .before .before .before .before .copy-framed in
-    let p = c .before .before .before .before .before .before .before .before .before .before .before .before .pre in (
+    let at-copy-framed = c .before .before .before .before in
+    let at-queue-row = at-copy-framed .before in
+    let at-loop = at-queue-row .before .before .before .before in
+    let at-start = at-loop .before .before .before in
+    let at = at-loop .loop in
+    let f = at-copy-framed .copy-framed in
+    let p = at-start .pre in (
       omega arith,
       (
         f .kept .0 ∙ at .inv .1 .0,
         (
           f .kept .1 .0 ∙ at .inv .1 .1 .0,
-          copied-step _ _ (at .inv .1 .1 .1) (f .ensures) (p .1 .1 .0) (omega arith) (omega arith) (omega arith) (omega (arith, c .before .before .before .before .before .queue-row .ensures .0)),
+          copied-step _ _ (at .inv .1 .1 .1) (f .ensures) (p .1 .1 .0) (omega arith) (omega arith) (omega arith) (omega (arith, at-queue-row .queue-row .ensures .0)),
         ),
       ),
     )
-
-same-length : tie.Need-same-length Inv-loop μ-loop
-same-length c = search needs
-
-same-length-2 : tie.Need-same-length-2 Inv-loop μ-loop
-same-length-2 c = search needs
 
 returns : tie.Need-returns Inv-loop μ-loop
 returns c =
@@ -77,14 +54,14 @@ copy-pending-spec =
     Inv-loop
     μ-loop
     loop-holds
-    mul-copy-framed
-    add-copy-framed
-    add-queue-row
-    queue-row-requires
-    copy-framed-requires
-    add-j
-    loop-less
+    (λ c. search needs)  -- mul-copy-framed
+    (λ c. search needs)  -- add-copy-framed
+    (λ c. search needs)  -- add-queue-row
+    (λ c κs. search needs)  -- queue-row-requires
+    (λ c κs. search needs)  -- copy-framed-requires
+    (λ c. search needs)  -- add-j
+    (λ c. search needs)  -- loop-less
     loop-again
-    same-length
-    same-length-2
+    (λ c. search needs)  -- same-length
+    (λ c. search needs)  -- same-length-2
     returns)

@@ -28,12 +28,6 @@ head-low c = omega (arith, start c .pre .0 .sound .head, c .before .before .queu
 slot-low : (c : tie.After-queue-length) → start c .args .k < 8
 slot-low c = omega (arith, start c .pre .0 .sound .devices, start c .pre .1 .0)
 
-pending-count-requires : tie.Need-pending-count-requires
-pending-count-requires c κs = search needs
-
-same-length : tie.Need-same-length
-same-length c = search needs
-
 returns : tie.Need-returns
 returns c =
     let a = c .before .before .before .before .before .before .args in
@@ -42,15 +36,6 @@ returns c =
     enacted (p .0 .sound)
     (framed-none (a .control .now) (rowAt (a .words .now) (a .reals .now)) texts (a .k) (a .serial) (a .time) (p .1 .0)
     (omega (arith, c .before .pending-count .ensures, c .if1 .taken)) load)
-
-queue-head-requires : tie.Need-queue-head-requires
-queue-head-requires c κs = search needs
-
-queue-length-requires : tie.Need-queue-length-requires
-queue-length-requires c κs = search needs
-
-device-id-requires : tie.Need-device-id-requires
-device-id-requires c κs = search needs
 
 copy-pending-requires : tie.Need-copy-pending-requires
 copy-pending-requires c κs =
@@ -66,9 +51,6 @@ add-queue-row c = omega (arith, fits (c .before .before .before .before .before 
 
 queue-row-requires : tie.Need-queue-row-requires
 queue-row-requires c κs = let q = c .before .before .before .before .before .before .before .before .before .before .before in (head-low q, omega (arith, fits q))
-
-frame-requires : tie.Need-frame-requires
-frame-requires c κs = search needs
 
 put-cell-requires : tie.Need-put-cell-requires
 put-cell-requires c κs =
@@ -92,15 +74,6 @@ set-pending-requires c κs =
     let e = c .before .before .before .set-queue .ensures in
     (e .sound, (omega (arith, e .devices .count, start (c .before .before .before .before .before .before .before .before .before .before .before .before .before .before .before .before .before .before .before .before .before .before .before) .pre .1 .0), omega arith))
 
-same-length-2 : tie.Need-same-length-2
-same-length-2 c = search needs
-
-same-length-3 : tie.Need-same-length-3
-same-length-3 c = search needs
-
-same-length-4 : tie.Need-same-length-4
-same-length-4 c = search needs
-
 returns-2 : tie.Need-returns-2
 returns-2 c =
     let put = c .before .before .before .before .before .before .before .before .before .before .before .before in
@@ -120,22 +93,22 @@ pub frame-spec : {M : Type 1} → statement M
 frame-spec =
     tie.close
     (tie.spec
-    pending-count-requires
-    same-length
+    (λ c κs. search needs)  -- pending-count-requires
+    (λ c. search needs)  -- same-length
     returns
-    queue-head-requires
-    queue-length-requires
-    device-id-requires
+    (λ c κs. search needs)  -- queue-head-requires
+    (λ c κs. search needs)  -- queue-length-requires
+    (λ c κs. search needs)  -- device-id-requires
     copy-pending-requires
     add-queue-row
     queue-row-requires
-    frame-requires
+    (λ c κs. search needs)  -- frame-requires
     put-cell-requires
     add-set-queue
     add-set-queue-2
     set-queue-requires
     set-pending-requires
-    same-length-2
-    same-length-3
-    same-length-4
+    (λ c. search needs)  -- same-length-2
+    (λ c. search needs)  -- same-length-3
+    (λ c. search needs)  -- same-length-4
     returns-2)

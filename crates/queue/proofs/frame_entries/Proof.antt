@@ -8,9 +8,6 @@ use borrow.Author.Needs.{needs}
 use Rattle.queue.proofs.frame_entries.Statement.{statement}
 use Rattle.queue.proofs.frame_entries.Tie as tie
 
-pending-count-requires : tie.Need-pending-count-requires
-pending-count-requires c κs = search needs
-
 add-result : tie.Need-add-result
 add-result c =
     omega (arith, c .before .pending-count .ensures, pending-bound (c .before .before .before .pre .0) (c .before .before .before .args .k) (c .before .before .before .pre .1))
@@ -25,4 +22,10 @@ returns-2 c =
     (sym (entries-some (n .result) (omega arith)) ∙ ap frameEntries (n .ensures), omega (arith, n .ensures, pending-bound (c .before .before .before .pre .0) (c .before .before .before .args .k) (c .before .before .before .pre .1)))
 
 pub frame-entries-spec : {M : Type 1} → statement M
-frame-entries-spec = tie.close (tie.spec pending-count-requires add-result returns returns-2)
+frame-entries-spec =
+    tie.close
+    (tie.spec
+    (λ c κs. search needs)  -- pending-count-requires
+    add-result
+    returns
+    returns-2)

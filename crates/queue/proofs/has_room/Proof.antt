@@ -4,15 +4,14 @@ use borrow.Author.Needs.{needs}
 use Rattle.queue.proofs.has_room.Statement.{statement}
 use Rattle.queue.proofs.has_room.Tie as tie
 
-queue-length-requires : tie.Need-queue-length-requires
-queue-length-requires c κs = search needs
-
-add-result : tie.Need-add-result
-add-result c = search needs
-
 returns : tie.Need-returns
 returns c =
     room (c .before .before .args .control .now) (c .before .before .args .n) (c .queue-length .result) (c .queue-length .ensures)
 
 pub has-room-spec : {M : Type 1} → statement M
-has-room-spec = tie.close (tie.spec queue-length-requires add-result returns)
+has-room-spec =
+    tie.close
+    (tie.spec
+    (λ c κs. search needs)  -- queue-length-requires
+    (λ c. search needs)  -- add-result
+    returns)

@@ -4,7 +4,7 @@ use mathlib.Core.Path.{_≡_, ap, _∙_}
 use native.Mathlib.Omega.{arith}
 use Rattle.requests.specs.Row.{rowAt}
 use Rattle.control.specs.Control.{queueHead}
-use Rattle.store.specs.View.{queueRow}
+use Rattle.session.specs.View.{queueRow}
 use borrow.Author.Needs.{needs}
 use Rattle.queue.proofs.oldest_slot.Statement.{statement}
 use Rattle.queue.proofs.oldest_slot.Tie as tie

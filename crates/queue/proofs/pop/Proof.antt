@@ -6,39 +6,24 @@ use borrow.Author.Needs.{needs}
 use Rattle.queue.proofs.pop.Statement.{statement}
 use Rattle.queue.proofs.pop.Tie as tie
 
-queue-head-requires : tie.Need-queue-head-requires
-queue-head-requires c κs = search needs
-
-queue-length-requires : tie.Need-queue-length-requires
-queue-length-requires c κs = search needs
-
-add-set-queue : tie.Need-add-set-queue
-add-set-queue c = search needs
-
-sub-set-queue : tie.Need-sub-set-queue
-sub-set-queue c = search needs
-
-set-queue-requires : tie.Need-set-queue-requires
-set-queue-requires c κs = search needs
-
-same-length : tie.Need-same-length
-same-length c = search needs
-
 returns : tie.Need-returns
 returns c =
+    let at-queue-length = c .before .before .before .before in
+    let at-queue-head = at-queue-length .before .before in
+    let at-start = at-queue-head .before .before .before in
     λ words reals texts load.
     let q = c .before .before .set-queue .ensures in
     enacted (q .sound)
-    (popped (c .before .before .before .before .before .before .before .before .before .pre .0) q (omega (arith, c .before .before .before .before .before .before .queue-head .ensures)) (omega (arith, c .before .before .before .before .queue-length .ensures, c .before .before .before .before .before .before .before .before .before .pre .1)) (rowAt words reals) texts load)
+    (popped (at-start .pre .0) q (omega (arith, at-queue-head .queue-head .ensures)) (omega (arith, at-queue-length .queue-length .ensures, at-start .pre .1)) (rowAt words reals) texts load)
 
 pub pop-spec : {M : Type 1} → statement M
 pop-spec =
     tie.close
     (tie.spec
-    queue-head-requires
-    queue-length-requires
-    add-set-queue
-    sub-set-queue
-    set-queue-requires
-    same-length
+    (λ c κs. search needs)  -- queue-head-requires
+    (λ c κs. search needs)  -- queue-length-requires
+    (λ c. search needs)  -- add-set-queue
+    (λ c. search needs)  -- sub-set-queue
+    (λ c κs. search needs)  -- set-queue-requires
+    (λ c. search needs)  -- same-length
     returns)

@@ -6,7 +6,7 @@ use native.Mathlib.Omega.{arith}
 use borrow.Author.Needs.{needs}
 use Rattle.model.specs.Call.{Load}
 use Rattle.control.specs.Control.{deviceCount}
-use Rattle.store.specs.View.{store, Lent}
+use Rattle.session.specs.View.{store, Lent}
 use Rattle.removal.proofs.Loops.{Dropping, device-fewer, dropping-none, dropping-hit, dropping-miss, dropping-end}
 use Rattle.removal.proofs.remove_devices_of.Statement.{statement}
 use Rattle.removal.proofs.remove_devices_of.Tie as tie
@@ -44,24 +44,23 @@ loop-less c =
 
 loop-again : tie.Need-loop-again Inv-loop μ-loop
 loop-again c =
-    let a = c .before .before .before .before .before .before .before .before .before .before .before .before .before .before .before .before .before .before .before .before .args in
-    let o = c .before .before .before .before .before .before .before .before .before .before .before .before .before .before .before .before .loop in
-    let r = c .before .before .before .before .before .before .remove-device in
+    let at-remove-device = c .before .before .before .before .before .before in
+    let at-if2 = at-remove-device .before .before .before .before in
+    let at-device-seat = at-if2 .before in
+    let at-loop = at-device-seat .before .before .before .before .before in
+    let at-start = at-loop .before .before .before .before in
+    let a = at-start .args in
+    let o = at-loop .loop in
+    let r = at-remove-device .remove-device in
     let l : o .k < deviceCount (o .control) = omega arith in (
       omega (arith, device-fewer (store (o .control) (o .words) (o .reals) []) (o .k) l (r .ensures [] Load.None)),
       (
         record { sound = r .ensures [] Load.None .sound; words-long = r .kept .1 .0 ∙ o .inv .1 .0 .words-long; reals-long = r .kept .1 .1 .0 ∙ o .inv .1 .0 .reals-long },
         λ texts.
             dropping-hit (store (o .control) (o .words) (o .reals) texts) (o .k) l (store (a .control .now) (a .words .now) (a .reals .now) texts) (a .seat)
-            (sym (c .before .before .before .before .before .before .before .before .before .before .before .device-seat .ensures) ∙ c .before .before .before .before .before .before .before .before .before .before .if2 .taken) (r .ensures texts Load.None) (o .inv .1 .1 texts),
+            (sym (at-device-seat .device-seat .ensures) ∙ at-if2 .if2 .taken) (r .ensures texts Load.None) (o .inv .1 .1 texts),
       ),
     )
-
-add-k : tie.Need-add-k Inv-loop μ-loop
-add-k c = search needs
-
-loop-less-2 : tie.Need-loop-less-2 Inv-loop μ-loop
-loop-less-2 c = search needs
 
 loop-again-2 : tie.Need-loop-again-2 Inv-loop μ-loop
 loop-again-2 c =
@@ -76,15 +75,6 @@ loop-again-2 c =
             (λ z. c .if2 .left (c .before .device-seat .ensures ∙ z)) (o .inv .1 .1 texts),
       ),
     )
-
-same-length : tie.Need-same-length Inv-loop μ-loop
-same-length c = search needs
-
-same-length-2 : tie.Need-same-length-2 Inv-loop μ-loop
-same-length-2 c = search needs
-
-same-length-3 : tie.Need-same-length-3 Inv-loop μ-loop
-same-length-3 c = search needs
 
 returns : tie.Need-returns Inv-loop μ-loop
 returns c =
@@ -105,10 +95,10 @@ remove-devices-of-spec =
     remove-device-requires
     loop-less
     loop-again
-    add-k
-    loop-less-2
+    (λ c. search needs)  -- add-k
+    (λ c. search needs)  -- loop-less-2
     loop-again-2
-    same-length
-    same-length-2
-    same-length-3
+    (λ c. search needs)  -- same-length
+    (λ c. search needs)  -- same-length-2
+    (λ c. search needs)  -- same-length-3
     returns)

@@ -6,7 +6,7 @@ use native.Mathlib.Omega.{arith}
 use borrow.Author.Needs.{needs}
 use Rattle.model.specs.Call.{Load}
 use Rattle.control.specs.Control.{seatCount}
-use Rattle.store.specs.View.{store, Lent}
+use Rattle.session.specs.View.{store, Lent}
 use Rattle.removal.proofs.Loops.{Emptying, seat-fewer, emptying-none, emptying-step, emptying-end}
 use Rattle.removal.proofs.remove_seats.Statement.{statement}
 use Rattle.removal.proofs.remove_seats.Tie as tie
@@ -42,18 +42,24 @@ remove-seat-requires c κs =
 
 loop-less : tie.Need-loop-less Inv-loop μ-loop
 loop-less c =
-    let o = c .before .before .before .before .before .before .before .before .before .before .before .before .before .before .before .before .before .before .before .loop in
-    let d = c .before .before .before .before .before .before .before .before .before .before .remove-devices-of in
+    let at-remove-devices-of = c .before .before .before .before .before .before .before .before .before .before in
+    let at-seat-id = at-remove-devices-of .before .before .before .before in
+    let at-loop = at-seat-id .before .before .before .before .before in
+    let o = at-loop .loop in
+    let d = at-remove-devices-of .remove-devices-of in
     let r = c .before .before .remove-seat in
     let l : 0 < seatCount (o .control) = omega arith in
     let m = store (d .last .0) (d .last .1 .0) (d .last .1 .1 .0) [] in
     omega
-    (arith, seat-fewer {m = m} l (d .ensures [] Load.None) (r .ensures (m .words) (m .reals) [] Load.None) (omega arith) (c .before .before .before .before .before .before .before .before .before .before .before .before .before .before .seat-id .ensures))
+    (arith, seat-fewer {m = m} l (d .ensures [] Load.None) (r .ensures (m .words) (m .reals) [] Load.None) (omega arith) (at-seat-id .seat-id .ensures))
 
 loop-again : tie.Need-loop-again Inv-loop μ-loop
 loop-again c =
-    let o = c .before .before .before .before .before .before .before .before .before .before .before .before .before .before .before .before .before .before .before .loop in
-    let d = c .before .before .before .before .before .before .before .before .before .before .remove-devices-of in
+    let at-remove-devices-of = c .before .before .before .before .before .before .before .before .before .before in
+    let at-seat-id = at-remove-devices-of .before .before .before .before in
+    let at-loop = at-seat-id .before .before .before .before .before in
+    let o = at-loop .loop in
+    let d = at-remove-devices-of .remove-devices-of in
     let r = c .before .before .remove-seat in
     let l : 0 < seatCount (o .control) = omega arith in (
       record {
@@ -63,18 +69,9 @@ loop-again c =
       },
       λ texts load.
           let m = store (d .last .0) (d .last .1 .0) (d .last .1 .1 .0) texts in
-          emptying-step {m = m} l (d .ensures texts load) (r .ensures (m .words) (m .reals) texts load) (omega arith) (c .before .before .before .before .before .before .before .before .before .before .before .before .before .before .seat-id .ensures)
+          emptying-step {m = m} l (d .ensures texts load) (r .ensures (m .words) (m .reals) texts load) (omega arith) (at-seat-id .seat-id .ensures)
           (o .inv .1 texts load),
     )
-
-same-length : tie.Need-same-length Inv-loop μ-loop
-same-length c = search needs
-
-same-length-2 : tie.Need-same-length-2 Inv-loop μ-loop
-same-length-2 c = search needs
-
-same-length-3 : tie.Need-same-length-3 Inv-loop μ-loop
-same-length-3 c = search needs
 
 returns : tie.Need-returns Inv-loop μ-loop
 returns c =
@@ -97,7 +94,7 @@ remove-seats-spec =
     remove-seat-requires
     loop-less
     loop-again
-    same-length
-    same-length-2
-    same-length-3
+    (λ c. search needs)  -- same-length
+    (λ c. search needs)  -- same-length-2
+    (λ c. search needs)  -- same-length-3
     returns)

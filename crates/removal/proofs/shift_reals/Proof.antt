@@ -22,30 +22,6 @@ loop-holds : tie.Need-loop-holds Inv-loop μ-loop
 loop-holds c =
     let a = c .args in (omega arith, (refl, shifted-none nan (a .a .now) (a .a .now) (a .to) (a .from)))
 
-add-a : tie.Need-add-a Inv-loop μ-loop
-add-a c = search needs
-
-mul-a : tie.Need-mul-a Inv-loop μ-loop
-mul-a c = search needs
-
-slice-read-a : tie.Need-slice-read-a Inv-loop μ-loop
-slice-read-a c = search needs
-
-add-a-2 : tie.Need-add-a-2 Inv-loop μ-loop
-add-a-2 c = search needs
-
-mul-a-2 : tie.Need-mul-a-2 Inv-loop μ-loop
-mul-a-2 c = search needs
-
-slice-write-a : tie.Need-slice-write-a Inv-loop μ-loop
-slice-write-a c = search needs
-
-add-i : tie.Need-add-i Inv-loop μ-loop
-add-i c = search needs
-
-loop-less : tie.Need-loop-less Inv-loop μ-loop
-loop-less c = search needs
-
 loop-again : tie.Need-loop-again Inv-loop μ-loop
 loop-again c =
     let a = c .before .before .before .args in
@@ -56,9 +32,6 @@ loop-again c =
         shifted-step nan (a .a .now) (at .a) (a .to) (a .from) (at .i) (omega arith) (omega arith) (at .inv .1 .1),
       ),
     )
-
-same-length : tie.Need-same-length Inv-loop μ-loop
-same-length c = search needs
 
 returns : tie.Need-returns Inv-loop μ-loop
 returns c =
@@ -72,14 +45,14 @@ shift-reals-spec =
     Inv-loop
     μ-loop
     loop-holds
-    add-a
-    mul-a
-    slice-read-a
-    add-a-2
-    mul-a-2
-    slice-write-a
-    add-i
-    loop-less
+    (λ c. search needs)  -- add-a
+    (λ c. search needs)  -- mul-a
+    (λ c. search needs)  -- slice-read-a
+    (λ c. search needs)  -- add-a-2
+    (λ c. search needs)  -- mul-a-2
+    (λ c. search needs)  -- slice-write-a
+    (λ c. search needs)  -- add-i
+    (λ c. search needs)  -- loop-less
     loop-again
-    same-length
+    (λ c. search needs)  -- same-length
     returns)

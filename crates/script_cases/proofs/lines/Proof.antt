@@ -15,15 +15,6 @@ abbrev μ-loop : tie.MeasureT-loop
 μ-loop buf filled number cut at₀ n₀ gone₀ at n gone =
     filled - at
 
-loop-holds : tie.Need-loop-holds Inv-loop μ-loop
-loop-holds c = search needs
-
-line-end-requires : tie.Need-line-end-requires Inv-loop μ-loop
-line-end-requires c κs = search needs
-
-enum-known-end : tie.Need-enum-known-end Inv-loop μ-loop
-enum-known-end c = search needs
-
 sub-say : tie.Need-sub-say Inv-loop μ-loop
 sub-say c =
     let a = c .before .before .before .before .before .before .before .args in
@@ -42,32 +33,25 @@ part-say-end c =
     let e = c .before .end .given in
     omega (arith, end-bounds (a .buf .now) (c .before .before .before .before .before .loop .at) (a .filled) (e .0 .0) (e .0 .1 .0) (sym (c .before .before .before .line-end .ensures) ∙ e .1))
 
-say-requires : tie.Need-say-requires Inv-loop μ-loop
-say-requires c κs = search needs
-
-wrapping-add-u64-requires : tie.Need-wrapping-add-u64-requires Inv-loop μ-loop
-wrapping-add-u64-requires c κs = search needs
-
 loop-less : tie.Need-loop-less Inv-loop μ-loop
 loop-less c =
-    let a = c .before .before .before .before .before .before .before .before .before .before .args in
-    let e = c .before .before .before .before .end .given in
-    omega (arith, end-bounds (a .buf .now) (c .before .before .before .before .before .before .before .before .loop .at) (a .filled) (e .0 .0) (e .0 .1 .0) (sym (c .before .before .before .before .before .before .line-end .ensures) ∙ e .1))
+    let at-end = c .before .before .before .before in
+    let at-line-end = at-end .before .before in
+    let at-loop = at-line-end .before .before in
+    let at-start = at-loop .before .before in
+    let a = at-start .args in
+    let e = at-end .end .given in
+    omega (arith, end-bounds (a .buf .now) (at-loop .loop .at) (a .filled) (e .0 .0) (e .0 .1 .0) (sym (at-line-end .line-end .ensures) ∙ e .1))
 
 loop-again : tie.Need-loop-again Inv-loop μ-loop
 loop-again c =
-    let a = c .before .before .before .before .before .before .before .before .before .before .args in
-    let e = c .before .before .before .before .end .given in
-    omega (arith, end-bounds (a .buf .now) (c .before .before .before .before .before .before .before .before .loop .at) (a .filled) (e .0 .0) (e .0 .1 .0) (sym (c .before .before .before .before .before .before .line-end .ensures) ∙ e .1))
-
-enum-told : tie.Need-enum-told Inv-loop μ-loop
-enum-told c = search needs
-
-returns : tie.Need-returns Inv-loop μ-loop
-returns c = search needs
-
-returns-2 : tie.Need-returns-2 Inv-loop μ-loop
-returns-2 c = search needs
+    let at-end = c .before .before .before .before in
+    let at-line-end = at-end .before .before in
+    let at-loop = at-line-end .before .before in
+    let at-start = at-loop .before .before in
+    let a = at-start .args in
+    let e = at-end .end .given in
+    omega (arith, end-bounds (a .buf .now) (at-loop .loop .at) (a .filled) (e .0 .0) (e .0 .1 .0) (sym (at-line-end .line-end .ensures) ∙ e .1))
 
 pub lines-spec : {M : Type 1} → statement M
 lines-spec =
@@ -75,16 +59,16 @@ lines-spec =
     (tie.spec
     Inv-loop
     μ-loop
-    loop-holds
-    line-end-requires
-    enum-known-end
+    (λ c. search needs)  -- loop-holds
+    (λ c κs. search needs)  -- line-end-requires
+    (λ c. search needs)  -- enum-known-end
     sub-say
     part-say-start
     part-say-end
-    say-requires
-    wrapping-add-u64-requires
+    (λ c κs. search needs)  -- say-requires
+    (λ c κs. search needs)  -- wrapping-add-u64-requires
     loop-less
     loop-again
-    enum-told
-    returns
-    returns-2)
+    (λ c. search needs)  -- enum-told
+    (λ c. search needs)  -- returns
+    (λ c. search needs))  -- returns-2

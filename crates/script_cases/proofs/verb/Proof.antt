@@ -5,17 +5,14 @@ use lib.Seq.{length-take-le}
 use Rattle.script_cases.proofs.verb.Statement.{statement}
 use Rattle.script_cases.proofs.verb.Tie as tie
 
-word-end-requires : tie.Need-word-end-requires
-word-end-requires c κs = search needs
-
 slice-aggregate-text : tie.Need-slice-aggregate-text
 slice-aggregate-text c = sym (length-take-le (c .before .word-end .result) (c .before .before .before .args .line .now) (c .before .word-end .ensures))
 
-text-requires : tie.Need-text-requires
-text-requires c κs = search needs
-
-returns : tie.Need-returns
-returns c = search needs
-
 pub verb-spec : {M : Type 1} → statement M
-verb-spec = tie.close (tie.spec word-end-requires slice-aggregate-text text-requires returns)
+verb-spec =
+    tie.close
+    (tie.spec
+    (λ c κs. search needs)  -- word-end-requires
+    slice-aggregate-text
+    (λ c κs. search needs)  -- text-requires
+    (λ c. search needs))  -- returns

@@ -2,8 +2,8 @@
 use mathlib.Core.Path.{sym, ap, _∙_}
 use borrow.Author.Needs.{needs}
 use Rattle.control.specs.Answer.{slotTold}
-use Rattle.store.specs.View.{Store, store}
-use Rattle.store.proofs.Views.{whole-parts}
+use Rattle.session.specs.View.{Store, store}
+use Rattle.session.proofs.Views.{whole-parts}
 use Rattle.connection.specs.Call.{optional}
 use Rattle.answers.proofs.Meetings.{whole-failed, whole-passed, damaged-answered, whole-answered}
 use Rattle.connection.proofs.Texts.{checks-as}

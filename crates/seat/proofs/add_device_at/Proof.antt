@@ -7,8 +7,8 @@ use lib.ListN.{length}
 use Rattle.eiproto.specs.Bits.{common}
 use Rattle.eiproto.specs.Enum.{deviceTypeNumber}
 use Rattle.control.specs.Control.{connectionOf}
-use Rattle.store.specs.View.{store}
-use Rattle.store.proofs.Views.{seat-bound}
+use Rattle.session.specs.View.{store}
+use Rattle.session.proofs.Views.{seat-bound}
 use Rattle.events.proofs.Objects.{bits-most}
 use Rattle.connection.specs.Call.{optional}
 use Rattle.seat.proofs.Added.{common-small, events-room, added-full, added-spent, added-short, added-done}

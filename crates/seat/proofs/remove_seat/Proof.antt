@@ -5,10 +5,10 @@ use native.Mathlib.Omega.{arith}
 use borrow.Author.Needs.{needs}
 use Rattle.model.specs.Call.{Load, Plain}
 use Rattle.model.specs.Edit.{Edit}
-use Rattle.steps.proofs.Counted.{removes-seat}
+use Rattle.model_steps.proofs.Counted.{removes-seat}
 use Rattle.control.specs.Answer.{slotTold}
-use Rattle.store.specs.View.{Store, store}
-use Rattle.store.proofs.Views.{whole-parts, enacted-join, whole-lent, lent-after}
+use Rattle.session.specs.View.{Store, store}
+use Rattle.session.proofs.Views.{whole-parts, enacted-join, whole-lent, lent-after}
 use Rattle.events.proofs.Seen.{seat-objects-seen}
 use Rattle.answers.specs.declared.Error.{Error}
 use Rattle.answers.specs.declared.Outcome.{Outcome}

@@ -18,27 +18,9 @@ abbrev μ-loop : tie.MeasureT-loop
 μ-loop texts slot n buffer₀ at i₀ buffer i =
     n - i
 
-mul-at : tie.Need-mul-at Inv-loop μ-loop
-mul-at c = search needs
-
 loop-holds : tie.Need-loop-holds Inv-loop μ-loop
 loop-holds c =
     let a = c .args in (omega arith, (refl, sym (splice-none (a .buffer .now) 0)))
-
-add-buffer : tie.Need-add-buffer Inv-loop μ-loop
-add-buffer c = search needs
-
-shared-slice-read-buffer : tie.Need-shared-slice-read-buffer Inv-loop μ-loop
-shared-slice-read-buffer c = search needs
-
-slice-write-buffer : tie.Need-slice-write-buffer Inv-loop μ-loop
-slice-write-buffer c = search needs
-
-add-i : tie.Need-add-i Inv-loop μ-loop
-add-i c = search needs
-
-loop-less : tie.Need-loop-less Inv-loop μ-loop
-loop-less c = search needs
 
 loop-again : tie.Need-loop-again Inv-loop μ-loop
 loop-again c =
@@ -47,9 +29,6 @@ loop-again c =
       omega arith,
       (length-set (at .buffer) _ _ ∙ at .inv .1 .0, copy-step (a .buffer .now) (a .texts .now) _ (a .n) (at .i) (at .inv .1 .1) (omega arith) (omega arith) (omega arith)),
     )
-
-same-length : tie.Need-same-length Inv-loop μ-loop
-same-length c = search needs
 
 returns : tie.Need-returns Inv-loop μ-loop
 returns c =
@@ -63,13 +42,13 @@ copy-text-spec =
     (tie.spec
     Inv-loop
     μ-loop
-    mul-at
+    (λ c. search needs)  -- mul-at
     loop-holds
-    add-buffer
-    shared-slice-read-buffer
-    slice-write-buffer
-    add-i
-    loop-less
+    (λ c. search needs)  -- add-buffer
+    (λ c. search needs)  -- shared-slice-read-buffer
+    (λ c. search needs)  -- slice-write-buffer
+    (λ c. search needs)  -- add-i
+    (λ c. search needs)  -- loop-less
     loop-again
-    same-length
+    (λ c. search needs)  -- same-length
     returns)

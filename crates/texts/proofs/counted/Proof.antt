@@ -13,27 +13,9 @@ returns : tie.Need-returns
 returns c =
     let a = c .before .args in counted-past (a .live) (a .slot) (omega arith) (omega arith)
 
-cast-place : tie.Need-cast-place
-cast-place c = search needs
-
-has-bit-requires : tie.Need-has-bit-requires
-has-bit-requires c κs = search needs
-
-add-t6 : tie.Need-add-t6
-add-t6 c = search needs
-
 returns-2 : tie.Need-returns-2
 returns-2 c =
     let a = c .before .before .before .before .args in counted-again (a .live) (a .slot) (omega arith) (omega arith) _ (omega arith) (sym (c .before .before .has-bit .ensures) ∙ c .before .if2 .taken)
-
-add-t7 : tie.Need-add-t7
-add-t7 c = search needs
-
-cast-t8 : tie.Need-cast-t8
-cast-t8 c = search needs
-
-shl-t9 : tie.Need-shl-t9
-shl-t9 c = search needs
 
 add-t10 : tie.Need-add-t10
 add-t10 c =
@@ -50,12 +32,12 @@ counted-spec =
     tie.close
     (tie.spec
     returns
-    cast-place
-    has-bit-requires
-    add-t6
+    (λ c. search needs)  -- cast-place
+    (λ c κs. search needs)  -- has-bit-requires
+    (λ c. search needs)  -- add-t6
     returns-2
-    add-t7
-    cast-t8
-    shl-t9
+    (λ c. search needs)  -- add-t7
+    (λ c. search needs)  -- cast-t8
+    (λ c. search needs)  -- shl-t9
     add-t10
     returns-3)

@@ -5,9 +5,6 @@ use borrow.Author.Needs.{needs}
 use Rattle.texts.proofs.free_slot.Statement.{statement}
 use Rattle.texts.proofs.free_slot.Tie as tie
 
-sub-unused : tie.Need-sub-unused
-sub-unused c = search needs
-
 cast-result : tie.Need-cast-result
 cast-result c =
     zeros-fit _
@@ -17,4 +14,9 @@ returns c =
     free-is (c .args .used) _ (c .pre .0) (c .pre .1) (omega arith)
 
 pub free-slot-spec : {M : Type 1} → statement M
-free-slot-spec = tie.close (tie.spec sub-unused cast-result returns)
+free-slot-spec =
+    tie.close
+    (tie.spec
+    (λ c. search needs)  -- sub-unused
+    cast-result
+    returns)

@@ -15,50 +15,37 @@ abbrev μ-loop : tie.MeasureT-loop
 μ-loop control words reals devices live₀ k₀ live k =
     devices - k
 
-device-count-requires : tie.Need-device-count-requires Inv-loop μ-loop
-device-count-requires c κs = search needs
-
 loop-holds : tie.Need-loop-holds Inv-loop μ-loop
 loop-holds c =
     let a = c .before .before .before .before .args in (omega arith, passed-none (a .control .now) (a .words .now) (a .reals .now))
 
-pending-count-requires : tie.Need-pending-count-requires Inv-loop μ-loop
-pending-count-requires c κs = search needs
-
 pending-texts-requires : tie.Need-pending-texts-requires Inv-loop μ-loop
 pending-texts-requires c κs =
-    let a = c .before .before .before .before .before .before .before .args in
+    let at-start = c .before .before .before .before .before .before .before in
+    let a = at-start .args in
     let at = c .before .before .loop in
     let n = c .pending-count .ensures in
-    let m = pending-bound (c .before .before .before .before .before .before .before .pre .sound) (at .k) (omega arith) in
+    let m = pending-bound (at-start .pre .sound) (at .k) (omega arith) in
     let p = at .inv .1 in
-    (c .before .before .before .before .before .before .before .pre .words-long, (c .before .before .before .before .before .before .before .pre .reals-long, (omega arith, (omega arith, (omega (arith, p .most), p .below)))))
-
-add-k : tie.Need-add-k Inv-loop μ-loop
-add-k c = search needs
-
-loop-less : tie.Need-loop-less Inv-loop μ-loop
-loop-less c = search needs
+    (at-start .pre .words-long, (at-start .pre .reals-long, (omega arith, (omega arith, (omega (arith, p .most), p .below)))))
 
 loop-again : tie.Need-loop-again Inv-loop μ-loop
 loop-again c =
-    let a = c .before .before .before .before .before .before .before .before .args in
-    let at = c .before .before .before .loop in
+    let at-loop = c .before .before .before in
+    let at-start = at-loop .before .before .before .before .before in
+    let a = at-start .args in
+    let at = at-loop .loop in
     let n = c .before .pending-count .ensures in
-    let m = pending-bound (c .before .before .before .before .before .before .before .before .pre .sound) (at .k) (omega arith) in
+    let m = pending-bound (at-start .pre .sound) (at .k) (omega arith) in
     (omega arith, passed-step (a .control .now) (a .words .now) (a .reals .now) (at .k) _ n (omega arith) (at .inv .1) (c .pending-texts .ensures))
-
-queue-head-requires : tie.Need-queue-head-requires Inv-loop μ-loop
-queue-head-requires c κs = search needs
-
-queue-length-requires : tie.Need-queue-length-requires Inv-loop μ-loop
-queue-length-requires c κs = search needs
 
 queued-texts-requires : tie.Need-queued-texts-requires Inv-loop μ-loop
 queued-texts-requires c κs =
-    let p = c .before .before .before .loop .inv .1 in
-    let s = c .before .before .before .before .before .before .before .before .pre .sound in
-    (c .before .before .before .before .before .before .before .before .pre .words-long, (c .before .before .before .before .before .before .before .before .pre .reals-long, (omega arith, (omega arith, (omega (arith, p .most), p .below)))))
+    let at-loop = c .before .before .before in
+    let at-start = at-loop .before .before .before .before .before in
+    let p = at-loop .loop .inv .1 in
+    let s = at-start .pre .sound in
+    (at-start .pre .words-long, (at-start .pre .reals-long, (omega arith, (omega arith, (omega (arith, p .most), p .below)))))
 
 returns : tie.Need-returns Inv-loop μ-loop
 returns c =
@@ -72,14 +59,14 @@ live-texts-spec =
     (tie.spec
     Inv-loop
     μ-loop
-    device-count-requires
+    (λ c κs. search needs)  -- device-count-requires
     loop-holds
-    pending-count-requires
+    (λ c κs. search needs)  -- pending-count-requires
     pending-texts-requires
-    add-k
-    loop-less
+    (λ c. search needs)  -- add-k
+    (λ c. search needs)  -- loop-less
     loop-again
-    queue-head-requires
-    queue-length-requires
+    (λ c κs. search needs)  -- queue-head-requires
+    (λ c κs. search needs)  -- queue-length-requires
     queued-texts-requires
     returns)

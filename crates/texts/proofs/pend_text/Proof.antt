@@ -4,36 +4,12 @@ use mathlib.Core.List.{List, [], _∷_}
 use Prim.Native.Nat.{ℕ}
 use Rattle.model.specs.Call.{Input, sight, Load}
 use Rattle.model.specs.Edit.{Edit}
-use Rattle.store.specs.View.{store}
-use Rattle.store.specs.Enact.{Enacted}
+use Rattle.session.specs.View.{store}
+use Rattle.session.specs.Enact.{Enacted}
 use Rattle.texts.proofs.Slots.{text-pended}
 use borrow.Author.Needs.{needs}
 use Rattle.texts.proofs.pend_text.Statement.{statement}
 use Rattle.texts.proofs.pend_text.Tie as tie
-
-put-text-requires : tie.Need-put-text-requires
-put-text-requires c κs = search needs
-
-cast-text-utf8 : tie.Need-cast-text-utf8
-cast-text-utf8 c = search needs
-
-text-utf8-requires : tie.Need-text-utf8-requires
-text-utf8-requires c κs = search needs
-
-pend-requires : tie.Need-pend-requires
-pend-requires c κs = search needs
-
-same-length : tie.Need-same-length
-same-length c = search needs
-
-same-length-2 : tie.Need-same-length-2
-same-length-2 c = search needs
-
-same-length-3 : tie.Need-same-length-3
-same-length-3 c = search needs
-
-same-length-4 : tie.Need-same-length-4
-same-length-4 c = search needs
 
 returns : tie.Need-returns
 returns c =
@@ -51,12 +27,12 @@ pub pend-text-spec : {M : Type 1} → statement M
 pend-text-spec =
     tie.close
     (tie.spec
-    put-text-requires
-    cast-text-utf8
-    text-utf8-requires
-    pend-requires
-    same-length
-    same-length-2
-    same-length-3
-    same-length-4
+    (λ c κs. search needs)  -- put-text-requires
+    (λ c. search needs)  -- cast-text-utf8
+    (λ c κs. search needs)  -- text-utf8-requires
+    (λ c κs. search needs)  -- pend-requires
+    (λ c. search needs)  -- same-length
+    (λ c. search needs)  -- same-length-2
+    (λ c. search needs)  -- same-length-3
+    (λ c. search needs)  -- same-length-4
     returns)

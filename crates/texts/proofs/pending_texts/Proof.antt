@@ -2,7 +2,7 @@
 use Prim.Native.Nat.{ℕ, _-_, _≤_}
 use mathlib.Core.Path.{subst}
 use Rattle.requests.specs.Row.{rowAt}
-use Rattle.store.specs.View.{pendingRow}
+use Rattle.session.specs.View.{pendingRow}
 use Rattle.texts.specs.Texts.{Counted}
 use Rattle.texts.proofs.Marks.{counted-none, counted-step}
 use borrow.Author.Needs.{needs}
@@ -21,24 +21,6 @@ abbrev μ-loop : tie.MeasureT-loop
 loop-holds : tie.Need-loop-holds Inv-loop μ-loop
 loop-holds c =
     let a = c .before .before .args in (omega arith, counted-none (a .start) (λ i. rowAt (a .words .now) (a .reals .now) (pendingRow (a .k) i) .slot) (omega arith))
-
-mul-load-slot : tie.Need-mul-load-slot Inv-loop μ-loop
-mul-load-slot c = search needs
-
-add-load-slot : tie.Need-add-load-slot Inv-loop μ-loop
-add-load-slot c = search needs
-
-load-slot-requires : tie.Need-load-slot-requires Inv-loop μ-loop
-load-slot-requires c κs = search needs
-
-counted-requires : tie.Need-counted-requires Inv-loop μ-loop
-counted-requires c κs = search needs
-
-add-j : tie.Need-add-j Inv-loop μ-loop
-add-j c = search needs
-
-loop-less : tie.Need-loop-less Inv-loop μ-loop
-loop-less c = search needs
 
 loop-again : tie.Need-loop-again Inv-loop μ-loop
 loop-again c =
@@ -62,11 +44,11 @@ pending-texts-spec =
     Inv-loop
     μ-loop
     loop-holds
-    mul-load-slot
-    add-load-slot
-    load-slot-requires
-    counted-requires
-    add-j
-    loop-less
+    (λ c. search needs)  -- mul-load-slot
+    (λ c. search needs)  -- add-load-slot
+    (λ c κs. search needs)  -- load-slot-requires
+    (λ c κs. search needs)  -- counted-requires
+    (λ c. search needs)  -- add-j
+    (λ c. search needs)  -- loop-less
     loop-again
     returns)

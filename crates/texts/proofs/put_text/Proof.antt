@@ -19,27 +19,9 @@ abbrev μ-loop : tie.MeasureT-loop
 μ-loop texts₀ slot text at i₀ texts i =
     length text - i
 
-mul-at : tie.Need-mul-at Inv-loop μ-loop
-mul-at c = search needs
-
 loop-holds : tie.Need-loop-holds Inv-loop μ-loop
 loop-holds c =
     let a = c .args in (omega arith, (refl, sym (splice-none (a .texts .now) _)))
-
-shared-slice-read-texts : tie.Need-shared-slice-read-texts Inv-loop μ-loop
-shared-slice-read-texts c = search needs
-
-add-texts : tie.Need-add-texts Inv-loop μ-loop
-add-texts c = search needs
-
-slice-write-texts : tie.Need-slice-write-texts Inv-loop μ-loop
-slice-write-texts c = search needs
-
-add-i : tie.Need-add-i Inv-loop μ-loop
-add-i c = search needs
-
-loop-less : tie.Need-loop-less Inv-loop μ-loop
-loop-less c = search needs
 
 loop-again : tie.Need-loop-again Inv-loop μ-loop
 loop-again c =
@@ -48,9 +30,6 @@ loop-again c =
       omega arith,
       (length-set (at .texts) _ _ ∙ at .inv .1 .0, put-step (a .texts .now) (a .text .now) _ (at .i) (at .inv .1 .1) (omega arith) (omega arith)),
     )
-
-same-length : tie.Need-same-length Inv-loop μ-loop
-same-length c = search needs
 
 returns : tie.Need-returns Inv-loop μ-loop
 returns c =
@@ -63,13 +42,13 @@ put-text-spec =
     (tie.spec
     Inv-loop
     μ-loop
-    mul-at
+    (λ c. search needs)  -- mul-at
     loop-holds
-    shared-slice-read-texts
-    add-texts
-    slice-write-texts
-    add-i
-    loop-less
+    (λ c. search needs)  -- shared-slice-read-texts
+    (λ c. search needs)  -- add-texts
+    (λ c. search needs)  -- slice-write-texts
+    (λ c. search needs)  -- add-i
+    (λ c. search needs)  -- loop-less
     loop-again
-    same-length
+    (λ c. search needs)  -- same-length
     returns)

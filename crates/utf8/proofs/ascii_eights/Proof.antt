@@ -18,21 +18,6 @@ abbrev μ-loop : tie.MeasureT-loop
 loop-holds : tie.Need-loop-holds Inv-loop μ-loop
 loop-holds c = (omega arith, refl)
 
-sub-loop : tie.Need-sub-loop Inv-loop μ-loop
-sub-loop c = search needs
-
-eight-or-requires : tie.Need-eight-or-requires Inv-loop μ-loop
-eight-or-requires c κs = search needs
-
-returns : tie.Need-returns Inv-loop μ-loop
-returns c = search needs
-
-add-i : tie.Need-add-i Inv-loop μ-loop
-add-i c = search needs
-
-loop-less : tie.Need-loop-less Inv-loop μ-loop
-loop-less c = search needs
-
 loop-again : tie.Need-loop-again Inv-loop μ-loop
 loop-again c =
     let t = c .before .before .before .before .before .args .text .now in
@@ -41,9 +26,6 @@ loop-again c =
     let e = c .before .eight-or .ensures in
     (omega arith, ascii-run t (j .i) 8 (omega arith) (λ k l. let a = e k l in omega arith) (j .inv .1))
 
-returns-2 : tie.Need-returns-2 Inv-loop μ-loop
-returns-2 c = search needs
-
 pub ascii-eights-spec : {M : Type 1} → statement M
 ascii-eights-spec =
     tie.close
@@ -51,10 +33,10 @@ ascii-eights-spec =
     Inv-loop
     μ-loop
     loop-holds
-    sub-loop
-    eight-or-requires
-    returns
-    add-i
-    loop-less
+    (λ c. search needs)  -- sub-loop
+    (λ c κs. search needs)  -- eight-or-requires
+    (λ c. search needs)  -- returns
+    (λ c. search needs)  -- add-i
+    (λ c. search needs)  -- loop-less
     loop-again
-    returns-2)
+    (λ c. search needs))  -- returns-2

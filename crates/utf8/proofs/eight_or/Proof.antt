@@ -4,51 +4,6 @@ use Rattle.utf8.proofs.Scan.{within-ors}
 use Rattle.utf8.proofs.eight_or.Statement.{statement}
 use Rattle.utf8.proofs.eight_or.Tie as tie
 
-shared-slice-read-result : tie.Need-shared-slice-read-result
-shared-slice-read-result c = search needs
-
-add-result : tie.Need-add-result
-add-result c = search needs
-
-shared-slice-read-result-2 : tie.Need-shared-slice-read-result-2
-shared-slice-read-result-2 c = search needs
-
-add-result-2 : tie.Need-add-result-2
-add-result-2 c = search needs
-
-shared-slice-read-result-3 : tie.Need-shared-slice-read-result-3
-shared-slice-read-result-3 c = search needs
-
-add-result-3 : tie.Need-add-result-3
-add-result-3 c = search needs
-
-shared-slice-read-result-4 : tie.Need-shared-slice-read-result-4
-shared-slice-read-result-4 c = search needs
-
-add-result-4 : tie.Need-add-result-4
-add-result-4 c = search needs
-
-shared-slice-read-result-5 : tie.Need-shared-slice-read-result-5
-shared-slice-read-result-5 c = search needs
-
-add-result-5 : tie.Need-add-result-5
-add-result-5 c = search needs
-
-shared-slice-read-result-6 : tie.Need-shared-slice-read-result-6
-shared-slice-read-result-6 c = search needs
-
-add-result-6 : tie.Need-add-result-6
-add-result-6 c = search needs
-
-shared-slice-read-result-7 : tie.Need-shared-slice-read-result-7
-shared-slice-read-result-7 c = search needs
-
-add-result-7 : tie.Need-add-result-7
-add-result-7 c = search needs
-
-shared-slice-read-result-8 : tie.Need-shared-slice-read-result-8
-shared-slice-read-result-8 c = search needs
-
 returns : tie.Need-returns
 returns c = let a = c .before .before .before .before .before .before .before .before .args in within-ors (a .text .now) (a .at) 7
 
@@ -56,19 +11,19 @@ pub eight-or-spec : {M : Type 1} → statement M
 eight-or-spec =
     tie.close
     (tie.spec
-    shared-slice-read-result
-    add-result
-    shared-slice-read-result-2
-    add-result-2
-    shared-slice-read-result-3
-    add-result-3
-    shared-slice-read-result-4
-    add-result-4
-    shared-slice-read-result-5
-    add-result-5
-    shared-slice-read-result-6
-    add-result-6
-    shared-slice-read-result-7
-    add-result-7
-    shared-slice-read-result-8
+    (λ c. search needs)  -- shared-slice-read-result
+    (λ c. search needs)  -- add-result
+    (λ c. search needs)  -- shared-slice-read-result-2
+    (λ c. search needs)  -- add-result-2
+    (λ c. search needs)  -- shared-slice-read-result-3
+    (λ c. search needs)  -- add-result-3
+    (λ c. search needs)  -- shared-slice-read-result-4
+    (λ c. search needs)  -- add-result-4
+    (λ c. search needs)  -- shared-slice-read-result-5
+    (λ c. search needs)  -- add-result-5
+    (λ c. search needs)  -- shared-slice-read-result-6
+    (λ c. search needs)  -- add-result-6
+    (λ c. search needs)  -- shared-slice-read-result-7
+    (λ c. search needs)  -- add-result-7
+    (λ c. search needs)  -- shared-slice-read-result-8
     returns)

@@ -25,9 +25,6 @@ module _ (t : List ℕ) (i low high : ℕ) where
   unfolding begins
   past h = rw drop-of-length-le
 
-shared-slice-read-x : tie.Need-shared-slice-read-x
-shared-slice-read-x c = search needs
-
 returns : tie.Need-returns
 returns c = let a = c .before .before .before .args in from-low (a .text .now) (a .at) (a .low) (a .high) (c .before .before .if1 .taken) (c .if2 .taken)
 
@@ -38,4 +35,10 @@ returns-3 : tie.Need-returns-3
 returns-3 c = let a = c .before .args in past (a .text .now) (a .at) (a .low) (a .high) (c .if1 .left)
 
 pub has-octet-spec : {M : Type 1} → statement M
-has-octet-spec = tie.close (tie.spec shared-slice-read-x returns returns-2 returns-3)
+has-octet-spec =
+    tie.close
+    (tie.spec
+    (λ c. search needs)  -- shared-slice-read-x
+    returns
+    returns-2
+    returns-3)

@@ -41,26 +41,8 @@ left-one : (c : tie.In-loop2 Inv-loop2 μ-loop2 Inv-loop μ-loop)
     ≡ goesOn (UTF8-tail ∷ replicate (c .before .loop2 .left - 1) UTF8-tail) (drop (c .before .loop2 .i) (c .before .before .before .before .before .before .before .before .before .before .before .before .before .args .text .now))
 left-one c = rw (tails-left (c .before .loop2 .left) (omega arith)) at (c .before .loop2 .inv .2)
 
-ascii-eights-requires : tie.Need-ascii-eights-requires Inv-loop2 μ-loop2 Inv-loop μ-loop
-ascii-eights-requires c κs = search needs
-
 loop-holds : tie.Need-loop-holds Inv-loop2 μ-loop2 Inv-loop μ-loop
 loop-holds c = let a = c .ascii-eights .ensures in (a .0, a .1)
-
-shared-slice-read-lead-of : tie.Need-shared-slice-read-lead-of Inv-loop2 μ-loop2 Inv-loop μ-loop
-shared-slice-read-lead-of c = search needs
-
-lead-of-requires : tie.Need-lead-of-requires Inv-loop2 μ-loop2 Inv-loop μ-loop
-lead-of-requires c κs = search needs
-
-enum-told : tie.Need-enum-told Inv-loop2 μ-loop2 Inv-loop μ-loop
-enum-told c = search needs
-
-add-i : tie.Need-add-i Inv-loop2 μ-loop2 Inv-loop μ-loop
-add-i c = search needs
-
-loop-less : tie.Need-loop-less Inv-loop2 μ-loop2 Inv-loop μ-loop
-loop-less c = search needs
 
 loop-again : tie.Need-loop-again Inv-loop2 μ-loop2 Inv-loop μ-loop
 unfolding asked isUtf8
@@ -69,38 +51,29 @@ loop-again c =
     let j = c .before .before .before .before .before .loop in
     (omega arith, first t (j .i) (c .before .before .before .before .loop-test .taken) (j .inv .1) [] (sym (ap asked (c .enum-told .given .1)) ∙ c .before .before .lead-of .ensures))
 
-enum-known-low : tie.Need-enum-known-low Inv-loop2 μ-loop2 Inv-loop μ-loop
-enum-known-low c = search needs
-
-add-has-octet : tie.Need-add-has-octet Inv-loop2 μ-loop2 Inv-loop μ-loop
-add-has-octet c = search needs
-
-has-octet-requires : tie.Need-has-octet-requires Inv-loop2 μ-loop2 Inv-loop μ-loop
-has-octet-requires c κs = search needs
-
 returns : tie.Need-returns Inv-loop2 μ-loop2 Inv-loop μ-loop
 returns c =
-    let t = c .before .before .before .before .before .before .before .before .before .before .before .args .text .now in
-    let i = c .before .before .before .before .before .before .before .before .loop .i in
-    let l = c .before .before .before .low .given .0 in
+    let at-low = c .before .before .before in
+    let at-loop = at-low .before .before .before .before .before in
+    let at-start = at-loop .before .before .before in
+    let t = at-start .args .text .now in
+    let i = at-loop .loop .i in
+    let l = at-low .low .given .0 in
     let o = c .before .has-octet in
-    none-next t (i + 1) (l .0, l .1 .0) (o .result) (o .ensures) (replicate (l .1 .1 .0) UTF8-tail) (follows (c .before .before .before)) (c .if1 .taken)
-
-add-i-2 : tie.Need-add-i-2 Inv-loop2 μ-loop2 Inv-loop μ-loop
-add-i-2 c = search needs
+    none-next t (i + 1) (l .0, l .1 .0) (o .result) (o .ensures) (replicate (l .1 .1 .0) UTF8-tail) (follows (at-low)) (c .if1 .taken)
 
 loop2-holds : tie.Need-loop2-holds Inv-loop2 μ-loop2 Inv-loop μ-loop
 loop2-holds c =
-    let t = c .before .before .before .before .before .before .before .before .before .before .before .args .text .now in
-    let i = c .before .before .before .before .before .before .before .before .loop .i in
-    let l = c .before .before .before .low .given .0 in
+    let at-low = c .before .before .before in
+    let at-loop = at-low .before .before .before .before .before in
+    let at-start = at-loop .before .before .before in
+    let t = at-start .args .text .now in
+    let i = at-loop .loop .i in
+    let l = at-low .low .given .0 in
     let o = c .before .has-octet in
     let k = there t (i + 1) (l .0, l .1 .0) (o .result) (o .ensures) (c .if1 .left) in
     let e : i + 1 + 1 ≡ i + 2 = omega arith in
-    (omega arith, omega arith, rw e at (next t (i + 1) (l .0, l .1 .0) (o .result) (o .ensures) (replicate (l .1 .1 .0) UTF8-tail) (follows (c .before .before .before)) (c .if1 .left)))
-
-loop-less-2 : tie.Need-loop-less-2 Inv-loop2 μ-loop2 Inv-loop μ-loop
-loop-less-2 c = search needs
+    (omega arith, omega arith, rw e at (next t (i + 1) (l .0, l .1 .0) (o .result) (o .ensures) (replicate (l .1 .1 .0) UTF8-tail) (follows (at-low)) (c .if1 .left)))
 
 loop-again-2 : tie.Need-loop-again-2 Inv-loop2 μ-loop2 Inv-loop μ-loop
 unfolding isUtf8
@@ -108,9 +81,6 @@ loop-again-2 c =
     let k = c .before .loop2 in
     let e : k .left ≡ 0 = omega arith in
     (omega arith, rw e at (k .inv .2))
-
-has-octet-requires-2 : tie.Need-has-octet-requires-2 Inv-loop2 μ-loop2 Inv-loop μ-loop
-has-octet-requires-2 c κs = search needs
 
 returns-2 : tie.Need-returns-2 Inv-loop2 μ-loop2 Inv-loop μ-loop
 unfolding UTF8-tail
@@ -120,15 +90,6 @@ returns-2 c =
     let o = c .before .has-octet2 in
     none-next t (k .i) UTF8-tail (o .result) (o .ensures) (replicate (k .left - 1) UTF8-tail) (left-one (c .before .before)) (c .if2 .taken)
 
-add-i-3 : tie.Need-add-i-3 Inv-loop2 μ-loop2 Inv-loop μ-loop
-add-i-3 c = search needs
-
-sub-left : tie.Need-sub-left Inv-loop2 μ-loop2 Inv-loop μ-loop
-sub-left c = search needs
-
-loop2-less : tie.Need-loop2-less Inv-loop2 μ-loop2 Inv-loop μ-loop
-loop2-less c = search needs
-
 loop2-again : tie.Need-loop2-again Inv-loop2 μ-loop2 Inv-loop μ-loop
 unfolding UTF8-tail
 loop2-again c =
@@ -137,9 +98,6 @@ loop2-again c =
     let o = c .before .has-octet2 in
     let h = there t (k .i) UTF8-tail (o .result) (o .ensures) (c .if2 .left) in
     (omega arith, omega arith, next t (k .i) UTF8-tail (o .result) (o .ensures) (replicate (k .left - 1) UTF8-tail) (left-one (c .before .before)) (c .if2 .left))
-
-enum-told-2 : tie.Need-enum-told-2 Inv-loop2 μ-loop2 Inv-loop μ-loop
-enum-told-2 c = search needs
 
 returns-3 : tie.Need-returns-3 Inv-loop2 μ-loop2 Inv-loop μ-loop
 unfolding asked
@@ -162,28 +120,28 @@ valid-spec =
     μ-loop2
     Inv-loop
     μ-loop
-    ascii-eights-requires
+    (λ c κs. search needs)  -- ascii-eights-requires
     loop-holds
-    shared-slice-read-lead-of
-    lead-of-requires
-    enum-told
-    add-i
-    loop-less
+    (λ c. search needs)  -- shared-slice-read-lead-of
+    (λ c κs. search needs)  -- lead-of-requires
+    (λ c. search needs)  -- enum-told
+    (λ c. search needs)  -- add-i
+    (λ c. search needs)  -- loop-less
     loop-again
-    enum-known-low
-    add-has-octet
-    has-octet-requires
+    (λ c. search needs)  -- enum-known-low
+    (λ c. search needs)  -- add-has-octet
+    (λ c κs. search needs)  -- has-octet-requires
     returns
-    add-i-2
+    (λ c. search needs)  -- add-i-2
     loop2-holds
-    loop-less-2
+    (λ c. search needs)  -- loop-less-2
     loop-again-2
-    has-octet-requires-2
+    (λ c κs. search needs)  -- has-octet-requires-2
     returns-2
-    add-i-3
-    sub-left
-    loop2-less
+    (λ c. search needs)  -- add-i-3
+    (λ c. search needs)  -- sub-left
+    (λ c. search needs)  -- loop2-less
     loop2-again
-    enum-told-2
+    (λ c. search needs)  -- enum-told-2
     returns-3
     returns-4)

@@ -39,24 +39,12 @@ no-valid : (bs : List ℕ) → isUtf8 bs ≡ false → NotValid ≡ verdict (som
 unfolding verdict
 no-valid bs e = rw e
 
-is-comment-requires : tie.Need-is-comment-requires
-is-comment-requires c κs = search needs
-
 returns : tie.Need-returns
 returns c = comment (c .before .before .before .args .line .now) (sym (c .before .is-comment .ensures) ∙ c .if1 .taken)
 
 returns-2 : tie.Need-returns-2
 returns-2 c =
     too-long (c .before .before .before .before .args .line .now) (sym (c .before .before .is-comment .ensures) ∙ c .before .if1 .left) (c .if2 .taken)
-
-slice-aggregate-bytes-of : tie.Need-slice-aggregate-bytes-of
-slice-aggregate-bytes-of c = search needs
-
-bytes-of-requires : tie.Need-bytes-of-requires
-bytes-of-requires c κs = search needs
-
-enum-known-n : tie.Need-enum-known-n
-enum-known-n c = search needs
 
 array-share-prefix-text : tie.Need-array-share-prefix-text
 array-share-prefix-text c =
@@ -69,49 +57,60 @@ slice-aggregate-valid c =
     let g = c .before .before .n .given in
     sym (length-take-le (g .0 .0) (b .last .1 .0) (rw (ap countOf (g .1)) at (b .ensures .fits)))
 
-valid-requires : tie.Need-valid-requires
-valid-requires c κs = search needs
-
-enum-told : tie.Need-enum-told
-enum-told c = search needs
-
 returns-3 : tie.Need-returns-3
 returns-3 c =
-    let l = c .before .before .before .before .before .before .before .before .before .before .before .before .before .args .line .now in
-    let b = c .before .before .before .before .before .before .before .bytes-of in
-    let g = c .before .before .before .before .n .given in
+    let at-n = c .before .before .before .before in
+    let at-bytes-of = at-n .before .before .before in
+    let at-if2 = at-bytes-of .before .before in
+    let at-if1 = at-if2 .before in
+    let at-is-comment = at-if1 .before in
+    let at-start = at-is-comment .before .before in
+    let l = at-start .args .line .now in
+    let b = at-bytes-of .bytes-of in
+    let g = at-n .n .given in
     yes-valid (take (g .0 .0) (b .last .1 .0)) (sym (c .before .valid .ensures) ∙ c .if3 .taken)
-    ∙ judged l (b .last .1 .0) (b .result) (sym (c .before .before .before .before .before .before .before .before .before .before .before .is-comment .ensures) ∙ c .before .before .before .before .before .before .before .before .before .before .if1 .left) (c .before .before .before .before .before .before .before .before .before .if2 .left) (b .ensures) (Count (g .0 .0)) (g .1)
+    ∙ judged l (b .last .1 .0) (b .result) (sym (at-is-comment .is-comment .ensures) ∙ at-if1 .if1 .left) (at-if2 .if2 .left) (b .ensures) (Count (g .0 .0)) (g .1)
 
 returns-4 : tie.Need-returns-4
 returns-4 c =
-    let l = c .before .before .before .before .before .before .before .before .before .before .before .before .before .args .line .now in
-    let b = c .before .before .before .before .before .before .before .bytes-of in
-    let g = c .before .before .before .before .n .given in
+    let at-n = c .before .before .before .before in
+    let at-bytes-of = at-n .before .before .before in
+    let at-if2 = at-bytes-of .before .before in
+    let at-if1 = at-if2 .before in
+    let at-is-comment = at-if1 .before in
+    let at-start = at-is-comment .before .before in
+    let l = at-start .args .line .now in
+    let b = at-bytes-of .bytes-of in
+    let g = at-n .n .given in
     no-valid (take (g .0 .0) (b .last .1 .0)) (sym (c .before .valid .ensures) ∙ c .if3 .left)
-    ∙ judged l (b .last .1 .0) (b .result) (sym (c .before .before .before .before .before .before .before .before .before .before .before .is-comment .ensures) ∙ c .before .before .before .before .before .before .before .before .before .before .if1 .left) (c .before .before .before .before .before .before .before .before .before .if2 .left) (b .ensures) (Count (g .0 .0)) (g .1)
+    ∙ judged l (b .last .1 .0) (b .result) (sym (at-is-comment .is-comment .ensures) ∙ at-if1 .if1 .left) (at-if2 .if2 .left) (b .ensures) (Count (g .0 .0)) (g .1)
 
 returns-5 : tie.Need-returns-5
 unfolding verdict
 returns-5 c =
-    let l = c .before .before .before .before .before .before .before .before .before .args .line .now in
-    let b = c .before .before .before .bytes-of in
-    judged l (b .last .1 .0) (b .result) (sym (c .before .before .before .before .before .before .before .is-comment .ensures) ∙ c .before .before .before .before .before .before .if1 .left) (c .before .before .before .before .before .if2 .left) (b .ensures) Nothing (c .enum-told .given .1)
+    let at-bytes-of = c .before .before .before in
+    let at-if2 = at-bytes-of .before .before in
+    let at-if1 = at-if2 .before in
+    let at-is-comment = at-if1 .before in
+    let at-start = at-is-comment .before .before in
+    let l = at-start .args .line .now in
+    let b = at-bytes-of .bytes-of in
+    judged l (b .last .1 .0) (b .result) (sym (at-is-comment .is-comment .ensures) ∙ at-if1 .if1 .left) (at-if2 .if2 .left) (b .ensures) Nothing (c .enum-told .given .1)
 
 pub answer-to-spec : {M : Type 1} → statement M
 answer-to-spec =
     tie.close
     (tie.spec
-    is-comment-requires
+    (λ c κs. search needs)  -- is-comment-requires
     returns
     returns-2
-    slice-aggregate-bytes-of
-    bytes-of-requires
-    enum-known-n
+    (λ c. search needs)  -- slice-aggregate-bytes-of
+    (λ c κs. search needs)  -- bytes-of-requires
+    (λ c. search needs)  -- enum-known-n
     array-share-prefix-text
     slice-aggregate-valid
-    valid-requires
-    enum-told
+    (λ c κs. search needs)  -- valid-requires
+    (λ c. search needs)  -- enum-told
     returns-3
     returns-4
     returns-5)

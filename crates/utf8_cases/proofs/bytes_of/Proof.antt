@@ -27,26 +27,11 @@ paired c =
 loop-holds : tie.Need-loop-holds Inv-loop μ-loop
 loop-holds c = (omega arith, omega arith, refl, behind-none (bytesOf (c .before .before .args .line .now)))
 
-shared-slice-read-if1 : tie.Need-shared-slice-read-if1 Inv-loop μ-loop
-shared-slice-read-if1 c = search needs
-
-add-i : tie.Need-add-i Inv-loop μ-loop
-add-i c = search needs
-
-loop-less : tie.Need-loop-less Inv-loop μ-loop
-loop-less c = search needs
-
 loop-again : tie.Need-loop-again Inv-loop μ-loop
 loop-again c =
     let a = c .before .before .before .before .before .before .args in
     let l = c .before .before .before .loop in
     (omega arith, omega arith, omega arith, space (a .line .now) (l .text) (l .i) (l .n) (c .before .before .loop-test .taken) (l .inv .3) (c .if1 .taken))
-
-sub-if2 : tie.Need-sub-if2 Inv-loop μ-loop
-sub-if2 c = search needs
-
-same-length : tie.Need-same-length Inv-loop μ-loop
-same-length c = search needs
 
 returns : tie.Need-returns Inv-loop μ-loop
 returns c =
@@ -54,65 +39,32 @@ returns c =
     let l = c .before .before .before .before .loop in
     record { fits = omega arith; bytes = cut (a .line .now) (l .text) (l .i) (l .n) (c .before .before .before .loop-test .taken) (l .inv .3) (c .before .if1 .left) (c .if2 .taken) }
 
-shared-slice-read-value-of : tie.Need-shared-slice-read-value-of Inv-loop μ-loop
-shared-slice-read-value-of c = search needs
-
-value-of-requires : tie.Need-value-of-requires Inv-loop μ-loop
-value-of-requires c κs = search needs
-
-add-value-of : tie.Need-add-value-of Inv-loop μ-loop
-add-value-of c = search needs
-
-shared-slice-read-value-of-2 : tie.Need-shared-slice-read-value-of-2 Inv-loop μ-loop
-shared-slice-read-value-of-2 c = search needs
-
-value-of-requires-2 : tie.Need-value-of-requires-2 Inv-loop μ-loop
-value-of-requires-2 c κs = search needs
-
-same-length-2 : tie.Need-same-length-2 Inv-loop μ-loop
-same-length-2 c = search needs
-
 returns-2 : tie.Need-returns-2 Inv-loop μ-loop
 returns-2 c =
-    let t = c .before .before .before .before .before .before .before .before .before .before .before .before .args .line .now in
-    let l = c .before .before .before .before .before .before .before .before .before .loop in
-    record { fits = omega arith; bytes = no-high t (l .text) (l .n) (c .before .before .before .value-of .result) (c .before .value-of2 .result) (bytesOf (drop (l .i + 2) t)) (paired (c .before)) (c .if3 .taken) }
-
-same-length-3 : tie.Need-same-length-3 Inv-loop μ-loop
-same-length-3 c = search needs
+    let at-value-of = c .before .before .before in
+    let at-loop = at-value-of .before .before .before .before .before .before in
+    let at-start = at-loop .before .before .before in
+    let t = at-start .args .line .now in
+    let l = at-loop .loop in
+    record { fits = omega arith; bytes = no-high t (l .text) (l .n) (at-value-of .value-of .result) (c .before .value-of2 .result) (bytesOf (drop (l .i + 2) t)) (paired (c .before)) (c .if3 .taken) }
 
 returns-3 : tie.Need-returns-3 Inv-loop μ-loop
 returns-3 c =
-    let t = c .before .before .before .before .before .before .before .before .before .before .before .before .before .args .line .now in
-    let l = c .before .before .before .before .before .before .before .before .before .before .loop in
-    record { fits = omega arith; bytes = no-low t (l .text) (l .n) (c .before .before .before .before .value-of .result) (c .before .before .value-of2 .result) (bytesOf (drop (l .i + 2) t)) (paired (c .before .before)) (c .before .if3 .left) (c .if4 .taken) }
-
-mul-text : tie.Need-mul-text Inv-loop μ-loop
-mul-text c = search needs
-
-add-text : tie.Need-add-text Inv-loop μ-loop
-add-text c = search needs
-
-slice-write-text : tie.Need-slice-write-text Inv-loop μ-loop
-slice-write-text c = search needs
-
-add-n : tie.Need-add-n Inv-loop μ-loop
-add-n c = search needs
-
-add-i-2 : tie.Need-add-i-2 Inv-loop μ-loop
-add-i-2 c = search needs
-
-loop-less-2 : tie.Need-loop-less-2 Inv-loop μ-loop
-loop-less-2 c = search needs
+    let at-value-of = c .before .before .before .before in
+    let at-loop = at-value-of .before .before .before .before .before .before in
+    let at-start = at-loop .before .before .before in
+    let t = at-start .args .line .now in
+    let l = at-loop .loop in
+    record { fits = omega arith; bytes = no-low t (l .text) (l .n) (at-value-of .value-of .result) (c .before .before .value-of2 .result) (bytesOf (drop (l .i + 2) t)) (paired (c .before .before)) (c .before .if3 .left) (c .if4 .taken) }
 
 loop-again-2 : tie.Need-loop-again-2 Inv-loop μ-loop
 loop-again-2 c =
-    let t = c .before .before .before .before .before .before .before .before .before .before .before .before .before .args .line .now in
-    let l = c .before .before .before .before .before .before .before .before .before .before .loop in
-    (omega arith, omega arith, simp length-set (omega arith), both t (l .text) (l .n) (c .before .before .before .before .value-of .result) (c .before .before .value-of2 .result) (bytesOf (drop (l .i + 2) t)) (paired (c .before .before)) (c .before .if3 .left) (c .if4 .left) (omega arith))
-
-same-length-4 : tie.Need-same-length-4 Inv-loop μ-loop
-same-length-4 c = search needs
+    let at-value-of = c .before .before .before .before in
+    let at-loop = at-value-of .before .before .before .before .before .before in
+    let at-start = at-loop .before .before .before in
+    let t = at-start .args .line .now in
+    let l = at-loop .loop in
+    (omega arith, omega arith, simp length-set (omega arith), both t (l .text) (l .n) (at-value-of .value-of .result) (c .before .before .value-of2 .result) (bytesOf (drop (l .i + 2) t)) (paired (c .before .before)) (c .before .if3 .left) (c .if4 .left) (omega arith))
 
 returns-4 : tie.Need-returns-4 Inv-loop μ-loop
 returns-4 c =
@@ -127,28 +79,28 @@ bytes-of-spec =
     Inv-loop
     μ-loop
     loop-holds
-    shared-slice-read-if1
-    add-i
-    loop-less
+    (λ c. search needs)  -- shared-slice-read-if1
+    (λ c. search needs)  -- add-i
+    (λ c. search needs)  -- loop-less
     loop-again
-    sub-if2
-    same-length
+    (λ c. search needs)  -- sub-if2
+    (λ c. search needs)  -- same-length
     returns
-    shared-slice-read-value-of
-    value-of-requires
-    add-value-of
-    shared-slice-read-value-of-2
-    value-of-requires-2
-    same-length-2
+    (λ c. search needs)  -- shared-slice-read-value-of
+    (λ c κs. search needs)  -- value-of-requires
+    (λ c. search needs)  -- add-value-of
+    (λ c. search needs)  -- shared-slice-read-value-of-2
+    (λ c κs. search needs)  -- value-of-requires-2
+    (λ c. search needs)  -- same-length-2
     returns-2
-    same-length-3
+    (λ c. search needs)  -- same-length-3
     returns-3
-    mul-text
-    add-text
-    slice-write-text
-    add-n
-    add-i-2
-    loop-less-2
+    (λ c. search needs)  -- mul-text
+    (λ c. search needs)  -- add-text
+    (λ c. search needs)  -- slice-write-text
+    (λ c. search needs)  -- add-n
+    (λ c. search needs)  -- add-i-2
+    (λ c. search needs)  -- loop-less-2
     loop-again-2
-    same-length-4
+    (λ c. search needs)  -- same-length-4
     returns-4)

@@ -8,14 +8,11 @@ use Rattle.utf8_cases.proofs.end_line.Tie as tie
 slice-aggregate-answer-to : tie.Need-slice-aggregate-answer-to
 slice-aggregate-answer-to c = let s = c .before .before in sym (length-take-le (s .args .n) (s .args .line .now) (s .pre))
 
-answer-to-requires : tie.Need-answer-to-requires
-answer-to-requires c κs = search needs
-
-say-requires : tie.Need-say-requires
-say-requires c κs = search needs
-
-returns : tie.Need-returns
-returns c = search needs
-
 pub end-line-spec : {M : Type 1} → statement M
-end-line-spec = tie.close (tie.spec slice-aggregate-answer-to answer-to-requires say-requires returns)
+end-line-spec =
+    tie.close
+    (tie.spec
+    slice-aggregate-answer-to
+    (λ c κs. search needs)  -- answer-to-requires
+    (λ c κs. search needs)  -- say-requires
+    (λ c. search needs))  -- returns

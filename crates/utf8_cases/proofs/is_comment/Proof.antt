@@ -21,9 +21,6 @@ unfolding isComment
 none [] h = refl
 none (c ∷ l) h = absurd (omega (arith, h))
 
-shared-slice-read-result : tie.Need-shared-slice-read-result
-shared-slice-read-result c = search needs
-
 returns : tie.Need-returns
 returns c = first (c .before .before .args .line .now) (c .before .if1 .taken)
 
@@ -31,4 +28,9 @@ returns-2 : tie.Need-returns-2
 returns-2 c = none (c .before .args .line .now) (c .if1 .left)
 
 pub is-comment-spec : {M : Type 1} → statement M
-is-comment-spec = tie.close (tie.spec shared-slice-read-result returns returns-2)
+is-comment-spec =
+    tie.close
+    (tie.spec
+    (λ c. search needs)  -- shared-slice-read-result
+    returns
+    returns-2)

@@ -20,12 +20,6 @@ unfolding values
 same f g lo zero x e a b = absurd (omega arith)
 same f g lo (suc n) x e a b = dite (ℕ-discrete x lo) (λ q. cc) (λ q. same f g (suc lo) n x (cc) (omega arith) (omega arith))
 
-add-result : tie.Need-add-result
-add-result c = search needs
-
-add-result-2 : tie.Need-add-result-2
-add-result-2 c = search needs
-
 returns : tie.Need-returns
 unfolding values valueOf
 returns c = same (λ x. x - 48) valueOf 48 10 (c .before .before .args .c) refl (omega arith) (omega arith)
@@ -58,8 +52,8 @@ pub value-of-spec : {M : Type 1} → statement M
 value-of-spec =
     tie.close
     (tie.spec
-    add-result
-    add-result-2
+    (λ c. search needs)  -- add-result
+    (λ c. search needs)  -- add-result-2
     returns
     returns-2
     returns-3

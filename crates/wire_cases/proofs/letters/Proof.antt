@@ -12,24 +12,6 @@ Inv-loop text₀ i₀ text i = (i ≤ 254) × (length text ≡ 254)
 abbrev μ-loop : tie.MeasureT-loop
 μ-loop text₀ i₀ text i = 254 - i
 
-loop-holds : tie.Need-loop-holds Inv-loop μ-loop
-loop-holds c = search needs
-
-cast-text : tie.Need-cast-text Inv-loop μ-loop
-cast-text c = search needs
-
-add-text : tie.Need-add-text Inv-loop μ-loop
-add-text c = search needs
-
-array-write-text : tie.Need-array-write-text Inv-loop μ-loop
-array-write-text c = search needs
-
-add-i : tie.Need-add-i Inv-loop μ-loop
-add-i c = search needs
-
-loop-less : tie.Need-loop-less Inv-loop μ-loop
-loop-less c = search needs
-
 loop-again : tie.Need-loop-again Inv-loop μ-loop
 loop-again c = (search needs, simp length-set (c .before .loop .inv .1))
 
@@ -42,11 +24,11 @@ letters-spec =
     (tie.spec
     Inv-loop
     μ-loop
-    loop-holds
-    cast-text
-    add-text
-    array-write-text
-    add-i
-    loop-less
+    (λ c. search needs)  -- loop-holds
+    (λ c. search needs)  -- cast-text
+    (λ c. search needs)  -- add-text
+    (λ c. search needs)  -- array-write-text
+    (λ c. search needs)  -- add-i
+    (λ c. search needs)  -- loop-less
     loop-again
     returns)

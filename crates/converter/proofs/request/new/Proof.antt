@@ -4,7 +4,7 @@ use mathlib.Core.Path.{_≡_}
 use native.Mathlib.Omega.{arith}
 use lib.ListN.{length}
 use Rattle.handshake.proofs.Reports.{length-rows}
-use Rattle.store.specs.View.{store}
+use Rattle.session.specs.View.{store}
 use Rattle.converter.proofs.Begun.{Beginning, beginning-none, beginning-skip, beginning-set, beginning-all, not-control, not-words, not-reals, not-texts, all-lengths, begins-bad, begins-done}
 use borrow.Author.Needs.{needs}
 use Rattle.converter.proofs.request.new.Statement.{statement}
@@ -18,17 +18,11 @@ abbrev μ-loop : tie.MeasureT-loop
 μ-loop control₀ words reals texts response place₀ control place =
     12 - place
 
-refused-requires : tie.Need-refused-requires Inv-loop μ-loop
-refused-requires c κs = search needs
-
 returns : tie.Need-returns Inv-loop μ-loop
 returns c =
     let a = c .before .before .before .before .before .before .args in
     let s = (store (a .control .now) (a .words .now) (a .reals .now) (a .texts .now)) in
     begins-bad s (a .t5) _ (not-control s (λ z. omega arith)) (c .refused .ensures)
-
-refused-requires-2 : tie.Need-refused-requires-2 Inv-loop μ-loop
-refused-requires-2 c κs = search needs
 
 returns-2 : tie.Need-returns-2 Inv-loop μ-loop
 returns-2 c =
@@ -36,17 +30,11 @@ returns-2 c =
     let s = (store (a .control .now) (a .words .now) (a .reals .now) (a .texts .now)) in
     begins-bad s (a .t5) _ (not-words s (omega arith) (λ z. omega arith)) (c .refused2 .ensures)
 
-refused-requires-3 : tie.Need-refused-requires-3 Inv-loop μ-loop
-refused-requires-3 c κs = search needs
-
 returns-3 : tie.Need-returns-3 Inv-loop μ-loop
 returns-3 c =
     let a = c .before .before .before .before .before .before .before .before .args in
     let s = (store (a .control .now) (a .words .now) (a .reals .now) (a .texts .now)) in
     begins-bad s (a .t5) _ (not-reals s (omega arith) (omega arith) (λ z. omega arith)) (c .refused3 .ensures)
-
-refused-requires-4 : tie.Need-refused-requires-4 Inv-loop μ-loop
-refused-requires-4 c κs = search needs
 
 returns-4 : tie.Need-returns-4 Inv-loop μ-loop
 returns-4 c =
@@ -54,40 +42,25 @@ returns-4 c =
     let s = (store (a .control .now) (a .words .now) (a .reals .now) (a .texts .now)) in
     begins-bad s (a .t5) _ (not-texts s (omega arith) (omega arith) (omega arith) (λ z. omega arith)) (c .refused4 .ensures)
 
-new-requires : tie.Need-new-requires Inv-loop μ-loop
-new-requires c κs = search needs
-
 loop-holds : tie.Need-loop-holds Inv-loop μ-loop
 loop-holds c =
     let a = c .before .before .before .before .before .before .before .before .before .before .before .before .args in
     let long : length (a .t5 .interfaces) ≡ 12 = search (needs, length-rows) in
     (omega arith, (long, beginning-none (a .t5) long (c .before .before .new .ensures)))
 
-mul-row : tie.Need-mul-row Inv-loop μ-loop
-mul-row c = search needs
-
-element-copy-out-row : tie.Need-element-copy-out-row Inv-loop μ-loop
-element-copy-out-row c = search needs
-
-add-place : tie.Need-add-place Inv-loop μ-loop
-add-place c = search needs
-
 set-version-requires : tie.Need-set-version-requires Inv-loop μ-loop
 set-version-requires c κs =
     (c .before .before .before .before .loop .inv .1 .1 .sound, omega arith)
 
-loop-less : tie.Need-loop-less Inv-loop μ-loop
-loop-less c = search needs
-
 loop-again : tie.Need-loop-again Inv-loop μ-loop
 loop-again c =
-    let a = c .before .before .before .before .before .before .before .before .before .before .before .before .before .before .before .before .before .before .before .before .args in
-    let s = c .before .before .before .before .before .before .before .loop in
+    let at-if5 = c .before .before .before .before in
+    let at-loop = at-if5 .before .before .before in
+    let at-start = at-loop .before .before .before .before .before .before .before .before .before .before .before .before .before in
+    let a = at-start .args in
+    let s = at-loop .loop in
     let long = s .inv .1 .0 in
-    (omega arith, (long, beginning-set (a .t5) long _ (s .place) (omega arith) (s .inv .1 .1) (c .before .before .before .before .if5 .taken) (c .before .before .set-version .ensures)))
-
-loop-less-2 : tie.Need-loop-less-2 Inv-loop μ-loop
-loop-less-2 c = search needs
+    (omega arith, (long, beginning-set (a .t5) long _ (s .place) (omega arith) (s .inv .1 .1) (at-if5 .if5 .taken) (c .before .before .set-version .ensures)))
 
 loop-again-2 : tie.Need-loop-again-2 Inv-loop μ-loop
 loop-again-2 c =
@@ -95,12 +68,6 @@ loop-again-2 c =
     let s = c .before .before .before .loop in
     let long = s .inv .1 .0 in
     (omega arith, (long, beginning-skip (a .t5) long _ (s .place) (omega arith) (s .inv .1 .1) (c .if5 .left)))
-
-accepted-requires : tie.Need-accepted-requires Inv-loop μ-loop
-accepted-requires c κs = search needs
-
-same-length : tie.Need-same-length Inv-loop μ-loop
-same-length c = search needs
 
 returns-5 : tie.Need-returns-5 Inv-loop μ-loop
 returns-5 c =
@@ -118,24 +85,24 @@ new-spec =
     (tie.spec
     Inv-loop
     μ-loop
-    refused-requires
+    (λ c κs. search needs)  -- refused-requires
     returns
-    refused-requires-2
+    (λ c κs. search needs)  -- refused-requires-2
     returns-2
-    refused-requires-3
+    (λ c κs. search needs)  -- refused-requires-3
     returns-3
-    refused-requires-4
+    (λ c κs. search needs)  -- refused-requires-4
     returns-4
-    new-requires
+    (λ c κs. search needs)  -- new-requires
     loop-holds
-    mul-row
-    element-copy-out-row
-    add-place
+    (λ c. search needs)  -- mul-row
+    (λ c. search needs)  -- element-copy-out-row
+    (λ c. search needs)  -- add-place
     set-version-requires
-    loop-less
+    (λ c. search needs)  -- loop-less
     loop-again
-    loop-less-2
+    (λ c. search needs)  -- loop-less-2
     loop-again-2
-    accepted-requires
-    same-length
+    (λ c κs. search needs)  -- accepted-requires
+    (λ c. search needs)  -- same-length
     returns-5)

@@ -16,9 +16,6 @@ Inv-loop number name r len k₀ k =
 abbrev μ-loop : tie.MeasureT-loop
 μ-loop number name r len k₀ k = len - k
 
-row-requires : tie.Need-row-requires Inv-loop μ-loop
-row-requires c κs = search needs
-
 returns : tie.Need-returns Inv-loop μ-loop
 returns c =
     let a = c .before .before .before .args in
@@ -34,34 +31,31 @@ element-copy-out-if2 c =
     let long : length (r .result .name) ≡ 19 = search needs in
     omega (arith, len-fits (c .before .before .before .before .before .args .number) (r .result) (r .ensures) long)
 
-shared-slice-read-if2 : tie.Need-shared-slice-read-if2 Inv-loop μ-loop
-shared-slice-read-if2 c = omega arith
-
 returns-2 : tie.Need-returns-2 Inv-loop μ-loop
 returns-2 c =
-    let a = c .before .before .before .before .before .before .before .before .args in
-    let r = c .before .before .before .before .before .before .row in
+    let at-loop = c .before .before .before .before in
+    let at-row = at-loop .before .before in
+    let at-start = at-row .before .before in
+    let a = at-start .args in
+    let r = at-row .row in
     let l = len-of (a .number) (r .result) (r .ensures) in
-    let k = c .before .before .before .before .loop .k in
+    let k = at-loop .loop .k in
     let b = byte-of (a .number) (r .result) (r .ensures) k (omega arith) in
     same-stop (interfaceName (a .number)) (a .name .now) k (omega arith) (omega arith) (λ e. c .if2 .taken (b ∙ e))
-    ∙ sym (c .before .before .before .before .loop .inv .1)
-
-add-k : tie.Need-add-k Inv-loop μ-loop
-add-k c = omega arith
-
-loop-less : tie.Need-loop-less Inv-loop μ-loop
-loop-less c = omega arith
+    ∙ sym (at-loop .loop .inv .1)
 
 loop-again : tie.Need-loop-again Inv-loop μ-loop
 loop-again c =
-    let a = c .before .before .before .before .before .before .before .before .args in
-    let r = c .before .before .before .before .before .before .row in
+    let at-loop = c .before .before .before .before in
+    let at-row = at-loop .before .before in
+    let at-start = at-row .before .before in
+    let a = at-start .args in
+    let r = at-row .row in
     let l = len-of (a .number) (r .result) (r .ensures) in
-    let k = c .before .before .before .before .loop .k in
+    let k = at-loop .loop .k in
     let b = byte-of (a .number) (r .result) (r .ensures) k (omega arith) in (
       omega arith,
-      c .before .before .before .before .loop .inv .1
+      at-loop .loop .inv .1
           ∙ same-step (interfaceName (a .number)) (a .name .now) k (omega arith) (omega arith) (sym b ∙ c .if2 .left),
     )
 
@@ -79,13 +73,13 @@ is-name-spec =
     (tie.spec
     Inv-loop
     μ-loop
-    row-requires
+    (λ c κs. search needs)  -- row-requires
     returns
     loop-holds
     element-copy-out-if2
-    shared-slice-read-if2
+    (λ c. omega arith)  -- shared-slice-read-if2
     returns-2
-    add-k
-    loop-less
+    (λ c. omega arith)  -- add-k
+    (λ c. omega arith)  -- loop-less
     loop-again
     returns-3)

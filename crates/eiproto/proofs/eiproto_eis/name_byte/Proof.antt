@@ -8,9 +8,6 @@ use Rattle.eiproto.proofs.Interface.{len-of, len-fits, byte-of}
 use Rattle.eiproto.proofs.eiproto_eis.name_byte.Statement.{statement}
 use Rattle.eiproto.proofs.eiproto_eis.name_byte.Tie as tie
 
-row-requires : tie.Need-row-requires
-row-requires c κs = search needs
-
 element-copy-out-result : tie.Need-element-copy-out-result
 element-copy-out-result c =
     let long : length (c .before .row .result .name) ≡ 19 = search needs in
@@ -27,4 +24,10 @@ returns-2 c =
     (omega (arith, len-of (c .before .before .args .number) (c .before .row .result) (c .before .row .ensures))))
 
 pub name-byte-spec : {M : Type 1} → statement M
-name-byte-spec = tie.close (tie.spec row-requires element-copy-out-result returns returns-2)
+name-byte-spec =
+    tie.close
+    (tie.spec
+    (λ c κs. search needs)  -- row-requires
+    element-copy-out-result
+    returns
+    returns-2)

@@ -4,11 +4,12 @@ use Rattle.eiproto.proofs.Interface.{len-of}
 use Rattle.eiproto.proofs.eiproto_eis.name_len.Statement.{statement}
 use Rattle.eiproto.proofs.eiproto_eis.name_len.Tie as tie
 
-row-requires : tie.Need-row-requires
-row-requires c κs = search needs
-
 returns : tie.Need-returns
 returns c = len-of (c .before .args .number) (c .row .result) (c .row .ensures)
 
 pub name-len-spec : {M : Type 1} → statement M
-name-len-spec = tie.close (tie.spec row-requires returns)
+name-len-spec =
+    tie.close
+    (tie.spec
+    (λ c κs. search needs)  -- row-requires
+    returns)

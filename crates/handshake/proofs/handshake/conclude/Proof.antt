@@ -16,12 +16,6 @@ use Rattle.handshake.proofs.Reports.{length-concluded, length-sent, len
 use Rattle.handshake.proofs.handshake.conclude.Statement.{statement}
 use Rattle.handshake.proofs.handshake.conclude.Tie as tie
 
-report-length-requires : tie.Need-report-length-requires
-report-length-requires c κs = search needs
-
-fixed-length-requires : tie.Need-fixed-length-requires
-fixed-length-requires c κs = search needs
-
 add-if1 : tie.Need-add-if1
 add-if1 c =
     let rows = c .before .before .before .before .args .h .interfaces in
@@ -29,9 +23,6 @@ add-if1 c =
     let l : c .fixed-length .result ≡ 26 = c .fixed-length .ensures ∙ simp length-connection in
     let e : length (versionsOf rows) ≡ 12 = rw length-map n in
     omega (arith, c .before .report-length .ensures, report-short 1 (versionsOf rows))
-
-refused-requires : tie.Need-refused-requires
-refused-requires c κs = search needs
 
 returns : tie.Need-returns
 unfolding viewOf
@@ -51,18 +42,6 @@ returns c =
     ) in
     refused-done h HandshakeError.ShortOut (s .pre .0) (full ∙ room-short (viewOf h) (length out) (concluded (viewOf h)) short) (c .refused .ensures) out
 
-report-requires : tie.Need-report-requires
-report-requires c κs = search needs
-
-send-requires : tie.Need-send-requires
-send-requires c κs = search needs
-
-no-interfaces-requires : tie.Need-no-interfaces-requires
-no-interfaces-requires c κs = search needs
-
-response-of-requires : tie.Need-response-of-requires
-response-of-requires c κs = search needs
-
 add-t10 : tie.Need-add-t10
 add-t10 c =
     let w = c .before .before .before .before .before .before .before .before .report .ensures in
@@ -73,9 +52,6 @@ add-t10 c =
       c .before .before .before .before .before .before .before .before .before .before .if1 .left,
       c .before .before .before .before .before .before .before .before .before .before .before .before .report-length .ensures,
     )
-
-same-length : tie.Need-same-length
-same-length c = search needs
 
 returns-2 : tie.Need-returns-2
 unfolding viewOf
@@ -105,15 +81,15 @@ pub conclude-spec : {M : Type 1} → statement M
 conclude-spec =
     tie.close
     (tie.spec
-    report-length-requires
-    fixed-length-requires
+    (λ c κs. search needs)  -- report-length-requires
+    (λ c κs. search needs)  -- fixed-length-requires
     add-if1
-    refused-requires
+    (λ c κs. search needs)  -- refused-requires
     returns
-    report-requires
-    send-requires
-    no-interfaces-requires
-    response-of-requires
+    (λ c κs. search needs)  -- report-requires
+    (λ c κs. search needs)  -- send-requires
+    (λ c κs. search needs)  -- no-interfaces-requires
+    (λ c κs. search needs)  -- response-of-requires
     add-t10
-    same-length
+    (λ c. search needs)  -- same-length
     returns-2)

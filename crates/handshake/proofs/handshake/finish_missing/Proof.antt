@@ -12,12 +12,6 @@ use Rattle.handshake.proofs.Cases.{finish-missing, room-short, room-eno
 use Rattle.handshake.proofs.handshake.finish_missing.Statement.{statement}
 use Rattle.handshake.proofs.handshake.finish_missing.Tie as tie
 
-report-length-requires : tie.Need-report-length-requires
-report-length-requires c κs = search needs
-
-refused-requires : tie.Need-refused-requires
-refused-requires c κs = search needs
-
 returns : tie.Need-returns
 unfolding viewOf missing
 returns c =
@@ -29,15 +23,6 @@ returns c =
     (finish-missing h (length out) (s .pre .1) ∙ room-short h (length out) (missing h) short)
     (c .refused .ensures)
     out
-
-report-requires : tie.Need-report-requires
-report-requires c κs = search needs
-
-unfinished-requires : tie.Need-unfinished-requires
-unfinished-requires c κs = search needs
-
-same-length : tie.Need-same-length
-same-length c = search needs
 
 returns-2 : tie.Need-returns-2
 unfolding viewOf missing
@@ -55,10 +40,10 @@ pub finish-missing-spec : {M : Type 1} → statement M
 finish-missing-spec =
     tie.close
     (tie.spec
-    report-length-requires
-    refused-requires
+    (λ c κs. search needs)  -- report-length-requires
+    (λ c κs. search needs)  -- refused-requires
     returns
-    report-requires
-    unfinished-requires
-    same-length
+    (λ c κs. search needs)  -- report-requires
+    (λ c κs. search needs)  -- unfinished-requires
+    (λ c. search needs)  -- same-length
     returns-2)

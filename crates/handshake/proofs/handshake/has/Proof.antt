@@ -7,19 +7,16 @@ use Rattle.handshake.proofs.Reports.{has-row, length-rows}
 use Rattle.handshake.proofs.handshake.has.Statement.{statement}
 use Rattle.handshake.proofs.handshake.has.Tie as tie
 
-sub-place : tie.Need-sub-place
-sub-place c = search needs
-
-mul-result : tie.Need-mul-result
-mul-result c = search needs
-
-element-copy-out-result : tie.Need-element-copy-out-result
-element-copy-out-result c = search needs
-
 returns : tie.Need-returns
 returns c =
     let l : length (c .args .t1) ≡ 12 = search (needs, length-rows) in
     has-row (c .args .t1) (c .args .number) _ (omega arith)
 
 pub has-spec : {M : Type 1} → statement M
-has-spec = tie.close (tie.spec sub-place mul-result element-copy-out-result returns)
+has-spec =
+    tie.close
+    (tie.spec
+    (λ c. search needs)  -- sub-place
+    (λ c. search needs)  -- mul-result
+    (λ c. search needs)  -- element-copy-out-result
+    returns)

@@ -3,11 +3,9 @@ use native.Mathlib.Omega.{arith}
 use Rattle.handshake.proofs.handshake.lower.Statement.{statement}
 use Rattle.handshake.proofs.handshake.lower.Tie as tie
 
-returns : tie.Need-returns
-returns c = omega arith
-
-returns-2 : tie.Need-returns-2
-returns-2 c = omega arith
-
 pub lower-spec : {M : Type 1} → statement M
-lower-spec = tie.close (tie.spec returns returns-2)
+lower-spec =
+    tie.close
+    (tie.spec
+    (λ c. omega arith)  -- returns
+    (λ c. omega arith))  -- returns-2

@@ -19,21 +19,6 @@ abbrev μ-loop : tie.MeasureT-loop
 μ-loop text bytes₀ i₀ bytes i =
     length text - i
 
-loop-holds : tie.Need-loop-holds Inv-loop μ-loop
-loop-holds c = search needs
-
-shared-slice-read-bytes : tie.Need-shared-slice-read-bytes Inv-loop μ-loop
-shared-slice-read-bytes c = search needs
-
-array-write-bytes : tie.Need-array-write-bytes Inv-loop μ-loop
-array-write-bytes c = search needs
-
-add-i : tie.Need-add-i Inv-loop μ-loop
-add-i c = search needs
-
-loop-less : tie.Need-loop-less Inv-loop μ-loop
-loop-less c = search needs
-
 loop-again : tie.Need-loop-again Inv-loop μ-loop
 loop-again c =
     let s = c .before .before in
@@ -55,10 +40,10 @@ name-of-spec =
     (tie.spec
     Inv-loop
     μ-loop
-    loop-holds
-    shared-slice-read-bytes
-    array-write-bytes
-    add-i
-    loop-less
+    (λ c. search needs)  -- loop-holds
+    (λ c. search needs)  -- shared-slice-read-bytes
+    (λ c. search needs)  -- array-write-bytes
+    (λ c. search needs)  -- add-i
+    (λ c. search needs)  -- loop-less
     loop-again
     returns)

@@ -14,12 +14,6 @@ use Rattle.handshake.proofs.Reports.{versions-set}
 use Rattle.handshake.proofs.handshake.negotiate.Statement.{statement}
 use Rattle.handshake.proofs.handshake.negotiate.Tie as tie
 
-valid-requires : tie.Need-valid-requires
-valid-requires c κs = search needs
-
-refused-requires : tie.Need-refused-requires
-refused-requires c κs = search needs
-
 returns : tie.Need-returns
 returns c =
     λ out.
@@ -29,51 +23,29 @@ returns c =
     (c .refused .ensures)
     out
 
-find-requires : tie.Need-find-requires
-find-requires c κs = search needs
-
-enum-known-number : tie.Need-enum-known-number
-enum-known-number c = search needs
-
-cast-place : tie.Need-cast-place
-cast-place c = search needs
-
 sub-place : tie.Need-sub-place
 sub-place c =
     let e = found-in (c .before .before .before .before .before .before .before .args .text .now) _ (c .before .before .before .find .ensures) (c .before .number .given .1) in
     omega (arith, e .0)
-
-version-requires : tie.Need-version-requires
-version-requires c κs = search needs
-
-lower-requires : tie.Need-lower-requires
-lower-requires c κs = search needs
-
-mul-t12 : tie.Need-mul-t12
-mul-t12 c = search needs
 
 element-set-from-agreed : tie.Need-element-set-from-agreed
 element-set-from-agreed c =
     let e = found-in (c .before .before .before .before .before .before .before .before .before .args .text .now) _ (c .before .before .before .before .before .find .ensures) (c .before .before .before .number .given .1) in
     omega (arith, e .1)
 
-accepted-requires : tie.Need-accepted-requires
-accepted-requires c κs = search needs
-
-enum-told : tie.Need-enum-told
-enum-told c = search needs
-
-accepted-requires-2 : tie.Need-accepted-requires-2
-accepted-requires-2 c κs = search needs
-
 returns-2 : tie.Need-returns-2
 unfolding viewOf versionIn isSound negotiate
 returns-2 c =
+    let at-number = c .before .before .before .before in
+    let at-find = at-number .before .before in
+    let at-if1 = at-find .before in
+    let at-valid = at-if1 .before in
+    let at-start = at-valid .before .before in
     λ out.
-    let a = c .before .before .before .before .before .before .before .before .before .before .args in
-    let valid = sym (c .before .before .before .before .before .before .before .before .valid .ensures) ∙ not-false _ (c .before .before .before .before .before .before .before .if1 .left) in
-    let found = sym (ap numberFound (c .before .before .before .before .number .given .1)) ∙ c .before .before .before .before .before .before .find .ensures in
-    accepted-done (a .h) _ (c .before .before .before .before .before .before .before .before .before .before .pre)
+    let a = at-start .args in
+    let valid = sym (at-valid .valid .ensures) ∙ not-false _ (at-if1 .if1 .left) in
+    let found = sym (ap numberFound (at-number .number .given .1)) ∙ at-find .find .ensures in
+    accepted-done (a .h) _ (at-start .pre)
     (version-set (viewOf (a .h)) (length out) (a .text .now) valid (a .version) found
     ∙ rw (versions-set, c .before .lower .ensures, c .before .before .version .ensures))
     (c .accepted .ensures)
@@ -82,11 +54,15 @@ returns-2 c =
 returns-3 : tie.Need-returns-3
 unfolding viewOf versionIn negotiate
 returns-3 c =
+    let at-find = c .before .before .before in
+    let at-if1 = at-find .before in
+    let at-valid = at-if1 .before in
+    let at-start = at-valid .before .before in
     λ out.
-    let a = c .before .before .before .before .before .before .before .args in
-    let valid = sym (c .before .before .before .before .before .valid .ensures) ∙ not-false _ (c .before .before .before .before .if1 .left) in
-    let found = sym (ap numberFound (c .before .enum-told .given .1)) ∙ c .before .before .before .find .ensures in
-    accepted-done (a .h) (a .h) (c .before .before .before .before .before .before .before .pre)
+    let a = at-start .args in
+    let valid = sym (at-valid .valid .ensures) ∙ not-false _ (at-if1 .if1 .left) in
+    let found = sym (ap numberFound (c .before .enum-told .given .1)) ∙ at-find .find .ensures in
+    accepted-done (a .h) (a .h) (at-start .pre)
     (version-set (viewOf (a .h)) (length out) (a .text .now) valid (a .version) found)
     (c .accepted2 .ensures)
     out
@@ -95,19 +71,19 @@ pub negotiate-spec : {M : Type 1} → statement M
 negotiate-spec =
     tie.close
     (tie.spec
-    valid-requires
-    refused-requires
+    (λ c κs. search needs)  -- valid-requires
+    (λ c κs. search needs)  -- refused-requires
     returns
-    find-requires
-    enum-known-number
-    cast-place
+    (λ c κs. search needs)  -- find-requires
+    (λ c. search needs)  -- enum-known-number
+    (λ c. search needs)  -- cast-place
     sub-place
-    version-requires
-    lower-requires
-    mul-t12
+    (λ c κs. search needs)  -- version-requires
+    (λ c κs. search needs)  -- lower-requires
+    (λ c. search needs)  -- mul-t12
     element-set-from-agreed
-    accepted-requires
-    enum-told
-    accepted-requires-2
+    (λ c κs. search needs)  -- accepted-requires
+    (λ c. search needs)  -- enum-told
+    (λ c κs. search needs)  -- accepted-requires-2
     returns-2
     returns-3)

@@ -4,16 +4,15 @@ use Rattle.handshake.specs.View.{noResponse}
 use Rattle.handshake.proofs.handshake.no_response.Statement.{statement}
 use Rattle.handshake.proofs.handshake.no_response.Tie as tie
 
-no-name-requires : tie.Need-no-name-requires
-no-name-requires c κs = search needs
-
-no-interfaces-requires : tie.Need-no-interfaces-requires
-no-interfaces-requires c κs = search needs
-
 returns : tie.Need-returns
 unfolding noResponse
 returns c =
     rw (c .before .no-name .ensures, c .no-interfaces .ensures)
 
 pub no-response-spec : {M : Type 1} → statement M
-no-response-spec = tie.close (tie.spec no-name-requires no-interfaces-requires returns)
+no-response-spec =
+    tie.close
+    (tie.spec
+    (λ c κs. search needs)  -- no-name-requires
+    (λ c κs. search needs)  -- no-interfaces-requires
+    returns)

@@ -5,12 +5,6 @@ use Rattle.handshake.specs.View.{contextOf}
 use Rattle.handshake.proofs.handshake.or_receiver.Statement.{statement}
 use Rattle.handshake.proofs.handshake.or_receiver.Tie as tie
 
-enum-known-context : tie.Need-enum-known-context
-enum-known-context c = search needs
-
-enum-told : tie.Need-enum-told
-enum-told c = search needs
-
 returns : tie.Need-returns
 unfolding orReceiver contextOf
 returns c =
@@ -22,4 +16,10 @@ returns-2 c =
     rw (c .enum-told .given .1)
 
 pub or-receiver-spec : {M : Type 1} → statement M
-or-receiver-spec = tie.close (tie.spec enum-known-context enum-told returns returns-2)
+or-receiver-spec =
+    tie.close
+    (tie.spec
+    (λ c. search needs)  -- enum-known-context
+    (λ c. search needs)  -- enum-told
+    returns
+    returns-2)

@@ -26,21 +26,6 @@ unfolding report
 loop-holds c =
     (omega arith, (refl, wrote-none _ 0))
 
-mul-row : tie.Need-mul-row Inv-loop μ-loop
-mul-row c = search needs
-
-array-copy-out-row : tie.Need-array-copy-out-row Inv-loop μ-loop
-array-copy-out-row c = search needs
-
-add-i : tie.Need-add-i Inv-loop μ-loop
-add-i c = search needs
-
-cast-t13 : tie.Need-cast-t13 Inv-loop μ-loop
-cast-t13 c = search needs
-
-send-requires : tie.Need-send-requires Inv-loop μ-loop
-send-requires c κs = search needs
-
 -- a turn that writes
 turn : (c : tie.After-slice-known2 Inv-loop μ-loop)
     → Wrote (c .before .before .before .before .before .before .before .before .before .args .out .now) (c .before .before .send .last .0) 0
@@ -58,14 +43,8 @@ add-at c =
     let s = c .before .before .before .before .before .before .before .loop in
     omega (arith, turn c .long, report-le (s .i + 1) (versionsOf (c .before .before .before .before .before .before .before .before .before .args .t1)))
 
-loop-less : tie.Need-loop-less Inv-loop μ-loop
-loop-less c = search needs
-
 loop-again : tie.Need-loop-again Inv-loop μ-loop
 loop-again c = (omega arith, (c .before .before .send .kept .0 ∙ c .before .before .before .before .before .before .before .loop .inv .1 .0, turn c))
-
-loop-less-2 : tie.Need-loop-less-2 Inv-loop μ-loop
-loop-less-2 c = search needs
 
 loop-again-2 : tie.Need-loop-again-2 Inv-loop μ-loop
 loop-again-2 c =
@@ -73,9 +52,6 @@ loop-again-2 c =
     let rows = c .before .before .before .before .before .args .t1 in
     let n : length rows ≡ 12 = search (needs, length-rows) in
     (omega arith, (s .inv .1 .0, rw (report-miss rows (s .i) _ (omega arith) (c .if1 .left)) (s .inv .1 .1)))
-
-same-length : tie.Need-same-length Inv-loop μ-loop
-same-length c = search needs
 
 returns : tie.Need-returns Inv-loop μ-loop
 returns c =
@@ -91,15 +67,15 @@ report-spec =
     Inv-loop
     μ-loop
     loop-holds
-    mul-row
-    array-copy-out-row
-    add-i
-    cast-t13
-    send-requires
+    (λ c. search needs)  -- mul-row
+    (λ c. search needs)  -- array-copy-out-row
+    (λ c. search needs)  -- add-i
+    (λ c. search needs)  -- cast-t13
+    (λ c κs. search needs)  -- send-requires
     add-at
-    loop-less
+    (λ c. search needs)  -- loop-less
     loop-again
-    loop-less-2
+    (λ c. search needs)  -- loop-less-2
     loop-again-2
-    same-length
+    (λ c. search needs)  -- same-length
     returns)

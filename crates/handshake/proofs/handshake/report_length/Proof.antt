@@ -24,28 +24,10 @@ unfolding report
 loop-holds c =
     (omega arith, (omega arith, refl))
 
-mul-row : tie.Need-mul-row Inv-loop μ-loop
-mul-row c = search needs
-
-array-copy-out-row : tie.Need-array-copy-out-row Inv-loop μ-loop
-array-copy-out-row c = search needs
-
-add-i : tie.Need-add-i Inv-loop μ-loop
-add-i c = search needs
-
-cast-t12 : tie.Need-cast-t12 Inv-loop μ-loop
-cast-t12 c = search needs
-
-fixed-length-requires : tie.Need-fixed-length-requires Inv-loop μ-loop
-fixed-length-requires c κs = search needs
-
 add-total : tie.Need-add-total Inv-loop μ-loop
 add-total c =
     let l : c .fixed-length .result ≡ 15 = c .fixed-length .ensures ∙ simp length-version in
     omega arith
-
-loop-less : tie.Need-loop-less Inv-loop μ-loop
-loop-less c = search needs
 
 loop-again : tie.Need-loop-again Inv-loop μ-loop
 loop-again c =
@@ -54,9 +36,6 @@ loop-again c =
     let n : length rows ≡ 12 = search (needs, length-rows) in
     let l : c .fixed-length .result ≡ 15 = c .fixed-length .ensures ∙ simp length-version in
     (omega arith, (omega arith, omega (arith, c .fixed-length .ensures, length-hit rows (s .i) _ (omega arith) (c .before .if1 .taken))))
-
-loop-less-2 : tie.Need-loop-less-2 Inv-loop μ-loop
-loop-less-2 c = search needs
 
 loop-again-2 : tie.Need-loop-again-2 Inv-loop μ-loop
 loop-again-2 c =
@@ -79,14 +58,14 @@ report-length-spec =
     Inv-loop
     μ-loop
     loop-holds
-    mul-row
-    array-copy-out-row
-    add-i
-    cast-t12
-    fixed-length-requires
+    (λ c. search needs)  -- mul-row
+    (λ c. search needs)  -- array-copy-out-row
+    (λ c. search needs)  -- add-i
+    (λ c. search needs)  -- cast-t12
+    (λ c κs. search needs)  -- fixed-length-requires
     add-total
-    loop-less
+    (λ c. search needs)  -- loop-less
     loop-again
-    loop-less-2
+    (λ c. search needs)  -- loop-less-2
     loop-again-2
     returns)

@@ -6,13 +6,14 @@ use Rattle.handshake.specs.View.{viewOf, responseOf}
 use Rattle.handshake.proofs.handshake.response_of.Statement.{statement}
 use Rattle.handshake.proofs.handshake.response_of.Tie as tie
 
-or-receiver-requires : tie.Need-or-receiver-requires
-or-receiver-requires c κs = search needs
-
 returns : tie.Need-returns
 unfolding settled viewOf responseOf
 returns c =
     (rw (c .before .or-receiver .ensures, c .before .before .before .pre), refl)
 
 pub response-of-spec : {M : Type 1} → statement M
-response-of-spec = tie.close (tie.spec or-receiver-requires returns)
+response-of-spec =
+    tie.close
+    (tie.spec
+    (λ c κs. search needs)  -- or-receiver-requires
+    returns)

@@ -10,12 +10,6 @@ use Rattle.handshake.proofs.Cases.{name-bad, name-long, name-twice, nam
 use Rattle.handshake.proofs.handshake.set_name.Statement.{statement}
 use Rattle.handshake.proofs.handshake.set_name.Tie as tie
 
-valid-requires : tie.Need-valid-requires
-valid-requires c κs = search needs
-
-refused-requires : tie.Need-refused-requires
-refused-requires c κs = search needs
-
 returns : tie.Need-returns
 returns c =
     λ out.
@@ -24,9 +18,6 @@ returns c =
     (name-bad (viewOf (a .h)) (length out) (a .text .now) (sym (c .before .before .valid .ensures) ∙ not-true _ (c .before .if1 .taken)))
     (c .refused .ensures)
     out
-
-refused-requires-2 : tie.Need-refused-requires-2
-refused-requires-2 c κs = search needs
 
 returns-2 : tie.Need-returns-2
 returns-2 c =
@@ -37,35 +28,33 @@ returns-2 c =
     (c .refused2 .ensures)
     out
 
-refused-requires-3 : tie.Need-refused-requires-3
-refused-requires-3 c κs = search needs
-
 returns-3 : tie.Need-returns-3
 unfolding viewOf nameOf
 returns-3 c =
+    let at-if1 = c .before .before .before in
+    let at-valid = at-if1 .before in
+    let at-start = at-valid .before .before in
     λ out.
-    let a = c .before .before .before .before .before .before .args in
-    let valid = sym (c .before .before .before .before .valid .ensures) ∙ not-false _ (c .before .before .before .if1 .left) in
-    refused-done (a .h) HandshakeError.DuplicateEvent (c .before .before .before .before .before .before .pre)
+    let a = at-start .args in
+    let valid = sym (at-valid .valid .ensures) ∙ not-false _ (at-if1 .if1 .left) in
+    refused-done (a .h) HandshakeError.DuplicateEvent (at-start .pre)
     (name-twice (viewOf (a .h)) (length out) (a .text .now) valid (c .before .before .if2 .left) {old = take (a .h .name .length) (a .h .name .bytes)} (rw (c .before .if3 .taken)))
     (c .refused3 .ensures)
     out
 
-name-of-requires : tie.Need-name-of-requires
-name-of-requires c κs = search needs
-
-accepted-requires : tie.Need-accepted-requires
-accepted-requires c κs = search needs
-
 returns-4 : tie.Need-returns-4
 unfolding viewOf nameOf isSound
 returns-4 c =
+    let at-if2 = c .before .before .before in
+    let at-if1 = at-if2 .before in
+    let at-valid = at-if1 .before in
+    let at-start = at-valid .before .before in
     λ out.
-    let a = c .before .before .before .before .before .before .before .args in
+    let a = at-start .args in
     let n = c .before .name-of in
-    let valid = sym (c .before .before .before .before .before .valid .ensures) ∙ not-false _ (c .before .before .before .before .if1 .left) in
+    let valid = sym (at-valid .valid .ensures) ∙ not-false _ (at-if1 .if1 .left) in
     accepted-done (a .h) _ (le-leb (n .result .length) 254 (n .ensures .1))
-    (name-first (viewOf (a .h)) (length out) (a .text .now) valid (c .before .before .before .if2 .left) (rw (c .before .before .if3 .left)) ∙ rw (n .ensures .0))
+    (name-first (viewOf (a .h)) (length out) (a .text .now) valid (at-if2 .if2 .left) (rw (c .before .before .if3 .left)) ∙ rw (n .ensures .0))
     (c .accepted .ensures)
     out
 
@@ -73,13 +62,13 @@ pub set-name-spec : {M : Type 1} → statement M
 set-name-spec =
     tie.close
     (tie.spec
-    valid-requires
-    refused-requires
+    (λ c κs. search needs)  -- valid-requires
+    (λ c κs. search needs)  -- refused-requires
     returns
-    refused-requires-2
+    (λ c κs. search needs)  -- refused-requires-2
     returns-2
-    refused-requires-3
+    (λ c κs. search needs)  -- refused-requires-3
     returns-3
-    name-of-requires
-    accepted-requires
+    (λ c κs. search needs)  -- name-of-requires
+    (λ c κs. search needs)  -- accepted-requires
     returns-4)

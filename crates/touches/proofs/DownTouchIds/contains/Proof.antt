@@ -4,14 +4,13 @@ use Rattle.touches.proofs.Laws.{member-position}
 use Rattle.touches.proofs.DownTouchIds.contains.Statement.{statement}
 use Rattle.touches.proofs.DownTouchIds.contains.Tie as tie
 
-position-requires : tie.Need-position-requires
-position-requires c κs = search needs
-
-len-requires : tie.Need-len-requires
-len-requires c κs = search needs
-
 returns : tie.Need-returns
 returns c = rw (c .before .position .ensures, c .len .ensures, member-position)
 
 pub contains-spec : {M : Type 1} → statement M
-contains-spec = tie.close (tie.spec position-requires len-requires returns)
+contains-spec =
+    tie.close
+    (tie.spec
+    (λ c κs. search needs)  -- position-requires
+    (λ c κs. search needs)  -- len-requires
+    returns)

@@ -53,14 +53,8 @@ few c =
     let l : length (d .ids) ≡ 16 = search needs in
     omega (arith, held-bound d, c .if1 .left)
 
-len-requires : tie.Need-len-requires
-len-requires c κs = search needs
-
 returns : tie.Need-returns
 returns c = too-many (c .before .before .args .id) (c .before .before .args .self) (omega arith)
-
-contains-requires : tie.Need-contains-requires
-contains-requires c κs = search needs
 
 returns-2 : tie.Need-returns-2
 returns-2 c =
@@ -85,9 +79,9 @@ pub inserted-spec : {M : Type 1} → statement M
 inserted-spec =
     tie.close
     (tie.spec
-    len-requires
+    (λ c κs. search needs)  -- len-requires
     returns
-    contains-requires
+    (λ c κs. search needs)  -- contains-requires
     returns-2
     mul-touches
     element-write-touches

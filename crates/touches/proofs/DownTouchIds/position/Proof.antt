@@ -21,12 +21,6 @@ below c =
     let l : length (d .ids) ≡ 16 = search needs in
     omega (arith, held-bound d)
 
-len-requires : tie.Need-len-requires Inv-loop μ-loop
-len-requires c κs = search needs
-
-loop-holds : tie.Need-loop-holds Inv-loop μ-loop
-loop-holds c = search needs
-
 mul-if1 : tie.Need-mul-if1 Inv-loop μ-loop
 mul-if1 c = omega (arith, below c)
 
@@ -39,12 +33,6 @@ returns c =
     let d = at .before .before .args .t1 in
     let h : at .loop .i < length (held d) = omega arith in
     omega (arith, at .loop .inv .1, position-is (at .before .before .args .id) (held d) (at .loop .i) h (held-at d (at .loop .i) h ∙ c .if1 .taken))
-
-add-i : tie.Need-add-i Inv-loop μ-loop
-add-i c = search needs
-
-loop-less : tie.Need-loop-less Inv-loop μ-loop
-loop-less c = search needs
 
 loop-again : tie.Need-loop-again Inv-loop μ-loop
 loop-again c =
@@ -65,12 +53,12 @@ position-spec =
     (tie.spec
     Inv-loop
     μ-loop
-    len-requires
-    loop-holds
+    (λ c κs. search needs)  -- len-requires
+    (λ c. search needs)  -- loop-holds
     mul-if1
     element-copy-out-if1
     returns
-    add-i
-    loop-less
+    (λ c. search needs)  -- add-i
+    (λ c. search needs)  -- loop-less
     loop-again
     returns-2)

@@ -72,12 +72,6 @@ Inv-loop id self n k₀ touches₀ k touches = Moved id self k touches
 abbrev μ-loop : tie.MeasureT-loop
 μ-loop id self n k₀ touches₀ k touches = n - k
 
-len-requires : tie.Need-len-requires Inv-loop μ-loop
-len-requires c κs = search needs
-
-position-requires : tie.Need-position-requires Inv-loop μ-loop
-position-requires c κs = search needs
-
 returns : tie.Need-returns Inv-loop μ-loop
 returns c =
     let at = c .before .before .before in
@@ -88,38 +82,11 @@ loop-holds c =
     let at = c .before .before .before in
     rw (← c .before .position .ensures) at (begins (at .args .id) (at .args .t1) (search needs) (omega arith))
 
-add-loop : tie.Need-add-loop Inv-loop μ-loop
-add-loop c = search needs
-
-add-touches : tie.Need-add-touches Inv-loop μ-loop
-add-touches c = search needs
-
-mul-touches : tie.Need-mul-touches Inv-loop μ-loop
-mul-touches c = search needs
-
-element-copy-out-touches : tie.Need-element-copy-out-touches Inv-loop μ-loop
-element-copy-out-touches c = search needs
-
-mul-touches-2 : tie.Need-mul-touches-2 Inv-loop μ-loop
-mul-touches-2 c = search needs
-
-element-write-touches : tie.Need-element-write-touches Inv-loop μ-loop
-element-write-touches c = search needs
-
-add-k : tie.Need-add-k Inv-loop μ-loop
-add-k c = search needs
-
-loop-less : tie.Need-loop-less Inv-loop μ-loop
-loop-less c = search needs
-
 loop-again : tie.Need-loop-again Inv-loop μ-loop
 loop-again c =
     let at = c .before .before in
     let start = at .before .before .before .before in
     goes-on (start .args .id) (start .args .t1) (at .loop .k) (at .loop .touches) (at .loop .inv) (omega arith)
-
-sub-touches : tie.Need-sub-touches Inv-loop μ-loop
-sub-touches c = search needs
 
 returns-2 : tie.Need-returns-2 Inv-loop μ-loop
 returns-2 c =
@@ -133,18 +100,18 @@ removed-spec =
     (tie.spec
     Inv-loop
     μ-loop
-    len-requires
-    position-requires
+    (λ c κs. search needs)  -- len-requires
+    (λ c κs. search needs)  -- position-requires
     returns
     loop-holds
-    add-loop
-    add-touches
-    mul-touches
-    element-copy-out-touches
-    mul-touches-2
-    element-write-touches
-    add-k
-    loop-less
+    (λ c. search needs)  -- add-loop
+    (λ c. search needs)  -- add-touches
+    (λ c. search needs)  -- mul-touches
+    (λ c. search needs)  -- element-copy-out-touches
+    (λ c. search needs)  -- mul-touches-2
+    (λ c. search needs)  -- element-write-touches
+    (λ c. search needs)  -- add-k
+    (λ c. search needs)  -- loop-less
     loop-again
-    sub-touches
+    (λ c. search needs)  -- sub-touches
     returns-2)

@@ -8,17 +8,11 @@ use Rattle.wire.specs.Ids.{newObjects}
 use Rattle.wire.proofs.backend.new_objects.Statement.{statement}
 use Rattle.wire.proofs.backend.new_objects.Tie as tie
 
-sub-if1 : tie.Need-sub-if1
-sub-if1 c = search needs
-
 returns : tie.Need-returns
 unfolding newObjects
 returns c =
     let a = c .before .args in
     simp (lt-ltb 0xffff_ffff_ffff_ffff (a .next + a .count) (omega arith))
-
-add-t3 : tie.Need-add-t3
-add-t3 c = search needs
 
 returns-2 : tie.Need-returns-2
 unfolding newObjects
@@ -27,4 +21,10 @@ returns-2 c =
     simp (le-ltb 0xffff_ffff_ffff_ffff (a .next + a .count) (omega arith))
 
 pub new-objects-spec : {M : Type 1} → statement M
-new-objects-spec = tie.close (tie.spec sub-if1 returns add-t3 returns-2)
+new-objects-spec =
+    tie.close
+    (tie.spec
+    (λ c. search needs)  -- sub-if1
+    returns
+    (λ c. search needs)  -- add-t3
+    returns-2)

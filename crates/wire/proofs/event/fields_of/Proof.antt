@@ -6,171 +6,6 @@ use Rattle.wire.proofs.Records.{layoutOf, laid}
 use Rattle.wire.proofs.event.fields_of.Statement.{statement}
 use Rattle.wire.proofs.event.fields_of.Tie as tie
 
-enum-known-e : tie.Need-enum-known-e
-enum-known-e c = search needs
-
-cast-two : tie.Need-cast-two
-cast-two c = search needs
-
-two-requires : tie.Need-two-requires
-two-requires c κs = search needs
-
-enum-told : tie.Need-enum-told
-enum-told c = search needs
-
-none-requires : tie.Need-none-requires
-none-requires c κs = search needs
-
-texted-requires : tie.Need-texted-requires
-texted-requires c κs = search needs
-
-enum-known-e-2 : tie.Need-enum-known-e-2
-enum-known-e-2 c = search needs
-
-cast-two-2 : tie.Need-cast-two-2
-cast-two-2 c = search needs
-
-two-requires-2 : tie.Need-two-requires-2
-two-requires-2 c κs = search needs
-
-enum-told-2 : tie.Need-enum-told-2
-enum-told-2 c = search needs
-
-none-requires-2 : tie.Need-none-requires-2
-none-requires-2 c κs = search needs
-
-enum-known-e-3 : tie.Need-enum-known-e-3
-enum-known-e-3 c = search needs
-
-cast-one : tie.Need-cast-one
-cast-one c = search needs
-
-one-requires : tie.Need-one-requires
-one-requires c κs = search needs
-
-enum-known-e-4 : tie.Need-enum-known-e-4
-enum-known-e-4 c = search needs
-
-cast-two-3 : tie.Need-cast-two-3
-cast-two-3 c = search needs
-
-two-requires-3 : tie.Need-two-requires-3
-two-requires-3 c κs = search needs
-
-enum-known-e-5 : tie.Need-enum-known-e-5
-enum-known-e-5 c = search needs
-
-cast-one-2 : tie.Need-cast-one-2
-cast-one-2 c = search needs
-
-one-requires-2 : tie.Need-one-requires-2
-one-requires-2 c κs = search needs
-
-enum-known-e-6 : tie.Need-enum-known-e-6
-enum-known-e-6 c = search needs
-
-cast-three : tie.Need-cast-three
-cast-three c = search needs
-
-cast-three-2 : tie.Need-cast-three-2
-cast-three-2 c = search needs
-
-three-requires : tie.Need-three-requires
-three-requires c κs = search needs
-
-enum-known-e-7 : tie.Need-enum-known-e-7
-enum-known-e-7 c = search needs
-
-cast-one-3 : tie.Need-cast-one-3
-cast-one-3 c = search needs
-
-one-requires-3 : tie.Need-one-requires-3
-one-requires-3 c κs = search needs
-
-enum-known-e-8 : tie.Need-enum-known-e-8
-enum-known-e-8 c = search needs
-
-cast-one-4 : tie.Need-cast-one-4
-cast-one-4 c = search needs
-
-one-requires-4 : tie.Need-one-requires-4
-one-requires-4 c κs = search needs
-
-enum-known-e-9 : tie.Need-enum-known-e-9
-enum-known-e-9 c = search needs
-
-cast-two-4 : tie.Need-cast-two-4
-cast-two-4 c = search needs
-
-cast-two-5 : tie.Need-cast-two-5
-cast-two-5 c = search needs
-
-two-requires-4 : tie.Need-two-requires-4
-two-requires-4 c κs = search needs
-
-enum-known-e-10 : tie.Need-enum-known-e-10
-enum-known-e-10 c = search needs
-
-cast-one-5 : tie.Need-cast-one-5
-cast-one-5 c = search needs
-
-one-requires-5 : tie.Need-one-requires-5
-one-requires-5 c κs = search needs
-
-enum-known-e-11 : tie.Need-enum-known-e-11
-enum-known-e-11 c = search needs
-
-cast-two-6 : tie.Need-cast-two-6
-cast-two-6 c = search needs
-
-two-requires-5 : tie.Need-two-requires-5
-two-requires-5 c κs = search needs
-
-enum-known-e-12 : tie.Need-enum-known-e-12
-enum-known-e-12 c = search needs
-
-disconnected-requires : tie.Need-disconnected-requires
-disconnected-requires c κs = search needs
-
-enum-known-e-13 : tie.Need-enum-known-e-13
-enum-known-e-13 c = search needs
-
-one-requires-6 : tie.Need-one-requires-6
-one-requires-6 c κs = search needs
-
-enum-known-e-14 : tie.Need-enum-known-e-14
-enum-known-e-14 c = search needs
-
-cast-one-6 : tie.Need-cast-one-6
-cast-one-6 c = search needs
-
-one-requires-7 : tie.Need-one-requires-7
-one-requires-7 c κs = search needs
-
-enum-known-e-15 : tie.Need-enum-known-e-15
-enum-known-e-15 c = search needs
-
-cast-two-7 : tie.Need-cast-two-7
-cast-two-7 c = search needs
-
-cast-two-8 : tie.Need-cast-two-8
-cast-two-8 c = search needs
-
-two-requires-6 : tie.Need-two-requires-6
-two-requires-6 c κs = search needs
-
-enum-known-e-16 : tie.Need-enum-known-e-16
-enum-known-e-16 c = search needs
-
-cast-three-3 : tie.Need-cast-three-3
-cast-three-3 c = search needs
-
-cast-three-4 : tie.Need-cast-three-4
-cast-three-4 c = search needs
-
-three-requires-2 : tie.Need-three-requires-2
-three-requires-2 c κs = search needs
-
 returns : tie.Need-returns
 unfolding layout layoutOf
 returns c = laid (c .before .before .e .given .1) (c .two .ensures) refl tt tt
@@ -247,61 +82,61 @@ pub fields-of-spec : {M : Type 1} → statement M
 fields-of-spec =
     tie.close
     (tie.spec
-    enum-known-e
-    cast-two
-    two-requires
-    enum-told
-    none-requires
-    texted-requires
-    enum-known-e-2
-    cast-two-2
-    two-requires-2
-    enum-told-2
-    none-requires-2
-    enum-known-e-3
-    cast-one
-    one-requires
-    enum-known-e-4
-    cast-two-3
-    two-requires-3
-    enum-known-e-5
-    cast-one-2
-    one-requires-2
-    enum-known-e-6
-    cast-three
-    cast-three-2
-    three-requires
-    enum-known-e-7
-    cast-one-3
-    one-requires-3
-    enum-known-e-8
-    cast-one-4
-    one-requires-4
-    enum-known-e-9
-    cast-two-4
-    cast-two-5
-    two-requires-4
-    enum-known-e-10
-    cast-one-5
-    one-requires-5
-    enum-known-e-11
-    cast-two-6
-    two-requires-5
-    enum-known-e-12
-    disconnected-requires
-    enum-known-e-13
-    one-requires-6
-    enum-known-e-14
-    cast-one-6
-    one-requires-7
-    enum-known-e-15
-    cast-two-7
-    cast-two-8
-    two-requires-6
-    enum-known-e-16
-    cast-three-3
-    cast-three-4
-    three-requires-2
+    (λ c. search needs)  -- enum-known-e
+    (λ c. search needs)  -- cast-two
+    (λ c κs. search needs)  -- two-requires
+    (λ c. search needs)  -- enum-told
+    (λ c κs. search needs)  -- none-requires
+    (λ c κs. search needs)  -- texted-requires
+    (λ c. search needs)  -- enum-known-e-2
+    (λ c. search needs)  -- cast-two-2
+    (λ c κs. search needs)  -- two-requires-2
+    (λ c. search needs)  -- enum-told-2
+    (λ c κs. search needs)  -- none-requires-2
+    (λ c. search needs)  -- enum-known-e-3
+    (λ c. search needs)  -- cast-one
+    (λ c κs. search needs)  -- one-requires
+    (λ c. search needs)  -- enum-known-e-4
+    (λ c. search needs)  -- cast-two-3
+    (λ c κs. search needs)  -- two-requires-3
+    (λ c. search needs)  -- enum-known-e-5
+    (λ c. search needs)  -- cast-one-2
+    (λ c κs. search needs)  -- one-requires-2
+    (λ c. search needs)  -- enum-known-e-6
+    (λ c. search needs)  -- cast-three
+    (λ c. search needs)  -- cast-three-2
+    (λ c κs. search needs)  -- three-requires
+    (λ c. search needs)  -- enum-known-e-7
+    (λ c. search needs)  -- cast-one-3
+    (λ c κs. search needs)  -- one-requires-3
+    (λ c. search needs)  -- enum-known-e-8
+    (λ c. search needs)  -- cast-one-4
+    (λ c κs. search needs)  -- one-requires-4
+    (λ c. search needs)  -- enum-known-e-9
+    (λ c. search needs)  -- cast-two-4
+    (λ c. search needs)  -- cast-two-5
+    (λ c κs. search needs)  -- two-requires-4
+    (λ c. search needs)  -- enum-known-e-10
+    (λ c. search needs)  -- cast-one-5
+    (λ c κs. search needs)  -- one-requires-5
+    (λ c. search needs)  -- enum-known-e-11
+    (λ c. search needs)  -- cast-two-6
+    (λ c κs. search needs)  -- two-requires-5
+    (λ c. search needs)  -- enum-known-e-12
+    (λ c κs. search needs)  -- disconnected-requires
+    (λ c. search needs)  -- enum-known-e-13
+    (λ c κs. search needs)  -- one-requires-6
+    (λ c. search needs)  -- enum-known-e-14
+    (λ c. search needs)  -- cast-one-6
+    (λ c κs. search needs)  -- one-requires-7
+    (λ c. search needs)  -- enum-known-e-15
+    (λ c. search needs)  -- cast-two-7
+    (λ c. search needs)  -- cast-two-8
+    (λ c κs. search needs)  -- two-requires-6
+    (λ c. search needs)  -- enum-known-e-16
+    (λ c. search needs)  -- cast-three-3
+    (λ c. search needs)  -- cast-three-4
+    (λ c κs. search needs)  -- three-requires-2
     returns
     returns-2
     returns-3

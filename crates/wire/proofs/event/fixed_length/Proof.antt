@@ -5,14 +5,13 @@ use Rattle.wire.proofs.Records.{fixed-is}
 use Rattle.wire.proofs.event.fixed_length.Statement.{statement}
 use Rattle.wire.proofs.event.fixed_length.Tie as tie
 
-fields-of-requires : tie.Need-fields-of-requires
-fields-of-requires c κs = search needs
-
-fixed-requires : tie.Need-fixed-requires
-fixed-requires c κs = search needs
-
 returns : tie.Need-returns
 returns c = c .fixed .ensures ∙ sym (fixed-is (c .before .fields-of .ensures))
 
 pub fixed-length-spec : {M : Type 1} → statement M
-fixed-length-spec = tie.close (tie.spec fields-of-requires fixed-requires returns)
+fixed-length-spec =
+    tie.close
+    (tie.spec
+    (λ c κs. search needs)  -- fields-of-requires
+    (λ c κs. search needs)  -- fixed-requires
+    returns)

@@ -8,38 +8,19 @@ use Rattle.wire.proofs.Splices.{wrote-join}
 use Rattle.wire.proofs.event.put_start.Statement.{statement}
 use Rattle.wire.proofs.event.put_start.Tie as tie
 
-mul-put : tie.Need-mul-put
-mul-put c = search needs
-
-add-put : tie.Need-add-put
-add-put c = search needs
-
-put-requires : tie.Need-put-requires
-put-requires c κs = search needs
-
-put-requires-2 : tie.Need-put-requires-2
-put-requires-2 c κs = search needs
-
-put-requires-3 : tie.Need-put-requires-3
-put-requires-3 c κs = search needs
-
-put-requires-4 : tie.Need-put-requires-4
-put-requires-4 c κs = search needs
-
-put-requires-5 : tie.Need-put-requires-5
-put-requires-5 c κs = search needs
-
-same-length : tie.Need-same-length
-same-length c = search needs
-
 returns : tie.Need-returns
 returns c =
-    let f = c .before .before .before .before .before .before .before .before .before .before .before .before .before .before .before .before .before .before .before .before .before .before .args .f in
-    let fits = c .before .before .before .before .before .before .before .before .before .before .before .before .before .before .before .before .before .before .before .before .before .before .pre .1 in
-    let p = c .before .before .before .before .before .before .before .before .before .before .before .before .before .before .before .before .before .before .put in
-    let q = c .before .before .before .before .before .before .before .before .before .before .before .before .before .before .put2 in
-    let r = c .before .before .before .before .before .before .before .before .before .before .put3 in
-    let s = c .before .before .before .before .before .before .put4 in
+    let at-put4 = c .before .before .before .before .before .before in
+    let at-put3 = at-put4 .before .before .before .before in
+    let at-put2 = at-put3 .before .before .before .before in
+    let at-put = at-put2 .before .before .before .before in
+    let at-start = at-put .before .before .before .before in
+    let f = at-start .args .f in
+    let fits = at-start .pre .1 in
+    let p = at-put .put in
+    let q = at-put2 .put2 in
+    let r = at-put3 .put3 in
+    let s = at-put4 .put4 in
     let e : 2 + (8 + size f) ≡ 10 + size f = omega arith in
     rw e at
     (wrote-join (p .ensures)
@@ -55,12 +36,12 @@ pub put-start-spec : {M : Type 1} → statement M
 put-start-spec =
     tie.close
     (tie.spec
-    mul-put
-    add-put
-    put-requires
-    put-requires-2
-    put-requires-3
-    put-requires-4
-    put-requires-5
-    same-length
+    (λ c. search needs)  -- mul-put
+    (λ c. search needs)  -- add-put
+    (λ c κs. search needs)  -- put-requires
+    (λ c κs. search needs)  -- put-requires-2
+    (λ c κs. search needs)  -- put-requires-3
+    (λ c κs. search needs)  -- put-requires-4
+    (λ c κs. search needs)  -- put-requires-5
+    (λ c. search needs)  -- same-length
     returns)

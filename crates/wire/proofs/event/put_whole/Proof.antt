@@ -10,12 +10,6 @@ returns c =
     let a = c .before .before .before .args in
     whole-none (a .out .now) (a .at) (a .object) (a .f) (a .text .now) (omega arith)
 
-sub-room : tie.Need-sub-room
-sub-room c = search needs
-
-fixed-requires : tie.Need-fixed-requires
-fixed-requires c κs = search needs
-
 returns-2 : tie.Need-returns-2
 returns-2 c =
     let a = c .before .before .before .before .before .args in
@@ -26,34 +20,25 @@ returns-3 c =
     let a = c .before .before .before .before .before .before .args in
     whole-none (a .out .now) (a .at) (a .object) (a .f) (a .text .now) (omega arith)
 
-add-total : tie.Need-add-total
-add-total c = search needs
-
-put-start-requires : tie.Need-put-start-requires
-put-start-requires c κs = search needs
-
-put-text-requires : tie.Need-put-text-requires
-put-text-requires c κs = search needs
-
-same-length : tie.Need-same-length
-same-length c = search needs
-
 returns-4 : tie.Need-returns-4
 returns-4 c =
-    let a = c .before .before .before .before .before .before .before .before .before .before .before .before .before .before .args in
-    whole-all (a .object) (a .f) (c .before .before .before .before .before .before .before .before .before .before .fixed .ensures) (c .before .before .before .before .before .before .put-start .ensures) (c .before .before .put-text .ensures) (omega arith)
+    let at-put-start = c .before .before .before .before .before .before in
+    let at-fixed = at-put-start .before .before .before .before in
+    let at-start = at-fixed .before .before .before .before in
+    let a = at-start .args in
+    whole-all (a .object) (a .f) (at-fixed .fixed .ensures) (at-put-start .put-start .ensures) (c .before .before .put-text .ensures) (omega arith)
 
 pub put-whole-spec : {M : Type 1} → statement M
 put-whole-spec =
     tie.close
     (tie.spec
     returns
-    sub-room
-    fixed-requires
+    (λ c. search needs)  -- sub-room
+    (λ c κs. search needs)  -- fixed-requires
     returns-2
     returns-3
-    add-total
-    put-start-requires
-    put-text-requires
-    same-length
+    (λ c. search needs)  -- add-total
+    (λ c κs. search needs)  -- put-start-requires
+    (λ c κs. search needs)  -- put-text-requires
+    (λ c. search needs)  -- same-length
     returns-4)

@@ -12,9 +12,6 @@ use Rattle.eiproto.proofs.event.DeviceCapability.count_below.Tie as tie
 returns : tie.Need-returns
 returns c = below-all (c .before .args .mask) (c .before .args .bit) (omega arith) (omega arith)
 
-shl-result : tie.Need-shl-result
-shl-result c = search needs
-
 rem-result : tie.Need-rem-result
 rem-result c = omega (arith, one-shl (c .before .args .bit) (omega arith), pow-pos (c .before .args .bit))
 
@@ -24,4 +21,10 @@ returns-2 c =
     ∙ below-is (c .before .args .mask) (c .before .args .bit) (omega arith)
 
 pub count-below-spec : {M : Type 1} → statement M
-count-below-spec = tie.close (tie.spec returns shl-result rem-result returns-2)
+count-below-spec =
+    tie.close
+    (tie.spec
+    returns
+    (λ c. search needs)  -- shl-result
+    rem-result
+    returns-2)

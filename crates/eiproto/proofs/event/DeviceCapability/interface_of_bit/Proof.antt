@@ -5,18 +5,6 @@ use Rattle.eiproto.specs.Capability.{interfaceTold, interfaceOfBit}
 use Rattle.eiproto.proofs.event.DeviceCapability.interface_of_bit.Statement.{statement}
 use Rattle.eiproto.proofs.event.DeviceCapability.interface_of_bit.Tie as tie
 
-from-index-requires : tie.Need-from-index-requires
-from-index-requires c κs = search needs
-
-enum-known-cap : tie.Need-enum-known-cap
-enum-known-cap c = search needs
-
-interface-requires : tie.Need-interface-requires
-interface-requires c κs = search needs
-
-enum-told : tie.Need-enum-told
-enum-told c = search needs
-
 returns : tie.Need-returns
 unfolding interfaceOfBit
 returns c =
@@ -27,4 +15,12 @@ unfolding interfaceOfBit
 returns-2 c = ap interfaceTold (sym (c .enum-told .given .1) ∙ c .before .before .from-index .ensures)
 
 pub interface-of-bit-spec : {M : Type 1} → statement M
-interface-of-bit-spec = tie.close (tie.spec from-index-requires enum-known-cap interface-requires enum-told returns returns-2)
+interface-of-bit-spec =
+    tie.close
+    (tie.spec
+    (λ c κs. search needs)  -- from-index-requires
+    (λ c. search needs)  -- enum-known-cap
+    (λ c κs. search needs)  -- interface-requires
+    (λ c. search needs)  -- enum-told
+    returns
+    returns-2)

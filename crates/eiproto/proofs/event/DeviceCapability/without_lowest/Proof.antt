@@ -11,12 +11,6 @@ use Rattle.eiproto.proofs.event.DeviceCapability.without_lowest.Tie as 
 returns : tie.Need-returns
 returns c = sym (ap withoutLowest (c .if1 .taken) ∙ without-none)
 
-lowest-requires : tie.Need-lowest-requires
-lowest-requires c κs = search needs
-
-cast-result : tie.Need-cast-result
-cast-result c = search needs
-
 shl-result : tie.Need-shl-result
 shl-result c = omega (arith, lowest (c .before .before .args .mask) (omega arith) (omega arith))
 
@@ -31,4 +25,12 @@ returns-2 c =
     ap (λ (x : ℕ). m - x) (lowest-power m (c .lowest .result) (omega arith) (omega arith) (c .lowest .ensures)) ∙ without-is m
 
 pub without-lowest-spec : {M : Type 1} → statement M
-without-lowest-spec = tie.close (tie.spec returns lowest-requires cast-result shl-result sub-result returns-2)
+without-lowest-spec =
+    tie.close
+    (tie.spec
+    returns
+    (λ c κs. search needs)  -- lowest-requires
+    (λ c. search needs)  -- cast-result
+    shl-result
+    sub-result
+    returns-2)

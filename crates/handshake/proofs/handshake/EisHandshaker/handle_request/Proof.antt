@@ -6,50 +6,26 @@ use Rattle.handshake.proofs.Answers.{handled, handled-damaged, sound-is
 use Rattle.handshake.proofs.handshake.EisHandshaker.handle_request.Statement.{statement}
 use Rattle.handshake.proofs.handshake.EisHandshaker.handle_request.Tie as tie
 
-refused-requires : tie.Need-refused-requires
-refused-requires c κs = search needs
-
 returns : tie.Need-returns
 returns c =
     let a = c .before .before .before .before .before .args in
     handled-damaged (a .self) _ (c .before .if1 .taken) (c .refused .ensures) (a .out .now)
 
-enum-told : tie.Need-enum-told
-enum-told c = search needs
-
-accepted-requires : tie.Need-accepted-requires
-accepted-requires c κs = search needs
-
-enum-told-2 : tie.Need-enum-told-2
-enum-told-2 c = search needs
-
 set-name-requires : tie.Need-set-name-requires
 set-name-requires c κs =
     sound-is _ (c .before .before .if1 .left)
-
-enum-known-request : tie.Need-enum-known-request
-enum-known-request c = search needs
 
 set-context-requires : tie.Need-set-context-requires
 set-context-requires c κs =
     sound-is _ (c .before .before .before .if1 .left)
 
-enum-known-request-2 : tie.Need-enum-known-request-2
-enum-known-request-2 c = search needs
-
 negotiate-requires : tie.Need-negotiate-requires
 negotiate-requires c κs =
     sound-is _ (c .before .before .before .if1 .left)
 
-enum-told-3 : tie.Need-enum-told-3
-enum-told-3 c = search needs
-
 finish-requires : tie.Need-finish-requires
 finish-requires c κs =
     sound-is _ (c .before .before .before .if1 .left)
-
-enum-told-4 : tie.Need-enum-told-4
-enum-told-4 c = search needs
 
 turn-away-requires : tie.Need-turn-away-requires
 turn-away-requires c κs =
@@ -77,14 +53,14 @@ returns-5 c =
     let a = c .before .before .before .before .before .before .before .before .args in
     handled (a .self) _ (c .before .before .before .before .if1 .left) (rw (c .before .before .request2 .given .1) (c .negotiate .ensures (a .out .now)))
 
-same-length : tie.Need-same-length
-same-length c = search needs
-
 returns-6 : tie.Need-returns-6
 unfolding handleRequest
 returns-6 c =
-    let a = c .before .before .before .before .before .before .before .before .before .before .args in
-    handled (a .self) _ (c .before .before .before .before .before .before .if1 .left) (rw (c .before .before .before .before .enum-told3 .given .1) (c .before .before .finish .ensures))
+    let at-enum-told3 = c .before .before .before .before in
+    let at-if1 = at-enum-told3 .before .before in
+    let at-start = at-if1 .before .before .before .before in
+    let a = at-start .args in
+    handled (a .self) _ (at-if1 .if1 .left) (rw (at-enum-told3 .enum-told3 .given .1) (c .before .before .finish .ensures))
 
 returns-7 : tie.Need-returns-7
 returns-7 c =
@@ -95,24 +71,24 @@ pub handle-request-spec : {M : Type 1} → statement M
 handle-request-spec =
     tie.close
     (tie.spec
-    refused-requires
+    (λ c κs. search needs)  -- refused-requires
     returns
-    enum-told
-    accepted-requires
-    enum-told-2
+    (λ c. search needs)  -- enum-told
+    (λ c κs. search needs)  -- accepted-requires
+    (λ c. search needs)  -- enum-told-2
     set-name-requires
-    enum-known-request
+    (λ c. search needs)  -- enum-known-request
     set-context-requires
-    enum-known-request-2
+    (λ c. search needs)  -- enum-known-request-2
     negotiate-requires
-    enum-told-3
+    (λ c. search needs)  -- enum-told-3
     finish-requires
-    enum-told-4
+    (λ c. search needs)  -- enum-told-4
     turn-away-requires
     returns-2
     returns-3
     returns-4
     returns-5
-    same-length
+    (λ c. search needs)  -- same-length
     returns-6
     returns-7)

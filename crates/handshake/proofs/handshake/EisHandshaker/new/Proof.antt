@@ -4,51 +4,38 @@ use Rattle.handshake.proofs.Answers.{fresh-view, fresh-sound, start-ref
 use Rattle.handshake.proofs.handshake.EisHandshaker.new.Statement.{statement}
 use Rattle.handshake.proofs.handshake.EisHandshaker.new.Tie as tie
 
-no-name-requires : tie.Need-no-name-requires
-no-name-requires c κs = search needs
-
-no-interfaces-requires : tie.Need-no-interfaces-requires
-no-interfaces-requires c κs = search needs
-
-send-requires : tie.Need-send-requires
-send-requires c κs = search needs
-
-refused-requires : tie.Need-refused-requires
-refused-requires c κs = search needs
-
-same-length : tie.Need-same-length
-same-length c = search needs
-
 returns : tie.Need-returns
 returns c =
-    let serial = c .before .before .before .before .before .before .before .before .before .args .serial in
-    let view = fresh-view serial (c .before .before .before .before .before .before .before .no-name .ensures) (c .before .before .before .before .before .before .no-interfaces .ensures) in
-    let sound = fresh-sound serial _ (c .before .before .before .before .before .before .before .no-name .ensures) in
-    start-refused _ serial view sound (c .before .before .before .before .send .ensures) (c .before .if1 .taken) (c .refused .ensures)
-
-unfinished-requires : tie.Need-unfinished-requires
-unfinished-requires c κs = search needs
-
-same-length-2 : tie.Need-same-length-2
-same-length-2 c = search needs
+    let at-send = c .before .before .before .before in
+    let at-no-interfaces = at-send .before .before in
+    let at-no-name = at-no-interfaces .before in
+    let at-start = at-no-name .before .before in
+    let serial = at-start .args .serial in
+    let view = fresh-view serial (at-no-name .no-name .ensures) (at-no-interfaces .no-interfaces .ensures) in
+    let sound = fresh-sound serial _ (at-no-name .no-name .ensures) in
+    start-refused _ serial view sound (at-send .send .ensures) (c .before .if1 .taken) (c .refused .ensures)
 
 returns-2 : tie.Need-returns-2
 returns-2 c =
-    let serial = c .before .before .before .before .before .before .before .before .before .args .serial in
-    let view = fresh-view serial (c .before .before .before .before .before .before .before .no-name .ensures) (c .before .before .before .before .before .before .no-interfaces .ensures) in
-    let sound = fresh-sound serial _ (c .before .before .before .before .before .before .before .no-name .ensures) in
-    start-accepted _ serial view sound (c .before .before .before .before .send .ensures) (c .before .if1 .left) (c .unfinished .ensures)
+    let at-send = c .before .before .before .before in
+    let at-no-interfaces = at-send .before .before in
+    let at-no-name = at-no-interfaces .before in
+    let at-start = at-no-name .before .before in
+    let serial = at-start .args .serial in
+    let view = fresh-view serial (at-no-name .no-name .ensures) (at-no-interfaces .no-interfaces .ensures) in
+    let sound = fresh-sound serial _ (at-no-name .no-name .ensures) in
+    start-accepted _ serial view sound (at-send .send .ensures) (c .before .if1 .left) (c .unfinished .ensures)
 
 pub new-spec : {M : Type 1} → statement M
 new-spec =
     tie.close
     (tie.spec
-    no-name-requires
-    no-interfaces-requires
-    send-requires
-    refused-requires
-    same-length
+    (λ c κs. search needs)  -- no-name-requires
+    (λ c κs. search needs)  -- no-interfaces-requires
+    (λ c κs. search needs)  -- send-requires
+    (λ c κs. search needs)  -- refused-requires
+    (λ c. search needs)  -- same-length
     returns
-    unfinished-requires
-    same-length-2
+    (λ c κs. search needs)  -- unfinished-requires
+    (λ c. search needs)  -- same-length-2
     returns-2)

@@ -1,0 +1,84 @@
+-- The held touches are counted before the id is looked for among them. Assumes nothing.
+use mathlib.Core.Path.{sym, ap, _∙_}
+use native.Mathlib.Omega.{arith}
+use Rattle.control.specs.Answer.{slotTold}
+use Rattle.eiproto.specs.declared.event.DeviceCapability.{DeviceCapability}
+use mathlib.Core.Path.{refl}
+use mathlib.Core.List.{[], _∷_}
+use lib.ListN.{length}
+use Rattle.touches.specs.Touches.{member}
+use Rattle.model.specs.Call.{Kind}
+use Rattle.model.specs.Edit.{Amend}
+use Rattle.model.specs.Decide.{handler}
+use Rattle.client_requests.proofs.Decisions.{linked-within, ignored-not, refused-not, touch-unknown, down-many, down-twice, down-queued}
+use borrow.Author.Needs.{needs}
+use Rattle.client_requests.proofs.timed.decide_down.Statement.{statement}
+use Rattle.client_requests.proofs.timed.decide_down.Tie as tie
+
+down-touch-ids-requires : tie.Need-down-touch-ids-requires
+down-touch-ids-requires c κs =
+    let at-device-for-interface = c .before .before .before in
+    let at-start = at-device-for-interface .before .before in
+    let k = sym (at-device-for-interface .device-for-interface .ensures) ∙ ap slotTold (c .before .k .given .1) in
+    (at-start .pre, linked-within DeviceCapability.Touch (at-start .args .touchscreen) (at-start .args .control .now) k)
+
+returns : tie.Need-returns
+returns c =
+    let at-k = c .before .before .before .before in
+    let at-device-for-interface = at-k .before .before in
+    let at-start = at-device-for-interface .before .before in
+    let a = at-start .args in
+    let k = sym (at-device-for-interface .device-for-interface .ensures) ∙ ap slotTold (at-k .k .given .1) in
+    (down-many (a .control .now) (a .touchscreen) (a .touch) k (omega (arith, c .before .len .ensures, ap length (c .before .before .down-touch-ids .ensures .ids-are))), λ j q. absurd (refused-not q))
+
+returns-2 : tie.Need-returns-2
+returns-2 c =
+    let at-len = c .before .before .before in
+    let at-down-touch-ids = at-len .before in
+    let at-k = at-down-touch-ids .before .before in
+    let at-device-for-interface = at-k .before .before in
+    let at-start = at-device-for-interface .before .before in
+    let a = at-start .args in
+    let k = sym (at-device-for-interface .device-for-interface .ensures) ∙ ap slotTold (at-k .k .given .1) in
+    (down-twice (a .control .now) (a .touchscreen) (a .touch) k (omega (arith, at-len .len .ensures, ap length (at-down-touch-ids .down-touch-ids .ensures .ids-are))) (ap (member (a .touch)) (sym (at-down-touch-ids .down-touch-ids .ensures .ids-are)) ∙ sym (c .before .contains .ensures) ∙ c .if2 .taken), λ j q. absurd (refused-not q))
+
+queue-on-requires : tie.Need-queue-on-requires
+queue-on-requires c κs =
+    let at-k = c .before .before .before .before .before .before in
+    let at-device-for-interface = at-k .before .before in
+    let at-start = at-device-for-interface .before .before in
+    let k = sym (at-device-for-interface .device-for-interface .ensures) ∙ ap slotTold (at-k .k .given .1) in
+    (at-start .pre, linked-within DeviceCapability.Touch (at-start .args .touchscreen) (at-start .args .control .now) k)
+
+returns-3 : tie.Need-returns-3
+returns-3 c =
+    let at-len = c .before .before .before .before in
+    let at-down-touch-ids = at-len .before in
+    let at-k = at-down-touch-ids .before .before in
+    let at-device-for-interface = at-k .before .before in
+    let at-start = at-device-for-interface .before .before in
+    let a = at-start .args in
+    let k = sym (at-device-for-interface .device-for-interface .ensures) ∙ ap slotTold (at-k .k .given .1) in
+    down-queued (a .control .now) (a .touchscreen) (a .touch) k (omega (arith, at-len .len .ensures, ap length (at-down-touch-ids .down-touch-ids .ensures .ids-are))) (ap (member (a .touch)) (sym (at-down-touch-ids .down-touch-ids .ensures .ids-are)) ∙ sym (c .before .before .contains .ensures) ∙ c .before .if2 .left) (c .queue-on .ensures)
+
+returns-4 : tie.Need-returns-4
+unfolding handler
+returns-4 c =
+    let a = c .before .before .before .before .args in
+    (λ version. touch-unknown (a .control .now) (a .touchscreen) (a .touch) Kind.TouchDown version (Amend.touchDown (a .touch) ∷ []) refl (sym (c .before .before .device-for-interface .ensures) ∙ ap slotTold (c .enum-told .given .1)), λ j q. absurd (ignored-not q))
+
+pub decide-down-spec : {M : Type 1} → statement M
+decide-down-spec =
+    tie.close
+    (tie.spec
+    (λ c κs. search needs)  -- device-for-interface-requires
+    (λ c. search needs)  -- enum-known-k
+    down-touch-ids-requires
+    (λ c κs. search needs)  -- len-requires
+    returns
+    (λ c κs. search needs)  -- contains-requires
+    returns-2
+    queue-on-requires
+    (λ c. search needs)  -- enum-told
+    returns-3
+    returns-4)

@@ -1,0 +1,172 @@
+// The requests that are not timed: what is queued at once, what is answered at once, and the flush of a device's pending requests.
+use answers::Answer;
+use answers::Error;
+use control::Slot;
+use eiproto::event::DeviceCapability;
+use events::Mark;
+use requests::request::EisRequest;
+use wire::event;
+use wire::event::Event;
+ghost use mathlib.Core.Path.{_≡_};
+ghost use mathlib.Core.List.{List, [], _∷_};
+ghost use Prim.Native.Nat.{ℕ};
+ghost use Rattle.model.specs.Call.{Input, sight, Plain, Call, mapCall};
+ghost use Rattle.model.specs.Session.{Untimed, Request, View, view};
+ghost use Rattle.model.specs.Edit.{Edit};
+ghost use Rattle.model.specs.Plan.{edit};
+ghost use Rattle.model.specs.Decide.{handleSeat, handleDevice, decide};
+ghost use Rattle.control.specs.Sound.{Sound};
+ghost use Rattle.session.specs.View.{store, session, requestIn, Lent, Whole};
+ghost use Rattle.answers.specs.Meets.{Handled, HandledRows, HandledControl};
+
+// A request that flushes nothing, behind all others.
+pub fn queue_untimed(
+    control: &mut [u64],
+    words: &mut [u64],
+    reals: &mut [f32],
+    request: EisRequest,
+) -> Answer
+    requires { ⌜ Lent (now control) (now words) (now reals) ⌝ }
+    ensures { λ r. ⌜ ((u : Untimed) (call : Call Input) (out texts : List ℕ) (clock : ℕ) → requestIn request [] ≡ Request.untimed u → decide (view (session (store (now (control .entry)) (now (words .entry)) (now (reals .entry)) texts))) clock (mapCall sight call) ≡ edit (Edit.queue u ∷ []) → Whole (store (now (control .entry)) (now (words .entry)) (now (reals .entry)) texts) → Handled (store (now (control .entry)) (now (words .entry)) (now (reals .entry)) texts) (store (now (control .exit)) (now (words .exit)) (now (reals .exit)) texts) out out call clock r) ⌝ }
+{
+    if !queue::has_room(control, 1) {
+        return Answer::refused(Error::FullQueue);
+    }
+    queue::push(control, words, reals, request);
+    Answer::accepted()
+}
+
+pub fn sync(callback: u64, version: u32, out: &mut [u8]) -> Answer
+    ensures { λ r. ⌜ ((c : List ℕ) (clock : ℕ) → HandledControl c c (now (out .entry)) (now (out .exit)) (Call.plain (Plain.sync callback version)) clock r) ⌝ }
+{
+    if version != 1 {
+        return Answer::refused(Error::InvalidInterfaceVersion {
+            interface: CALLBACK,
+            version,
+        });
+    }
+    let done = Event::CallbackDone { value: 0 };
+    if out.len() < event::fixed_length(done) {
+        return Answer::refused(Error::ShortOut);
+    }
+    Answer::sent(events::send(out, 0, callback, done, b""))
+}
+
+// The number of `ei_callback`.
+const CALLBACK: u8 = 2;
+
+// "Seat Release .. always sends destroyed."
+pub fn release_seat(control: &mut [u64], seat: u64, out: &mut [u8]) -> Answer
+    requires { ⌜ Sound (now control) ⌝ }
+    ensures { λ r. ⌜ ((clock : ℕ) → HandledControl (now (control .entry)) (now (control .exit)) (now (out .entry)) (now (out .exit)) (Call.plain (Plain.seatRelease seat)) clock r) ⌝ }
+{
+    if out.len() < events::DESTROYED_LENGTH {
+        return Answer::refused(Error::ShortOut);
+    }
+    let serial = control::last_serial(control);
+    let sent = events::write_destroyed(out, Mark { at: 0, serial }, seat);
+    session::raise(control, sent.serial);
+    Answer::sent(sent.at)
+}
+
+// Bind and RequestDevice: "on a known seat with a bit above bit 6, or a bit not in the seat's set" is 3.
+pub fn queue_for_seat(
+    control: &mut [u64],
+    words: &mut [u64],
+    reals: &mut [f32],
+    seat: u64,
+    capabilities: u64,
+    request: EisRequest,
+) -> Answer
+    requires { ⌜ Lent (now control) (now words) (now reals) ⌝ }
+    ensures { λ r. ⌜ ((u : Untimed) (call : Call Input) (out : List ℕ) (clock : ℕ) → requestIn request [] ≡ Request.untimed u → ((v : View) → decide v clock (mapCall sight call) ≡ handleSeat v seat capabilities u) → HandledRows (now (control .entry)) (now (words .entry)) (now (reals .entry)) (now (control .exit)) (now (words .exit)) (now (reals .exit)) out out call clock r) ⌝ }
+{
+    match control::find_seat(control, seat) {
+        Slot::At(k) => {
+            if DeviceCapability::has_unknown(capabilities) {
+                return Answer::refused(Error::InvalidCapabilities);
+            }
+            if !DeviceCapability::contains(control::seat_capabilities(control, k), capabilities) {
+                return Answer::refused(Error::InvalidCapabilities);
+            }
+            queue_untimed(control, words, reals, request)
+        }
+        Slot::Unknown => Answer::accepted(),
+    }
+}
+
+// "If the device has pending requests, a Frame with time `now` and the session's last serial goes first .. ; then the request."
+pub fn queue_for_device(
+    control: &mut [u64],
+    words: &mut [u64],
+    reals: &mut [f32],
+    device: u64,
+    clock: u64,
+    request: EisRequest,
+) -> Answer
+    requires { ⌜ Lent (now control) (now words) (now reals) ⌝ }
+    ensures { λ r. ⌜ ((u : Untimed) (call : Call Input) (out : List ℕ) → requestIn request [] ≡ Request.untimed u → ((v : View) → decide v clock (mapCall sight call) ≡ handleDevice v clock device u) → HandledRows (now (control .entry)) (now (words .entry)) (now (reals .entry)) (now (control .exit)) (now (words .exit)) (now (reals .exit)) out out call clock r) ⌝ }
+{
+    match control::find_device(control, device) {
+        Slot::At(k) => {
+            if !queue::has_room(control, queue::frame_entries(control, k) + 1) {
+                return Answer::refused(Error::FullQueue);
+            }
+            let serial = control::last_serial(control);
+            queue::frame(control, words, reals, k, serial, clock);
+            queue::push(control, words, reals, request);
+            Answer::accepted()
+        }
+        Slot::Unknown => Answer::accepted(),
+    }
+}
+
+// A client's Frame.
+pub fn queue_frame(
+    control: &mut [u64],
+    words: &mut [u64],
+    reals: &mut [f32],
+    device: u64,
+    serial: u32,
+    time: u64,
+) -> Answer
+    requires { ⌜ Lent (now control) (now words) (now reals) ⌝ }
+    ensures { λ r. ⌜ ((out : List ℕ) (clock : ℕ) → HandledRows (now (control .entry)) (now (words .entry)) (now (reals .entry)) (now (control .exit)) (now (words .exit)) (now (reals .exit)) out out (Call.plain (Plain.deviceFrame device serial time)) clock r) ⌝ }
+{
+    match control::find_device(control, device) {
+        Slot::At(k) => {
+            if !queue::has_room(control, queue::frame_entries(control, k)) {
+                return Answer::refused(Error::FullQueue);
+            }
+            queue::frame(control, words, reals, k, serial, time);
+            Answer::accepted()
+        }
+        Slot::Unknown => Answer::accepted(),
+    }
+}
+
+// "Interface Release sends destroyed and unlinks the interface; the device still lists it."
+pub fn release_interface(
+    control: &mut [u64],
+    capability: DeviceCapability,
+    interface: u64,
+    out: &mut [u8],
+) -> Answer
+    requires { ⌜ Sound (now control) ⌝ }
+    ensures { λ r. ⌜ ((clock : ℕ) → HandledControl (now (control .entry)) (now (control .exit)) (now (out .entry)) (now (out .exit)) (Call.plain (Plain.interfaceRelease capability interface)) clock r) ⌝ }
+{
+    let bit = DeviceCapability::lowest(DeviceCapability::mask(capability));
+    match control::find_interface(control, bit, interface) {
+        Slot::At(k) => {
+            if out.len() < events::DESTROYED_LENGTH {
+                return Answer::refused(Error::ShortOut);
+            }
+            let serial = control::last_serial(control);
+            let mark = events::write_destroyed(out, Mark { at: 0, serial }, interface);
+            session::unlink(control, k, bit, interface);
+            session::raise(control, mark.serial);
+            Answer::sent(mark.at)
+        }
+        Slot::Unknown => Answer::accepted(),
+    }
+}

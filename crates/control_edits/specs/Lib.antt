@@ -1,2 +1,0 @@
-pub mod Shift
-pub mod Change

@@ -1,0 +1,102 @@
+// A line of a call script before the session: a request of the handshake, at whose end the session begins.
+use eiproto::eiproto_enum::ContextType;
+use eiproto::eiproto_enum::ContextTypeOf;
+use handshake::handshake::Answer;
+use handshake::handshake::EisHandshaker;
+use handshake::handshake::Outcome;
+use handshake::handshake::Request;
+use script::Args;
+use script::Value;
+use script::Verb;
+use script_session::Settings;
+ghost use Prim.Native.Nat.{_≤_};
+
+// A context type, as a script has it: 1 or 2.
+fn context_of(v: Value) -> ContextType {
+    match ContextType::parse(script::u32_of(v)) {
+        ContextTypeOf::Case(context) => context,
+        ContextTypeOf::InvalidVariant(_) => ContextType::Receiver,
+    }
+}
+
+// What a client's line is to the handshake.
+pub fn request_of(verb: Verb, args: Args) -> Request {
+    let a = args.a;
+    let b = args.b;
+    let context = context_of(a);
+    match verb {
+        Verb::HandshakeHandshakeVersion => Request::HandshakeVersion {
+            version: script::u32_of(a),
+        },
+        Verb::HandshakeName => Request::Name,
+        Verb::HandshakeContextType => Request::ContextType { context },
+        Verb::HandshakeInterfaceVersion => Request::InterfaceVersion {
+            version: script::u32_of(b),
+        },
+        Verb::HandshakeFinish => Request::Finish,
+        _ => Request::Other,
+    }
+}
+
+// The answer of a call, whose records begin `out`.
+fn write(a: Answer, out: &[u8], explained: bool) {
+    let outcome = a.outcome;
+    if let Outcome::Refused(e) = outcome {
+        script_show::text(b"refused ");
+        script_show::decimal(e.number() as u64);
+    } else {
+        script_show::text(b"accepted");
+    }
+    script_show::records::write(out, a.count, explained);
+}
+
+pub fn is_finished(a: Answer) -> bool {
+    let outcome = a.outcome;
+    if let Outcome::Finished = outcome {
+        true
+    } else {
+        false
+    }
+}
+
+fn start_in(settings: Settings, serial: u32, out: &mut [u8]) -> Answer {
+    let from: usize = 0;
+    let n = script_session::room(settings.out, out.len());
+    let a = EisHandshaker::new(serial, &mut out[from..n]);
+    write(a, out, settings.explained);
+    a
+}
+
+// A fresh handshake.
+pub fn start(settings: Settings, serial: u32) -> Answer {
+    let mut out = [0u8; 4096];
+    start_in(settings, serial, &mut out)
+}
+
+fn take_in(
+    settings: Settings,
+    h: EisHandshaker,
+    request: Request,
+    text: &[u8],
+    out: &mut [u8],
+) -> Answer {
+    let from: usize = 0;
+    let n = script_session::room(settings.out, out.len());
+    let a = h.handle_request(request, text, &mut out[from..n]);
+    write(a, out, settings.explained);
+    a
+}
+
+// A request of the handshake.
+pub fn take(settings: Settings, h: EisHandshaker, request: Request, text: &[u8]) -> Answer {
+    let mut out = [0u8; 4096];
+    take_in(settings, h, request, text, &mut out)
+}
+
+// The session begins where the handshake ends.
+pub fn open(control: &mut [u64], words: &[u64], reals: &[f32], texts: &[u8], a: Answer) {
+    if is_finished(a) {
+        let response = a.response;
+        converter::request::new(control, words, reals, texts, response);
+    }
+}

@@ -1,0 +1,114 @@
+// The edits of a session that change its control words alone, in place. What the four lent slices of a session mean is in specs/View.
+use control::Slot;
+use eiproto::event::DeviceCapability;
+ghost use mathlib.Core.Path.{_≡_};
+ghost use mathlib.Core.Bool.{true, false};
+ghost use mathlib.Core.List.{[], _∷_};
+ghost use Prim.Native.Nat.{ℕ, _+_, _≤_, _<_};
+ghost use lib.ListN.{length};
+ghost use Rattle.eiproto.specs.Bits.{bitsOf};
+ghost use Rattle.touches.specs.Touches.{member};
+ghost use Rattle.model.specs.Decide.{linksIn};
+ghost use Rattle.model.specs.Edit.{Amend, Edit, raised};
+ghost use Rattle.control.specs.Control.{seatCount, deviceCount, connectionOf, coreAt};
+ghost use Rattle.control.specs.Sound.{Sound};
+ghost use Rattle.session.specs.View.{store, isWhole};
+ghost use Rattle.session.specs.Enact.{Enacts};
+
+pub const WORDS_LENGTH: usize = 3840;
+
+pub const REALS_LENGTH: usize = 1536;
+
+pub const TEXTS_LENGTH: usize = 8192;
+
+// Whether these are the slices of a session: refusal 21's test. Its time does not grow with what is queued.
+pub fn whole(control: &[u64], words: &[u64], reals: &[f32], texts: &[u8]) -> bool
+    ensures { λ r. ⌜ r ≡ isWhole (store (now (control .entry)) (now (words .entry)) (now (reals .entry)) (now (texts .entry))) ⌝ }
+{
+    if !control::sound(control) {
+        return false;
+    }
+    if words.len() != WORDS_LENGTH {
+        return false;
+    }
+    if reals.len() != REALS_LENGTH {
+        return false;
+    }
+    texts.len() == TEXTS_LENGTH
+}
+
+// The last serial, after events that took the serials up to this one.
+pub fn raise(control: &mut [u64], serial: u32)
+    requires { ⌜ Sound (now control) ⌝ }
+    ensures { λ _. ⌜ ((n : ℕ) → serial ≡ raised n (connectionOf (now (control .entry)) .lastSerial) → Enacts (now (control .entry)) (now (control .exit)) (Edit.raise n ∷ [])) ⌝ }
+{
+    control::edits::set_last_serial(control, serial);
+}
+
+// A seat more, with the next id.
+pub fn add_seat(control: &mut [u64], capabilities: u64)
+    requires { ⌜ Sound (now control) × ((seatCount (now control) < 4) × ((capabilities < 128) × (connectionOf (now control) .nextId + 1 ≤ 18446744073709551615))) ⌝ }
+    ensures { λ _. ⌜ Enacts (now (control .entry)) (now (control .exit)) (Edit.addSeat capabilities ∷ []) ⌝ }
+{
+    let id = control::next_id(control);
+    control::edits::append_seat(control, id, capabilities);
+    control::edits::set_next_id(control, id + 1);
+}
+
+// The first seat with the id taken out, if there is one.
+pub fn remove_seat(control: &mut [u64], id: u64)
+    requires { ⌜ Sound (now control) ⌝ }
+    ensures { λ _. ⌜ Enacts (now (control .entry)) (now (control .exit)) (Edit.removeSeat id ∷ []) ⌝ }
+{
+    match control::find_seat(control, id) {
+        Slot::At(k) => control::edits::remove_seat_row(control, k),
+        Slot::Unknown => {}
+    }
+}
+
+// A device more, with the next id, and an interface for each capability with the ids behind it.
+pub fn add_device(control: &mut [u64], seat: u64, capabilities: u64)
+    requires { ⌜ Sound (now control) × ((deviceCount (now control) < 8) × ((capabilities < 128) × (connectionOf (now control) .nextId + 1 + length (bitsOf capabilities) ≤ 18446744073709551615))) ⌝ }
+    ensures { λ _. ⌜ Enacts (now (control .entry)) (now (control .exit)) (Edit.addDevice seat capabilities ∷ []) ⌝ }
+{
+    let id = control::next_id(control);
+    let interfaces = DeviceCapability::count(capabilities) as u64;
+    control::edits::append_device(control, id, seat, capabilities);
+    control::edits::set_next_id(control, id + 1 + interfaces);
+}
+
+// A touch more that is down on the device in slot k.
+pub fn touch_down(control: &mut [u64], k: usize, touch: u32)
+    requires { ⌜ Sound (now control) × ((k < deviceCount (now control)) × ((length (coreAt (now control) k .downTouchIds) < 16) × (member touch (coreAt (now control) k .downTouchIds) ≡ false))) ⌝ }
+    ensures { λ _. ⌜ Enacts (now (control .entry)) (now (control .exit)) (Edit.amend k (Amend.touchDown touch) ∷ []) ⌝ }
+{
+    let held = control::edits::down_touch_ids(control, k);
+    let insertion = held.inserted(touch);
+    control::edits::set_down_touch_ids(control, k, insertion.touches);
+}
+
+// A touch that is no longer down.
+pub fn touch_up(control: &mut [u64], k: usize, touch: u32)
+    requires { ⌜ Sound (now control) × (k < deviceCount (now control)) ⌝ }
+    ensures { λ _. ⌜ Enacts (now (control .entry)) (now (control .exit)) (Edit.amend k (Amend.touchUp touch) ∷ []) ⌝ }
+{
+    let held = control::edits::down_touch_ids(control, k);
+    let removal = held.removed(touch);
+    control::edits::set_down_touch_ids(control, k, removal.touches);
+}
+
+pub fn clear_touches(control: &mut [u64], k: usize)
+    requires { ⌜ Sound (now control) × (k < deviceCount (now control)) ⌝ }
+    ensures { λ _. ⌜ Enacts (now (control .entry)) (now (control .exit)) (Edit.amend k Amend.clearTouches ∷ []) ⌝ }
+{
+    let held = control::edits::down_touch_ids(control, k);
+    control::edits::set_down_touch_ids(control, k, held.cleared());
+}
+
+// The interface of a capability's bit, which has the id, unlinked.
+pub fn unlink(control: &mut [u64], k: usize, bit: u32, id: u64)
+    requires { ⌜ Sound (now control) × ((k < deviceCount (now control)) × (linksIn bit id (coreAt (now control) k .interfaces) ≡ true)) ⌝ }
+    ensures { λ _. ⌜ Enacts (now (control .entry)) (now (control .exit)) (Edit.amend k (Amend.unlink id) ∷ []) ⌝ }
+{
+    control::edits::unlink(control, k, bit);
+}
