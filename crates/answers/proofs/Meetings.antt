@@ -17,15 +17,14 @@ use Rattle.model.specs.Decide.{decidePlain, decide}
 use Rattle.model.specs.Step.{Step, refuses, unchanged, carriedOut, step}
 use Rattle.model_steps.proofs.Steps.{step-answer}
 use Rattle.control.specs.Sound.{Sound, isSound}
-use Rattle.control.proofs.Sounds.{bounds-sound}
-use Rattle.session.specs.View.{Store, store, session, isWhole, Whole}
+use Rattle.session.specs.View.{Store, store, session, isLent, isWhole, Whole, Lending, isIntact}
 use Rattle.session.specs.Enact.{Enacted}
-use Rattle.session.proofs.Views.{whole-parts}
-use Rattle.answers.specs.Answer.{errorOf, numberOf, outcomeOf}
+use Rattle.session.proofs.Views.{whole-parts, whole-intact}
+use Rattle.answers.specs.Answer.{errorOf, outcomeOf}
 use Rattle.answers.specs.declared.Error.{Error}
 use Rattle.answers.specs.declared.Outcome.{Outcome}
 use Rattle.answers.specs.declared.Answer.{Answer}
-use Rattle.answers.specs.Meets.{Meets, turn, Handled, Answered, HandledControl, AnsweredControl}
+use Rattle.answers.specs.Meets.{Meets, turn, Handled, HandledRows, HandledControl, Answered}
 
 -- nothing changed, nothing written
 pub meets-unchanged : (s : Store) (out : List ℕ) (to : Step Load) (o : plan.Outcome) (r : Answer) → Whole s → to ≡ unchanged (session s) o
@@ -63,35 +62,43 @@ failed {b} e h = sym e ∙ not-true b h
 pub passed : {b x : Bool} → b ≡ x → not b ≡ false → x ≡ true
 passed {b} e h = sym e ∙ not-false b h
 
--- refusal 21's test
-pub whole-failed : (s : Store) {b : Bool} → b ≡ isWhole s → not b ≡ true → isWhole s ≡ false
-whole-failed s e h = failed e h
-
-pub whole-passed : (s : Store) {b : Bool} → b ≡ isWhole s → not b ≡ false → isWhole s ≡ true
-whole-passed s e h = passed e h
-
 -- 21, and what follows where it does not apply
-pub damaged-answered : (s : Store) (out : List ℕ) (call : Call Input) (clock : ℕ) (r : Answer) → isWhole s ≡ false
-    → (r .outcome ≡ Outcome.Refused Error.BadState) × (r .count ≡ 0) → Answered s s out out call clock r
-damaged-answered s out call clock r d e = record { damaged = λ _. (e, (refl, refl)); handled = λ w. absurd (false≢true (sym d ∙ w)) }
+pub damaged-answered : {l : Lending} {s : Store} {out : List ℕ} {call : Call Input} {clock : ℕ} {r : Answer} → isIntact l s ≡ false
+    → (r .outcome ≡ Outcome.Refused Error.BadState) × (r .count ≡ 0) → Answered l s s out out call clock r
+damaged-answered d e = record { damaged = λ _. (e, (refl, refl)); handled = λ w. absurd (false≢true (sym d ∙ w)) }
 
-pub whole-answered : {s e : Store} {out later : List ℕ} {call : Call Input} {clock : ℕ} {r : Answer} → isWhole s ≡ true
-    → Handled s e out later call clock r → Answered s e out later call clock r
-whole-answered w h = record { damaged = λ d. absurd (false≢true (sym d ∙ w)); handled = λ _. h }
+pub intact-answered : {l : Lending} {s e : Store} {out later : List ℕ} {call : Call Input} {clock : ℕ} {r : Answer} → isIntact l s ≡ true
+    → (Whole s → Handled s e out later call clock r) → Answered l s e out later call clock r
+intact-answered w h = record { damaged = λ d. absurd (false≢true (sym d ∙ w)); handled = λ _. h }
 
--- the same of the control words alone
+-- the same by what a call is lent: the control words, or the rows of requests too
 pub unsound-answered : {c out : List ℕ} {call : Call Input} {clock : ℕ} {r : Answer} → isSound c ≡ false
-    → (r .outcome ≡ Outcome.Refused Error.BadState) × (r .count ≡ 0) → AnsweredControl c c out out call clock r
-unsound-answered d e = record { damaged = λ _. (e, (refl, refl)); handled = λ w. absurd (false≢true (sym d ∙ w)) }
+    → (r .outcome ≡ Outcome.Refused Error.BadState) × (r .count ≡ 0)
+    → (w : List ℕ) (q : List Float) (t : List ℕ) → Answered Lending.control (store c w q t) (store c w q t) out out call clock r
+unfolding isIntact
+unsound-answered d e w q t = damaged-answered d e
 
-pub sound-answered : {c d out later : List ℕ} {call : Call Input} {clock : ℕ} {r : Answer} → isSound c ≡ true
-    → HandledControl c d out later call clock r → AnsweredControl c d out later call clock r
-sound-answered w h = record { damaged = λ d. absurd (false≢true (sym d ∙ w)); handled = λ _. h }
+pub sound-answered : {c d out later : List ℕ} {call : Call Input} {clock : ℕ} {r : Answer} → isSound c ≡ true → HandledControl c d out later call clock r
+    → (w : List ℕ) (q : List Float) (t : List ℕ) → Answered Lending.control (store c w q t) (store d w q t) out later call clock r
+unfolding isIntact
+sound-answered i h w q t = intact-answered i (h w q t)
 
--- on a session that is not damaged such a call is as any other
-pub control-handled : {c d out later : List ℕ} {call : Call Input} {clock : ℕ} {r : Answer} (w : List ℕ) (q : List Float) (t : List ℕ)
-    → AnsweredControl c d out later call clock r → isWhole (store c w q t) ≡ true → Handled (store c w q t) (store d w q t) out later call clock r
-control-handled w q t a h = let whole = whole-parts (store _ w q t) h in a .handled (bounds-sound _ (whole .sound)) w q t whole
+pub unlent-answered : {c w : List ℕ} {q : List Float} {out : List ℕ} {call : Call Input} {clock : ℕ} {r : Answer} → isLent c w q ≡ false
+    → (r .outcome ≡ Outcome.Refused Error.BadState) × (r .count ≡ 0)
+    → (t : List ℕ) → Answered Lending.rows (store c w q t) (store c w q t) out out call clock r
+unfolding isIntact
+unlent-answered d e t = damaged-answered d e
+
+pub lent-answered : {c w d v : List ℕ} {q p : List Float} {out later : List ℕ} {call : Call Input} {clock : ℕ} {r : Answer} → isLent c w q ≡ true
+    → HandledRows c w q d v p out later call clock r
+    → (t : List ℕ) → Answered Lending.rows (store c w q t) (store d v p t) out later call clock r
+unfolding isIntact
+lent-answered i h t = intact-answered i (h t)
+
+-- on a session that is whole a call is the model's, whatever it is lent
+pub answered-handled : {l : Lending} (s : Store) {e : Store} {out later : List ℕ} {call : Call Input} {clock : ℕ} {r : Answer}
+    → Answered l s e out later call clock r → isWhole s ≡ true → Handled s e out later call clock r
+answered-handled {l} s a h = let w = whole-parts s h in a .handled (whole-intact l s w) w
 
 -- refused by a limit
 pub over-handled : (s : Store) (out : List ℕ) (call : Call Input) (clock : ℕ) (o : Outcome) (r : Answer) → Whole s
@@ -108,35 +115,30 @@ unfolding split mapCall decide
 told-handled s out call clock o r w e told =
     over-handled s out (Call.plain call) clock o r w (step-answer (split (turn (Call.plain call) clock out)) (session s) (outcomeOf o) e) told
 
-pub told-answered : (s : Store) (out : List ℕ) (call : Plain) (clock : ℕ) (o : Outcome) (r : Answer) → isWhole s ≡ true
-    → decidePlain (view (session s)) clock call ≡ answer (outcomeOf o) → (r .outcome ≡ o) × (r .count ≡ 0)
-    → Answered s s out out (Call.plain call) clock r
-told-answered s out call clock o r w e told = whole-answered w (told-handled s out call clock o r (whole-parts s w) e told)
-
 -- the slices behind a call, whose lengths have not changed
 pub whole-after : {c v : List ℕ} {q : List Float} (s : Store) → Whole s → Sound c → length v ≡ length (s .words) → length q ≡ length (s .reals)
     → Whole (store c v q (s .texts))
 whole-after s w sound words reals =
     record { sound = sound; words-long = words ∙ w .words-long; reals-long = reals ∙ w .reals-long; texts-long = w .texts-long }
 
--- the number of a refusal is the model's
-pub number-is : (e : Error) → refusal (errorOf e) ≡ numberOf e
-unfolding refusal
-number-is Error.UnexpectedHandshakeEvent = refl
-number-is (Error.InvalidInterfaceVersion i v) = refl
-number-is Error.InvalidCapabilities = refl
-number-is Error.TooManyTouches = refl
-number-is Error.DuplicatedTouchDown = refl
-number-is Error.InvalidTextLength = refl
-number-is Error.BadUtf8 = refl
-number-is Error.NameLong = refl
-number-is Error.UnknownHandle = refl
-number-is Error.BadCapabilities = refl
-number-is Error.FullSeats = refl
-number-is Error.FullDevices = refl
-number-is Error.FullPending = refl
-number-is Error.FullQueue = refl
-number-is Error.FullTexts = refl
-number-is Error.ShortOut = refl
-number-is Error.IdsSpent = refl
-number-is Error.BadState = refl
+-- an error of the code refuses
+pub error-refuses : (e : Error) → refuses (errorOf e) ≡ true
+unfolding refuses refusal
+error-refuses Error.UnexpectedHandshakeEvent = refl
+error-refuses (Error.InvalidInterfaceVersion i v) = refl
+error-refuses Error.InvalidCapabilities = refl
+error-refuses Error.TooManyTouches = refl
+error-refuses Error.DuplicatedTouchDown = refl
+error-refuses Error.InvalidTextLength = refl
+error-refuses Error.BadUtf8 = refl
+error-refuses Error.NameLong = refl
+error-refuses Error.UnknownHandle = refl
+error-refuses Error.BadCapabilities = refl
+error-refuses Error.FullSeats = refl
+error-refuses Error.FullDevices = refl
+error-refuses Error.FullPending = refl
+error-refuses Error.FullQueue = refl
+error-refuses Error.FullTexts = refl
+error-refuses Error.ShortOut = refl
+error-refuses Error.IdsSpent = refl
+error-refuses Error.BadState = refl

@@ -2,6 +2,7 @@
 use Prim.Native.Nat.{ℕ}
 use Rattle.answers.specs.declared.Error.{Error}
 use Rattle.answers.specs.declared.Outcome.{Outcome}
+use Rattle.model.specs.Plan.{refusal}
 use Rattle.model.specs.Plan as plan
 
 abbrev pub errorOf : Error → plan.Outcome
@@ -24,26 +25,10 @@ errorOf Error.ShortOut = plan.Outcome.refused 19
 errorOf Error.IdsSpent = plan.Outcome.refused 20
 errorOf Error.BadState = plan.Outcome.refused 21
 
--- document 01's number
-abbrev pub numberOf : Error → ℕ
-numberOf Error.UnexpectedHandshakeEvent = 1
-numberOf (Error.InvalidInterfaceVersion i v) = 2
-numberOf Error.InvalidCapabilities = 3
-numberOf Error.TooManyTouches = 4
-numberOf Error.DuplicatedTouchDown = 5
-numberOf Error.InvalidTextLength = 6
-numberOf Error.BadUtf8 = 10
-numberOf Error.NameLong = 11
-numberOf Error.UnknownHandle = 12
-numberOf Error.BadCapabilities = 13
-numberOf Error.FullSeats = 14
-numberOf Error.FullDevices = 15
-numberOf Error.FullPending = 16
-numberOf Error.FullQueue = 17
-numberOf Error.FullTexts = 18
-numberOf Error.ShortOut = 19
-numberOf Error.IdsSpent = 20
-numberOf Error.BadState = 21
+-- the number of a refusal
+unfoldable pub numberOf : Error → ℕ
+unfolding refusal
+numberOf e = refusal (errorOf e)
 
 abbrev pub outcomeOf : Outcome → plan.Outcome
 outcomeOf Outcome.Accepted = plan.Outcome.accepted

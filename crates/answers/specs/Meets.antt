@@ -9,8 +9,7 @@ use Rattle.wire.specs.Bits.{splice}
 use Rattle.model.specs.Call.{Input, Load, Call, Turn, split}
 use Rattle.model.specs.Plan.{records}
 use Rattle.model.specs.Step.{Step, refuses, step}
-use Rattle.control.specs.Sound.{isSound}
-use Rattle.session.specs.View.{Store, store, session, isWhole, Whole}
+use Rattle.session.specs.View.{Store, store, session, Whole, Lending, isIntact}
 use Rattle.answers.specs.Answer.{outcomeOf}
 use Rattle.answers.specs.declared.Error.{Error}
 use Rattle.answers.specs.declared.Outcome.{Outcome}
@@ -36,11 +35,6 @@ turn call clock out = record { call = call; now = clock; room = length out }
 abbrev pub Handled : (s e : Store) (out later : List ℕ) (call : Call Input) (clock : ℕ) (r : Answer) → Type 0
 Handled s e out later call clock r = Meets s e out later (step (split (turn call clock out)) (session s)) r
 
--- EVERY CALL: "21; .." comes first, and hands everything back as it was
-pub record Answered (s e : Store) (out later : List ℕ) (call : Call Input) (clock : ℕ) (r : Answer) : Type 0 where
-  pub damaged : isWhole s ≡ false → ((r .outcome ≡ Outcome.Refused Error.BadState) × (r .count ≡ 0)) × ((e ≡ s) × (later ≡ out))
-  pub handled : isWhole s ≡ true → Handled s e out later call clock r
-
 -- a call that no text is changed by, whatever they are
 abbrev pub HandledRows : (c w : List ℕ) (r : List Float) (d v : List ℕ) (q : List Float) (out later : List ℕ) (call : Call Input) (clock : ℕ) (a : Answer) → Type 0
 HandledRows c w r d v q out later call clock a = (texts : List ℕ) → Whole (store c w r texts) → Handled (store c w r texts) (store d v q texts) out later call clock a
@@ -49,7 +43,8 @@ HandledRows c w r d v q out later call clock a = (texts : List ℕ) → Whole (s
 abbrev pub HandledControl : (c d out later : List ℕ) (call : Call Input) (clock : ℕ) (a : Answer) → Type 0
 HandledControl c d out later call clock a = (w : List ℕ) (r : List Float) → HandledRows c w r d w r out later call clock a
 
--- A CALL THAT IS LENT THE CONTROL WORDS ALONE: 21 is for them alone, and else it is the model's, whatever the requests and the texts are
-pub record AnsweredControl (c d out later : List ℕ) (call : Call Input) (clock : ℕ) (r : Answer) : Type 0 where
-  pub damaged : isSound c ≡ false → ((r .outcome ≡ Outcome.Refused Error.BadState) × (r .count ≡ 0)) × ((d ≡ c) × (later ≡ out))
-  pub handled : isSound c ≡ true → HandledControl c d out later call clock r
+-- EVERY CALL: "21; .." comes first, and hands everything back as it was. It looks at what the call is lent; the slices that it is not lent may be
+-- any, and on a session that is whole the call is the model's
+pub record Answered (l : Lending) (s e : Store) (out later : List ℕ) (call : Call Input) (clock : ℕ) (r : Answer) : Type 0 where
+  pub damaged : isIntact l s ≡ false → ((r .outcome ≡ Outcome.Refused Error.BadState) × (r .count ≡ 0)) × ((e ≡ s) × (later ≡ out))
+  pub handled : isIntact l s ≡ true → Whole s → Handled s e out later call clock r

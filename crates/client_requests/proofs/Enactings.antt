@@ -21,7 +21,7 @@ use Rattle.model.specs.Step.{textsBy, texts, Counts, counts, refuses, step}
 use Rattle.model_steps.proofs.Counted.{counts-amend}
 use Rattle.control.specs.Control.{deviceCount, pendingAt, coreAt}
 use Rattle.session.specs.View.{Store, store, session, Whole, Lent}
-use Rattle.session.specs.Enact.{Enacted, Enacts}
+use Rattle.session.specs.Enact.{Enacted, EnactedControl}
 use Rattle.session.proofs.Views.{lent-after, devices-length, pending-count, deviceSeen}
 use Rattle.answers.specs.Answer.{outcomeOf}
 use Rattle.answers.specs.Meets.{Meets, turn, Handled}
@@ -52,7 +52,7 @@ module _ (s : Store) (out : List ℕ) (d : Decision) (amends : List Amend) (i : 
       (ap (λ (x : Decision). decidedStep x amends i load (session s)) is) done refl (ap outcomeOf (told .0)) (told .1) (sym (splice-none out 0))
 
 -- a change of the held touches leaves every count
-module _ {c e : List ℕ} {k : ℕ} {a : Amend} (h : Enacts c e (Edit.amend k a ∷ [])) where
+module _ {c e : List ℕ} {k : ℕ} {a : Amend} (h : EnactedControl c e (Edit.amend k a ∷ [])) where
   abbrev before : Store
   before = store c [] [] []
 

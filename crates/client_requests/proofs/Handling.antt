@@ -30,7 +30,7 @@ use Rattle.model_steps.proofs.Steps.{step-answer, step-sent, step-sent-short, s
 use Rattle.control.specs.Table.{first}
 use Rattle.control.specs.Control.{deviceCount, queueLength, seatAt, connectionOf, pendingAt, coreAt, coresOf}
 use Rattle.session.specs.View.{Store, store, session, Whole}
-use Rattle.session.specs.Enact.{Enacted, Enacts}
+use Rattle.session.specs.Enact.{Enacted, EnactedControl}
 use Rattle.session.proofs.Views.{connection-is, view-connection, requests-length, pending-count, enacted-none, enacted-join, found-device, no-device, found-seat, no-seat, found-interface, no-interface}
 use Rattle.queue.specs.Queue.{frameEntries, hasRoom}
 use Rattle.events.specs.Events.{Sends, Destroys}
@@ -318,7 +318,7 @@ module _ (s : Store) (cap : DeviceCapability) (id : ℕ) {b : ℕ} (q : b ≡ ca
   release-found e = rw (← q, found-interface s b id e)
 
 -- the connection is as it was
-pub unlinked-connection : {c e : List ℕ} {k : ℕ} {a : Amend} → Enacts c e (Edit.amend k a ∷ []) → connectionOf e ≡ connectionOf c
+pub unlinked-connection : {c e : List ℕ} {k : ℕ} {a : Amend} → EnactedControl c e (Edit.amend k a ∷ []) → connectionOf e ≡ connectionOf c
 unfolding enactAll enact withDevices
 unlinked-connection {c} {e} {k} {a} x =
     let d = x [] [] [] Load.None in

@@ -129,7 +129,7 @@ pub fn queue_request(
     request: Cell,
 ) -> Answer
     requires { ⌜ Lent (now control) (now words) (now reals) × ((k : ℕ) → decision ≡ Decision.Queued k → (k < deviceCount (now control)) × (pendingAt (now control) k < 64)) ⌝ }
-    ensures { λ r. ⌜ ((texts out : List ℕ) (i : Sight) (load : Load) → item i load ≡ itemAt texts (rowOf request) → Whole (store (now (control .entry)) (now (words .entry)) (now (reals .entry)) texts) → Meets (store (now (control .entry)) (now (words .entry)) (now (reals .entry)) texts) (store (now (control .exit)) (now (words .exit)) (now (reals .exit)) texts) out out (decidedStep decision [] i load (session (store (now (control .entry)) (now (words .entry)) (now (reals .entry)) texts))) r) ⌝ }
+    ensures { λ r. ⌜ ((texts out : List ℕ) (i : Sight) (load : Load) → item i load ≡ itemAt texts (rowOf request) → Whole (rowsBefore control words reals texts) → Meets (rowsBefore control words reals texts) (rowsAfter control words reals texts) out out (decidedStep decision [] i load (session (rowsBefore control words reals texts))) r) ⌝ }
 {
     match decision {
         Decision::Ignored => Answer::accepted(),
@@ -151,7 +151,7 @@ pub fn queue_down(
     request: Cell,
 ) -> Answer
     requires { ⌜ Lent (now control) (now words) (now reals) × ((k : ℕ) → decision ≡ Decision.Queued k → ((k < deviceCount (now control)) × (pendingAt (now control) k < 64)) × ((length (coreAt (now control) k .downTouchIds) < 16) × (member touch (coreAt (now control) k .downTouchIds) ≡ false))) ⌝ }
-    ensures { λ r. ⌜ ((texts out : List ℕ) (i : Sight) (load : Load) → item i load ≡ itemAt texts (rowOf request) → Whole (store (now (control .entry)) (now (words .entry)) (now (reals .entry)) texts) → Meets (store (now (control .entry)) (now (words .entry)) (now (reals .entry)) texts) (store (now (control .exit)) (now (words .exit)) (now (reals .exit)) texts) out out (decidedStep decision (Amend.touchDown touch ∷ []) i load (session (store (now (control .entry)) (now (words .entry)) (now (reals .entry)) texts))) r) ⌝ }
+    ensures { λ r. ⌜ ((texts out : List ℕ) (i : Sight) (load : Load) → item i load ≡ itemAt texts (rowOf request) → Whole (rowsBefore control words reals texts) → Meets (rowsBefore control words reals texts) (rowsAfter control words reals texts) out out (decidedStep decision (Amend.touchDown touch ∷ []) i load (session (rowsBefore control words reals texts))) r) ⌝ }
 {
     match decision {
         Decision::Ignored => Answer::accepted(),
@@ -174,7 +174,7 @@ pub fn queue_up(
     request: Cell,
 ) -> Answer
     requires { ⌜ Lent (now control) (now words) (now reals) × ((k : ℕ) → decision ≡ Decision.Queued k → (k < deviceCount (now control)) × (pendingAt (now control) k < 64)) ⌝ }
-    ensures { λ r. ⌜ ((texts out : List ℕ) (i : Sight) (load : Load) → item i load ≡ itemAt texts (rowOf request) → Whole (store (now (control .entry)) (now (words .entry)) (now (reals .entry)) texts) → Meets (store (now (control .entry)) (now (words .entry)) (now (reals .entry)) texts) (store (now (control .exit)) (now (words .exit)) (now (reals .exit)) texts) out out (decidedStep decision (Amend.touchUp touch ∷ []) i load (session (store (now (control .entry)) (now (words .entry)) (now (reals .entry)) texts))) r) ⌝ }
+    ensures { λ r. ⌜ ((texts out : List ℕ) (i : Sight) (load : Load) → item i load ≡ itemAt texts (rowOf request) → Whole (rowsBefore control words reals texts) → Meets (rowsBefore control words reals texts) (rowsAfter control words reals texts) out out (decidedStep decision (Amend.touchUp touch ∷ []) i load (session (rowsBefore control words reals texts))) r) ⌝ }
 {
     match decision {
         Decision::Ignored => Answer::accepted(),
@@ -197,7 +197,7 @@ pub fn queue_utf8(
     text: &[u8],
 ) -> Answer
     requires { ⌜ Whole (store (now control) (now words) (now reals) (now texts)) × (isUtf8 (now text) ≡ true) ⌝ }
-    ensures { λ r. ⌜ ((version clock : ℕ) (out : List ℕ) → Handled (store (now (control .entry)) (now (words .entry)) (now (reals .entry)) (now (texts .entry))) (store (now (control .exit)) (now (words .exit)) (now (reals .exit)) (now (texts .exit))) out out (Call.timed interface version (Input.Utf8 (now (text .entry)))) clock r) ⌝ }
+    ensures { λ r. ⌜ ((version clock : ℕ) → Silent control words reals texts (Call.timed interface version (Input.Utf8 (now (text .entry)))) clock r) ⌝ }
 {
     match device_for_interface(control, DeviceCapability::Text, interface) {
         Slot::At(k) => {

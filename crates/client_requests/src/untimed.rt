@@ -27,7 +27,7 @@ pub fn queue_untimed(
     request: EisRequest,
 ) -> Answer
     requires { ⌜ Lent (now control) (now words) (now reals) ⌝ }
-    ensures { λ r. ⌜ ((u : Untimed) (call : Call Input) (out texts : List ℕ) (clock : ℕ) → requestIn request [] ≡ Request.untimed u → decide (view (session (store (now (control .entry)) (now (words .entry)) (now (reals .entry)) texts))) clock (mapCall sight call) ≡ edit (Edit.queue u ∷ []) → Whole (store (now (control .entry)) (now (words .entry)) (now (reals .entry)) texts) → Handled (store (now (control .entry)) (now (words .entry)) (now (reals .entry)) texts) (store (now (control .exit)) (now (words .exit)) (now (reals .exit)) texts) out out call clock r) ⌝ }
+    ensures { λ r. ⌜ ((u : Untimed) (call : Call Input) (out texts : List ℕ) (clock : ℕ) → requestIn request [] ≡ Request.untimed u → decide (view (session (rowsBefore control words reals texts))) clock (mapCall sight call) ≡ edit (Edit.queue u ∷ []) → Whole (rowsBefore control words reals texts) → Handled (rowsBefore control words reals texts) (rowsAfter control words reals texts) out out call clock r) ⌝ }
 {
     if !queue::has_room(control, 1) {
         return Answer::refused(Error::FullQueue);
@@ -58,7 +58,7 @@ const CALLBACK: u8 = 2;
 // "Seat Release .. always sends destroyed."
 pub fn release_seat(control: &mut [u64], seat: u64, out: &mut [u8]) -> Answer
     requires { ⌜ Sound (now control) ⌝ }
-    ensures { λ r. ⌜ ((clock : ℕ) → HandledControl (now (control .entry)) (now (control .exit)) (now (out .entry)) (now (out .exit)) (Call.plain (Plain.seatRelease seat)) clock r) ⌝ }
+    ensures { λ r. ⌜ ((clock : ℕ) → HandlesControl control out (Call.plain (Plain.seatRelease seat)) clock r) ⌝ }
 {
     if out.len() < events::DESTROYED_LENGTH {
         return Answer::refused(Error::ShortOut);
@@ -79,7 +79,7 @@ pub fn queue_for_seat(
     request: EisRequest,
 ) -> Answer
     requires { ⌜ Lent (now control) (now words) (now reals) ⌝ }
-    ensures { λ r. ⌜ ((u : Untimed) (call : Call Input) (out : List ℕ) (clock : ℕ) → requestIn request [] ≡ Request.untimed u → ((v : View) → decide v clock (mapCall sight call) ≡ handleSeat v seat capabilities u) → HandledRows (now (control .entry)) (now (words .entry)) (now (reals .entry)) (now (control .exit)) (now (words .exit)) (now (reals .exit)) out out call clock r) ⌝ }
+    ensures { λ r. ⌜ ((u : Untimed) (call : Call Input) (clock : ℕ) → requestIn request [] ≡ Request.untimed u → ((v : View) → decide v clock (mapCall sight call) ≡ handleSeat v seat capabilities u) → SilentRows control words reals call clock r) ⌝ }
 {
     match control::find_seat(control, seat) {
         Slot::At(k) => {
@@ -105,7 +105,7 @@ pub fn queue_for_device(
     request: EisRequest,
 ) -> Answer
     requires { ⌜ Lent (now control) (now words) (now reals) ⌝ }
-    ensures { λ r. ⌜ ((u : Untimed) (call : Call Input) (out : List ℕ) → requestIn request [] ≡ Request.untimed u → ((v : View) → decide v clock (mapCall sight call) ≡ handleDevice v clock device u) → HandledRows (now (control .entry)) (now (words .entry)) (now (reals .entry)) (now (control .exit)) (now (words .exit)) (now (reals .exit)) out out call clock r) ⌝ }
+    ensures { λ r. ⌜ ((u : Untimed) (call : Call Input) → requestIn request [] ≡ Request.untimed u → ((v : View) → decide v clock (mapCall sight call) ≡ handleDevice v clock device u) → SilentRows control words reals call clock r) ⌝ }
 {
     match control::find_device(control, device) {
         Slot::At(k) => {
@@ -131,7 +131,7 @@ pub fn queue_frame(
     time: u64,
 ) -> Answer
     requires { ⌜ Lent (now control) (now words) (now reals) ⌝ }
-    ensures { λ r. ⌜ ((out : List ℕ) (clock : ℕ) → HandledRows (now (control .entry)) (now (words .entry)) (now (reals .entry)) (now (control .exit)) (now (words .exit)) (now (reals .exit)) out out (Call.plain (Plain.deviceFrame device serial time)) clock r) ⌝ }
+    ensures { λ r. ⌜ ((clock : ℕ) → SilentRows control words reals (Call.plain (Plain.deviceFrame device serial time)) clock r) ⌝ }
 {
     match control::find_device(control, device) {
         Slot::At(k) => {
@@ -153,7 +153,7 @@ pub fn release_interface(
     out: &mut [u8],
 ) -> Answer
     requires { ⌜ Sound (now control) ⌝ }
-    ensures { λ r. ⌜ ((clock : ℕ) → HandledControl (now (control .entry)) (now (control .exit)) (now (out .entry)) (now (out .exit)) (Call.plain (Plain.interfaceRelease capability interface)) clock r) ⌝ }
+    ensures { λ r. ⌜ ((clock : ℕ) → HandlesControl control out (Call.plain (Plain.interfaceRelease capability interface)) clock r) ⌝ }
 {
     let bit = DeviceCapability::lowest(DeviceCapability::mask(capability));
     match control::find_interface(control, bit, interface) {

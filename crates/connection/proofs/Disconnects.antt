@@ -22,7 +22,7 @@ use Rattle.model_steps.proofs.Counted.{removes-seats}
 use Rattle.model_steps.proofs.Steps.{step-remove, step-remove-short}
 use Rattle.control.specs.Control.{connectionOf}
 use Rattle.session.specs.View.{Store, store, sessionIn, session, Whole}
-use Rattle.session.specs.Enact.{Enacts, EnactsRows}
+use Rattle.session.specs.Enact.{EnactedControl, EnactedRows}
 use Rattle.session.proofs.Views.{enacted-join, view-connection, pending-few}
 use Rattle.events.specs.declared.Mark.{Mark}
 use Rattle.events.specs.Events.{Sends, Destroys, bareDevices}
@@ -69,7 +69,7 @@ destroys-sends {mark = mark} {objects = objects} d =
     record { bytes = d .bytes; next = omega (arith, d .at, destroyed-length (mark .serial) objects) }
 
 -- the seats are not the serial's matter
-raised-seats : {c d : List ℕ} {n : ℕ} → Enacts c d (Edit.raise n ∷ []) → connectionOf d .seats ≡ connectionOf c .seats
+raised-seats : {c d : List ℕ} {n : ℕ} → EnactedControl c d (Edit.raise n ∷ []) → connectionOf d .seats ≡ connectionOf c .seats
 unfolding session sessionIn enactAll enact withConnection connectionWith
 raised-seats done = ap (λ (s : Session Load). s .connection .seats) (done [] [] [] Load.None .view)
 
@@ -155,7 +155,7 @@ module _ (s : Store) (w : Whole s) (out : List ℕ) (clock : ℕ) (reason : Disc
 
       pub disconnected-done : {later d c f : List ℕ} {g : List Float} {object n : ℕ} {r : Answer} → object ≡ connection .id
           → Sends m later (v .at) (record { object = object; event = Event.Disconnected (v .serial) number given; text = text } ∷ []) n
-          → Enacts (s .control) d (Edit.raise (length gone) ∷ []) → EnactsRows d (s .words) (s .reals) c f g (removeSeats (connectionOf d .seats))
+          → EnactedControl (s .control) d (Edit.raise (length gone) ∷ []) → EnactedRows d (s .words) (s .reals) c f g (removeSeats (connectionOf d .seats))
           → length f ≡ length (s .words) → length g ≡ length (s .reals) → (r .outcome ≡ Outcome.Accepted) × (r .count ≡ n)
           → Handled s (store c f g (s .texts)) out later call clock r
       unfolding split send refuses refusal

@@ -16,7 +16,7 @@ use Rattle.model_steps.proofs.Counted.{removesAll}
 use Rattle.model_steps.proofs.Steps.{step-remove, step-remove-short}
 use Rattle.control.specs.Control.{connectionOf}
 use Rattle.session.specs.View.{Store, store, session, isWhole}
-use Rattle.session.specs.Enact.{Enacts, EnactsRows}
+use Rattle.session.specs.Enact.{EnactedControl, EnactedRows}
 use Rattle.session.proofs.Views.{whole-parts, enacted-join, view-connection, pending-few}
 use Rattle.events.specs.declared.Mark.{Mark}
 use Rattle.events.specs.Events.{Destroys}
@@ -65,8 +65,8 @@ module _ (s : Store) (w : isWhole s ≡ true) (out : List ℕ) (call : Plain) (c
       (step-remove-short t (session s) told all planned q (pending-few s whole) (omega (arith, destroyed-length last objects))) a)
 
   pub gone : {c d v later : List ℕ} {f : List Float} {n : ℕ} {mark m : Mark} {r : Answer} → n ≡ length objects → 14 * n ≤ length out → mark .at ≡ 0
-      → mark .serial ≡ last → Destroys out later mark objects m → ((i : ℕ) → m .serial ≡ raised i last → Enacts (s .control) c (Edit.raise i ∷ []))
-      → EnactsRows c (s .words) (s .reals) d v f edits → length v ≡ length (s .words) → length f ≡ length (s .reals)
+      → mark .serial ≡ last → Destroys out later mark objects m → ((i : ℕ) → m .serial ≡ raised i last → EnactedControl (s .control) c (Edit.raise i ∷ []))
+      → EnactedRows c (s .words) (s .reals) d v f edits → length v ≡ length (s .words) → length f ≡ length (s .reals)
       → (r .outcome ≡ Outcome.Accepted) × (r .count ≡ m .at) → Answered s (store d v f (s .texts)) out later (Call.plain call) clock r
   unfolding split send refuses
   gone {c} {d} {v} {later} {f} {r = r} e room start serial b raises removes words reals a =

@@ -22,7 +22,7 @@ use Rattle.model.specs.Step.{refuses, step}
 use Rattle.model_steps.proofs.Steps.{seatPlan, step-seat-full, step-seat-spent, step-seat-short, step-seat}
 use Rattle.control.specs.Control.{seatCount, connectionOf}
 use Rattle.session.specs.View.{Store, store, session, Whole}
-use Rattle.session.specs.Enact.{Enacts}
+use Rattle.session.specs.Enact.{EnactedControl}
 use Rattle.session.proofs.Views.{connection-is, view-connection, seats-length}
 use Rattle.events.specs.Events.{Sends}
 use Rattle.events.proofs.Writes.{append-length, one-length, cons-length, sends-join}
@@ -162,7 +162,7 @@ module _ (s : Store) (w : Whole s) (out : List ℕ) (clock : ℕ) (name : Option
             over-handled s out call clock (Outcome.Refused Error.ShortOut) r w
             (step-seat-short t (session s) planned (omega (arith, seats-length s)) (omega arith) h)
 
-        pub seat-done : {d later : List ℕ} {n : ℕ} → Enacts (s .control) d (Edit.addSeat caps ∷ []) → length (records told) ≤ length out → Sends out later 0 told n
+        pub seat-done : {d later : List ℕ} {n : ℕ} → EnactedControl (s .control) d (Edit.addSeat caps ∷ []) → length (records told) ≤ length out → Sends out later 0 told n
             → Handled s (store d (s .words) (s .reals) (s .texts)) out later call clock (record { outcome = Outcome.Seat id; count = n })
         unfolding split refuses refusal
         seat-done {d} {later} {n} done room sends =

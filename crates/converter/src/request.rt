@@ -79,7 +79,7 @@ pub fn new(
     texts: &[u8],
     response: EisHandshakeResp,
 ) -> Answer
-    ensures { λ r. ⌜ Begins (store (now (control .entry)) (now (words .entry)) (now (reals .entry)) (now (texts .entry))) (store (now (control .exit)) (now (words .entry)) (now (reals .entry)) (now (texts .entry))) response r ⌝ }
+    ensures { λ r. ⌜ Begins (before control words reals texts) (after control words reals texts) response r ⌝ }
 {
     if control.len() != CONTROL_LENGTH {
         return Answer::refused(Error::BadState);
@@ -121,7 +121,7 @@ pub fn next_request(
     texts: &[u8],
     buffer: &mut [u8],
 ) -> NextRequest
-    ensures { λ r. ⌜ Delivered (store (now (control .entry)) (now (words .entry)) (now (reals .entry)) (now (texts .entry))) (store (now (control .exit)) (now (words .entry)) (now (reals .entry)) (now (texts .entry))) (now (buffer .entry)) (now (buffer .exit)) r ⌝ }
+    ensures { λ r. ⌜ Delivered (before control words reals texts) (after control words reals texts) (now (buffer .entry)) (now (buffer .exit)) r ⌝ }
 {
     if !session::whole(control, words, reals, texts) {
         return NextRequest::Refused(Error::BadState);
@@ -152,7 +152,7 @@ pub fn handle_interface_request(
     out: &mut [u8],
 ) -> Answer
     requires { ⌜ Whole (store (now control) (now words) (now reals) (now texts)) × (onInterface request ≡ true) ⌝ }
-    ensures { λ r. ⌜ ((clock : ℕ) → Handled (store (now (control .entry)) (now (words .entry)) (now (reals .entry)) (now (texts .entry))) (store (now (control .exit)) (now (words .exit)) (now (reals .exit)) (now (texts .exit))) (now (out .entry)) (now (out .exit)) (callOf request object version (now (text .entry))) clock r) ⌝ }
+    ensures { λ r. ⌜ ((clock : ℕ) → Handles control words reals texts out (callOf request object version (now (text .entry))) clock r) ⌝ }
 {
     match request {
         Request::Pointer(r) => handlers::handle_pointer_request(

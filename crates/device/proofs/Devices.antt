@@ -24,7 +24,7 @@ use Rattle.control.specs.Table.{first}
 use Rattle.control.specs.Control.{deviceCount, connectionOf, coreAt, coresOf}
 use Rattle.control.specs.Sound.{Sound}
 use Rattle.session.specs.View.{Store, store, session, Whole}
-use Rattle.session.specs.Enact.{Enacts}
+use Rattle.session.specs.Enact.{EnactedControl}
 use Rattle.session.proofs.Views.{enacted-none, enacted-join, devices-length}
 use Rattle.events.specs.Events.{Sends}
 use Rattle.events.proofs.Writes.{one-length}
@@ -45,7 +45,7 @@ unfolding raised
 raise-one last e = e
 
 -- they are no device's
-pub raise-count : {c d : List ℕ} {n : ℕ} → Enacts c d (Edit.raise n ∷ []) → deviceCount d ≡ deviceCount c
+pub raise-count : {c d : List ℕ} {n : ℕ} → EnactedControl c d (Edit.raise n ∷ []) → deviceCount d ≡ deviceCount c
 unfolding enactAll enact withConnection
 raise-count {c} {d} h =
     sym (devices-length (store d [] [] []))
@@ -54,10 +54,10 @@ raise-count {c} {d} h =
 
 -- ---- what a notice changes
 
-pub enacts-paused : {c d : List ℕ} (n : Notice) (k : ℕ) → n ≡ Notice.Paused → Enacts c d (Edit.amend k Amend.clearTouches ∷ []) → Enacts c d (noticeEdits n k)
+pub enacts-paused : {c d : List ℕ} (n : Notice) (k : ℕ) → n ≡ Notice.Paused → EnactedControl c d (Edit.amend k Amend.clearTouches ∷ []) → EnactedControl c d (noticeEdits n k)
 enacts-paused n k e h = rw e h
 
-pub enacts-nothing : {c : List ℕ} (n : Notice) (k : ℕ) → noticeEdits n k ≡ [] → Sound c → Enacts c c (noticeEdits n k)
+pub enacts-nothing : {c : List ℕ} (n : Notice) (k : ℕ) → noticeEdits n k ≡ [] → Sound c → EnactedControl c c (noticeEdits n k)
 enacts-nothing {c} n k e ok = rw e (λ words reals texts load. enacted-none (store c words reals texts) load ok)
 
 -- ---- a notice
@@ -99,7 +99,7 @@ module _ (s : Store) (whole : Whole s) (out : List ℕ) (device clock : ℕ) (n 
       (step-sent-short turned (session s) events edits planned (notice-quiet n k) (omega (arith, events-length))) a
 
   pub notice-told : {c d later : List ℕ} {m : ℕ} {r : Answer} → x ≤ length out → Sends out later 0 events m
-      → ((i : ℕ) → serial ≡ raised i (connectionOf (s .control) .lastSerial) → Enacts (s .control) c (Edit.raise i ∷ [])) → Enacts c d (noticeEdits n k)
+      → ((i : ℕ) → serial ≡ raised i (connectionOf (s .control) .lastSerial) → EnactedControl (s .control) c (Edit.raise i ∷ [])) → EnactedControl c d (noticeEdits n k)
       → (r .outcome ≡ Outcome.Accepted) × (r .count ≡ m) → Handled s (store d (s .words) (s .reals) (s .texts)) out later (Call.plain call) clock r
   unfolding split send refuses
   notice-told {c} {d} {later} {r = r} h b raises more a =

@@ -69,7 +69,7 @@ fn event_of(notice: Notice, serial: u32) -> Event
 // "`paused` empties the held touches": the one notice that changes its device.
 fn enact(control: &mut [u64], k: usize, notice: Notice)
     requires { ⌜ Sound (now control) × (k < deviceCount (now control)) ⌝ }
-    ensures { λ _. ⌜ Enacts (now (control .entry)) (now (control .exit)) (noticeEdits notice k) ⌝ }
+    ensures { λ _. ⌜ EnactsControl control (noticeEdits notice k) ⌝ }
 {
     match notice {
         Notice::Paused => session::clear_touches(control, k),

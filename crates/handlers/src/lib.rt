@@ -65,7 +65,7 @@ pub fn handle_connection_request(
     out: &mut [u8],
 ) -> Answer
     requires { ⌜ Lent (now control) (now words) (now reals) ⌝ }
-    ensures { λ r. ⌜ ((clock : ℕ) → HandledRows (now (control .entry)) (now (words .entry)) (now (reals .entry)) (now (control .exit)) (now (words .exit)) (now (reals .exit)) (now (out .entry)) (now (out .exit)) (connectionCall request) clock r) ⌝ }
+    ensures { λ r. ⌜ ((clock : ℕ) → HandlesRows control words reals out (connectionCall request) clock r) ⌝ }
 {
     match request {
         ConnectionRequest::Sync { callback, version } => client_requests::untimed::sync(
@@ -91,7 +91,7 @@ pub fn handle_seat_request(
     out: &mut [u8],
 ) -> Answer
     requires { ⌜ Lent (now control) (now words) (now reals) ⌝ }
-    ensures { λ r. ⌜ ((clock : ℕ) → HandledRows (now (control .entry)) (now (words .entry)) (now (reals .entry)) (now (control .exit)) (now (words .exit)) (now (reals .exit)) (now (out .entry)) (now (out .exit)) (seatCall request seat) clock r) ⌝ }
+    ensures { λ r. ⌜ ((clock : ℕ) → HandlesRows control words reals out (seatCall request seat) clock r) ⌝ }
 {
     match request {
         SeatRequest::Release => client_requests::untimed::release_seat(control, seat, out),
@@ -129,7 +129,7 @@ pub fn handle_device_request(
     clock: u64,
 ) -> Answer
     requires { ⌜ Lent (now control) (now words) (now reals) ⌝ }
-    ensures { λ r. ⌜ ((out : List ℕ) → HandledRows (now (control .entry)) (now (words .entry)) (now (reals .entry)) (now (control .exit)) (now (words .exit)) (now (reals .exit)) out out (deviceCall request device) clock r) ⌝ }
+    ensures { λ r. ⌜ (SilentRows control words reals (deviceCall request device) clock r) ⌝ }
 {
     match request {
         DeviceRequest::Release => {
@@ -186,7 +186,7 @@ fn queue_request(
     request: Cell,
 ) -> Answer
     requires { ⌜ Lent (now control) (now words) (now reals) × Queues capability ⌝ }
-    ensures { λ r. ⌜ ((kind : Kind) (version : ℕ) (input : Input) → handler kind ≡ handledBy capability Rule.queued → Waits input request (bare kind) → (out : List ℕ) (clock : ℕ) → HandledRows (now (control .entry)) (now (words .entry)) (now (reals .entry)) (now (control .exit)) (now (words .exit)) (now (reals .exit)) out out (Call.timed interface version input) clock r) ⌝ }
+    ensures { λ r. ⌜ ((kind : Kind) (version : ℕ) (input : Input) → handler kind ≡ handledBy capability Rule.queued → Waits input request (bare kind) → (clock : ℕ) → SilentRows control words reals (Call.timed interface version input) clock r) ⌝ }
 {
     let decision = client_requests::timed::decide(control, capability, interface);
     client_requests::timed::queue_request(control, words, reals, decision, request)
@@ -201,7 +201,7 @@ pub fn handle_keyboard_request(
     out: &mut [u8],
 ) -> Answer
     requires { ⌜ Lent (now control) (now words) (now reals) ⌝ }
-    ensures { λ r. ⌜ ((version clock : ℕ) → HandledRows (now (control .entry)) (now (words .entry)) (now (reals .entry)) (now (control .exit)) (now (words .exit)) (now (reals .exit)) (now (out .entry)) (now (out .exit)) (keyboardCall request keyboard version) clock r) ⌝ }
+    ensures { λ r. ⌜ ((version clock : ℕ) → HandlesRows control words reals out (keyboardCall request keyboard version) clock r) ⌝ }
 {
     match request {
         KeyboardRequest::Release => client_requests::untimed::release_interface(
@@ -233,7 +233,7 @@ pub fn handle_pointer_request(
     out: &mut [u8],
 ) -> Answer
     requires { ⌜ Lent (now control) (now words) (now reals) ⌝ }
-    ensures { λ r. ⌜ ((version clock : ℕ) → HandledRows (now (control .entry)) (now (words .entry)) (now (reals .entry)) (now (control .exit)) (now (words .exit)) (now (reals .exit)) (now (out .entry)) (now (out .exit)) (pointerCall request pointer version) clock r) ⌝ }
+    ensures { λ r. ⌜ ((version clock : ℕ) → HandlesRows control words reals out (pointerCall request pointer version) clock r) ⌝ }
 {
     match request {
         PointerRequest::Release => client_requests::untimed::release_interface(
@@ -265,7 +265,7 @@ pub fn handle_pointer_absolute_request(
     out: &mut [u8],
 ) -> Answer
     requires { ⌜ Lent (now control) (now words) (now reals) ⌝ }
-    ensures { λ r. ⌜ ((version clock : ℕ) → HandledRows (now (control .entry)) (now (words .entry)) (now (reals .entry)) (now (control .exit)) (now (words .exit)) (now (reals .exit)) (now (out .entry)) (now (out .exit)) (pointerAbsoluteCall request «pointer_absolute» version) clock r) ⌝ }
+    ensures { λ r. ⌜ ((version clock : ℕ) → HandlesRows control words reals out (pointerAbsoluteCall request «pointer_absolute» version) clock r) ⌝ }
 {
     match request {
         PointerAbsoluteRequest::Release => client_requests::untimed::release_interface(
@@ -297,7 +297,7 @@ pub fn handle_button_request(
     out: &mut [u8],
 ) -> Answer
     requires { ⌜ Lent (now control) (now words) (now reals) ⌝ }
-    ensures { λ r. ⌜ ((version clock : ℕ) → HandledRows (now (control .entry)) (now (words .entry)) (now (reals .entry)) (now (control .exit)) (now (words .exit)) (now (reals .exit)) (now (out .entry)) (now (out .exit)) (buttonCall request interface version) clock r) ⌝ }
+    ensures { λ r. ⌜ ((version clock : ℕ) → HandlesRows control words reals out (buttonCall request interface version) clock r) ⌝ }
 {
     match request {
         ButtonRequest::Release => client_requests::untimed::release_interface(
@@ -340,7 +340,7 @@ pub fn handle_scroll_request(
     out: &mut [u8],
 ) -> Answer
     requires { ⌜ Lent (now control) (now words) (now reals) ⌝ }
-    ensures { λ r. ⌜ ((version clock : ℕ) → HandledRows (now (control .entry)) (now (words .entry)) (now (reals .entry)) (now (control .exit)) (now (words .exit)) (now (reals .exit)) (now (out .entry)) (now (out .exit)) (scrollCall request scroll version) clock r) ⌝ }
+    ensures { λ r. ⌜ ((version clock : ℕ) → HandlesRows control words reals out (scrollCall request scroll version) clock r) ⌝ }
 {
     match request {
         ScrollRequest::Release => client_requests::untimed::release_interface(
@@ -395,7 +395,7 @@ pub fn handle_touchscreen_request(
     out: &mut [u8],
 ) -> Answer
     requires { ⌜ Lent (now control) (now words) (now reals) ⌝ }
-    ensures { λ r. ⌜ ((clock : ℕ) → HandledRows (now (control .entry)) (now (words .entry)) (now (reals .entry)) (now (control .exit)) (now (words .exit)) (now (reals .exit)) (now (out .entry)) (now (out .exit)) (touchscreenCall request touchscreen version) clock r) ⌝ }
+    ensures { λ r. ⌜ ((clock : ℕ) → HandlesRows control words reals out (touchscreenCall request touchscreen version) clock r) ⌝ }
 {
     match request {
         TouchscreenRequest::Release => client_requests::untimed::release_interface(
@@ -443,7 +443,7 @@ pub fn handle_text_request(
     out: &mut [u8],
 ) -> Answer
     requires { ⌜ Whole (store (now control) (now words) (now reals) (now texts)) ⌝ }
-    ensures { λ r. ⌜ ((version clock : ℕ) → Handled (store (now (control .entry)) (now (words .entry)) (now (reals .entry)) (now (texts .entry))) (store (now (control .exit)) (now (words .exit)) (now (reals .exit)) (now (texts .exit))) (now (out .entry)) (now (out .exit)) (textCall request interface version (now (text .entry))) clock r) ⌝ }
+    ensures { λ r. ⌜ ((version clock : ℕ) → Handles control words reals texts out (textCall request interface version (now (text .entry))) clock r) ⌝ }
 {
     match request {
         TextRequest::Release => client_requests::untimed::release_interface(

@@ -53,7 +53,7 @@ fn queue_row(head: usize, j: usize) -> usize
 // A request more in the pending list of the device in slot k.
 pub fn pend(control: &mut [u64], words: &mut [u64], reals: &mut [f32], k: usize, request: Cell)
     requires { ⌜ Lent (now control) (now words) (now reals) × ((k < deviceCount (now control)) × (pendingAt (now control) k < 64)) ⌝ }
-    ensures { λ _. ⌜ ((texts : List ℕ) (sight : Sight) (load : Load) → item sight load ≡ itemAt texts (rowOf request) → Enacted (store (now (control .entry)) (now (words .entry)) (now (reals .entry)) texts) (store (now (control .exit)) (now (words .exit)) (now (reals .exit)) texts) (Edit.pend k sight ∷ []) load) ⌝ }
+    ensures { λ _. ⌜ ((texts : List ℕ) (sight : Sight) (load : Load) → item sight load ≡ itemAt texts (rowOf request) → Enacted (rowsBefore control words reals texts) (rowsAfter control words reals texts) (Edit.pend k sight ∷ []) load) ⌝ }
 {
     let n = control::pending_count(control, k);
     row::put_cell(words, reals, PENDING * k + n, request);
@@ -63,7 +63,7 @@ pub fn pend(control: &mut [u64], words: &mut [u64], reals: &mut [f32], k: usize,
 // An untimed request more in the queue.
 pub fn push(control: &mut [u64], words: &mut [u64], reals: &mut [f32], request: EisRequest)
     requires { ⌜ Lent (now control) (now words) (now reals) × (queueLength (now control) < 256) ⌝ }
-    ensures { λ _. ⌜ ((r : Untimed) → requestIn request [] ≡ Request.untimed r → EnactsRows (now (control .entry)) (now (words .entry)) (now (reals .entry)) (now (control .exit)) (now (words .exit)) (now (reals .exit)) (Edit.queue r ∷ [])) ⌝ }
+    ensures { λ _. ⌜ ((r : Untimed) → requestIn request [] ≡ Request.untimed r → EnactsRows control words reals (Edit.queue r ∷ [])) ⌝ }
 {
     let head = control::queue_head(control);
     let queued = control::queue_length(control);
@@ -109,7 +109,7 @@ pub fn frame(
     time: u64,
 )
     requires { ⌜ Lent (now control) (now words) (now reals) × ((k < deviceCount (now control)) × (queueLength (now control) + frameEntries (pendingAt (now control) k) ≤ 256)) ⌝ }
-    ensures { λ _. ⌜ EnactsRows (now (control .entry)) (now (words .entry)) (now (reals .entry)) (now (control .exit)) (now (words .exit)) (now (reals .exit)) (Edit.frame k serial time ∷ []) ⌝ }
+    ensures { λ _. ⌜ EnactsRows control words reals (Edit.frame k serial time ∷ []) ⌝ }
 {
     let n = control::pending_count(control, k);
     if n == 0 {
@@ -148,7 +148,7 @@ pub fn oldest_slot(control: &[u64], words: &[u64], reals: &[f32]) -> usize
 // The oldest queued request taken out.
 pub fn pop(control: &mut [u64])
     requires { ⌜ Sound (now control) × (0 < queueLength (now control)) ⌝ }
-    ensures { λ _. ⌜ Enacts (now (control .entry)) (now (control .exit)) (Edit.deliver ∷ []) ⌝ }
+    ensures { λ _. ⌜ EnactsControl control (Edit.deliver ∷ []) ⌝ }
 {
     let head = control::queue_head(control);
     let queued = control::queue_length(control);

@@ -16,7 +16,7 @@ use Rattle.control.proofs.Tables.{case-eq}
 use Rattle.control.specs.Change.{Removed}
 use Rattle.control.proofs.Lists.{removed-devices}
 use Rattle.session.specs.View.{pendingRow, queueRow, requestAt, itemAt, deviceIn, sessionIn, session}
-use Rattle.session.specs.Enact.{EnactsRows}
+use Rattle.session.specs.Enact.{EnactedRows}
 use Rattle.session.proofs.Views.{device-ext, queue-ext}
 use Rattle.removal.specs.Shift.{Shifted}
 
@@ -76,7 +76,7 @@ module _ (c w v : List ℕ) (r q : List Float) (k : ℕ) {to from n at start m :
       row-ext w v r q i i (λ f l. words .other (i * 5 + f) (λ a b. h (omega arith) (omega arith)))
       (λ f l. reals .other (i * 2 + f) (λ a b. h (omega arith) (omega arith)))
 
-  pub device-out : (e : List ℕ) → Sound c → k < deviceCount c → Removed c e k → EnactsRows c w r e v q (Edit.removeDevice k ∷ [])
+  pub device-out : (e : List ℕ) → Sound c → k < deviceCount c → Removed c e k → EnactedRows c w r e v q (Edit.removeDevice k ∷ [])
   unfolding session sessionIn enactAll enact withDevices
   device-out e ok l o texts load =
       let rows : ℕ → Row = rowAt w r in

@@ -43,7 +43,7 @@ fn shift_reals(a: &mut [f32], to: usize, from: usize, n: usize)
 // The device in slot k taken out with what it has pending; those behind it move down. What is queued stays.
 pub fn remove_device(control: &mut [u64], words: &mut [u64], reals: &mut [f32], k: usize)
     requires { ⌜ Lent (now control) (now words) (now reals) × (k < deviceCount (now control)) ⌝ }
-    ensures { λ _. ⌜ EnactsRows (now (control .entry)) (now (words .entry)) (now (reals .entry)) (now (control .exit)) (now (words .exit)) (now (reals .exit)) (Edit.removeDevice k ∷ []) ⌝ }
+    ensures { λ _. ⌜ EnactsRows control words reals (Edit.removeDevice k ∷ []) ⌝ }
 {
     let behind = control::device_count(control) - 1 - k;
     shift_words(
@@ -64,7 +64,7 @@ pub fn remove_device(control: &mut [u64], words: &mut [u64], reals: &mut [f32], 
 // Every device of a seat taken out.
 pub fn remove_devices_of(control: &mut [u64], words: &mut [u64], reals: &mut [f32], seat: u64)
     requires { ⌜ Lent (now control) (now words) (now reals) ⌝ }
-    ensures { λ _. ⌜ EnactsRows (now (control .entry)) (now (words .entry)) (now (reals .entry)) (now (control .exit)) (now (words .exit)) (now (reals .exit)) (Edit.removeDevicesOf seat ∷ []) ⌝ }
+    ensures { λ _. ⌜ EnactsRows control words reals (Edit.removeDevicesOf seat ∷ []) ⌝ }
 {
     let mut k: usize = 0;
     while k < control::device_count(control) {
@@ -79,7 +79,7 @@ pub fn remove_devices_of(control: &mut [u64], words: &mut [u64], reals: &mut [f3
 // Every seat taken out, each after its devices.
 pub fn remove_seats(control: &mut [u64], words: &mut [u64], reals: &mut [f32])
     requires { ⌜ Lent (now control) (now words) (now reals) ⌝ }
-    ensures { λ _. ⌜ EnactsRows (now (control .entry)) (now (words .entry)) (now (reals .entry)) (now (control .exit)) (now (words .exit)) (now (reals .exit)) (removeSeats (connectionOf (now (control .entry)) .seats)) ⌝ }
+    ensures { λ _. ⌜ EnactsRows control words reals (removeSeats (connectionOf (now (control .entry)) .seats)) ⌝ }
 {
     while 0 < control::seat_count(control) {
         let seat = control::seat_id(control, 0);

@@ -26,7 +26,7 @@ use Rattle.model_steps.proofs.Steps.{devicePlan, step-device-full, step-device-
 use Rattle.control.specs.Table.{first}
 use Rattle.control.specs.Control.{deviceCount, seatAt, connectionOf}
 use Rattle.session.specs.View.{Store, store, session, isWhole, Whole}
-use Rattle.session.specs.Enact.{Enacts}
+use Rattle.session.specs.Enact.{EnactedControl}
 use Rattle.session.proofs.Views.{connection-is, view-connection, devices-length, found-seat, no-seat}
 use Rattle.events.specs.Events.{Sends}
 use Rattle.events.proofs.Writes.{append-length, one-length, cons-length, sends-join}
@@ -241,7 +241,7 @@ module _ (s : Store) (out : List ℕ) (clock seat : ℕ) (name : Option (List �
             over-handled s out (Call.plain call) clock (Outcome.Refused Error.ShortOut) r w
             (step-device-short t (session s) planned (omega (arith, devices-length s)) (omega (arith, next-is)) h)
 
-        pub added-done : {d later : List ℕ} {n : ℕ} → Enacts (s .control) d (Edit.addDevice seat both ∷ []) → length (records told) ≤ length out → Sends out later 0 told n
+        pub added-done : {d later : List ℕ} {n : ℕ} → EnactedControl (s .control) d (Edit.addDevice seat both ∷ []) → length (records told) ≤ length out → Sends out later 0 told n
             → Handled s (store d (s .words) (s .reals) (s .texts)) out later (Call.plain call) clock (record { outcome = Outcome.Device id; count = n })
         unfolding split refuses refusal
         added-done {d} {later} done room sends =

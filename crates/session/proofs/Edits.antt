@@ -28,7 +28,7 @@ use Rattle.control.proofs.Models.{seats-without}
 use Rattle.control.specs.Change.{SameQueue, Reconnected, Amended, Appended, newCore, withTouches, withInterfaces, unlinkedBit, withSeats, withSerial, withNextId}
 use Rattle.control.proofs.Lists.{amended-devices, reconnected-twice, new-core, unlinked-core}
 use Rattle.session.specs.View.{pendingRow, itemAt, deviceIn, queueIn, sessionIn, session}
-use Rattle.session.specs.Enact.{Enacts}
+use Rattle.session.specs.Enact.{EnactedControl}
 use Rattle.session.proofs.Views.{session-of, device-ext, queue-ext}
 
 -- ---- the session after a change
@@ -74,7 +74,7 @@ module _ (c e : List ℕ) (rows : ℕ → Row) (texts : List ℕ) where
 
 module _ {c e : List ℕ} where
   reconnects : {to : Connection} (edit : Edit) → Reconnected c e to
-      → ((load : Load) (s : Session Load) → s .connection ≡ connectionOf c → enact edit load s ≡ withConnection to s) → Enacts c e (edit ∷ [])
+      → ((load : Load) (s : Session Load) → s .connection ≡ connectionOf c → enact edit load s ≡ withConnection to s) → EnactedControl c e (edit ∷ [])
   unfolding session sessionIn enactAll
   reconnects edit r h words reals texts load =
       record {
@@ -83,7 +83,7 @@ module _ {c e : List ℕ} where
       }
 
   pub serial-raised : {serial : ℕ} → Reconnected c e (withSerial serial (connectionOf c)) → (n : ℕ) → serial ≡ raised n (connectionOf c .lastSerial)
-      → Enacts c e (Edit.raise n ∷ [])
+      → EnactedControl c e (Edit.raise n ∷ [])
   unfolding enact
   serial-raised {serial} r n h =
       reconnects (Edit.raise n) r
@@ -93,7 +93,7 @@ module _ {c e : List ℕ} where
 
   pub seat-added : {m : List ℕ} (id caps : ℕ) → id ≡ connectionOf c .nextId → caps < 128
       → Reconnected c m (withSeats (connectionOf c .seats ++ (record { id = id; capabilities = caps % 128 } ∷ [])) (connectionOf c))
-      → Reconnected m e (withNextId (id + 1) (connectionOf m)) → Enacts c e (Edit.addSeat caps ∷ [])
+      → Reconnected m e (withNextId (id + 1) (connectionOf m)) → EnactedControl c e (Edit.addSeat caps ∷ [])
   unfolding enact connectionWith
   seat-added {m} id caps is small a b =
       reconnects (Edit.addSeat caps) (reconnected-twice a b)
@@ -104,7 +104,7 @@ module _ {c e : List ℕ} where
       ∙ ap (λ (x : Connection). withConnection (withNextId (id + 1) x) s) (sym (a .connection)))
 
   pub seat-removed : (id k : ℕ) → first (λ s. eqb (s .id) id) (connectionOf c .seats) ≡ some k
-      → Reconnected c e (withSeats (cutAt k (connectionOf c .seats)) (connectionOf c)) → Enacts c e (Edit.removeSeat id ∷ [])
+      → Reconnected c e (withSeats (cutAt k (connectionOf c .seats)) (connectionOf c)) → EnactedControl c e (Edit.removeSeat id ∷ [])
   unfolding enact
   seat-removed id k found r =
       reconnects (Edit.removeSeat id) r
@@ -124,7 +124,7 @@ seats-kept id (s ∷ ss) e = go (eqb (s .id) id) (first (λ s. eqb (s .id) id) s
     go false none r e h = ap (λ (xs : List Seat). s ∷ xs) (h r)
     go false (some k) r e h = let z : _≡_ {A = ℕ} 0 1 = cc in absurd (omega arith)
 
-pub seat-missing : {c : List ℕ} → Sound c → (id : ℕ) → first (λ s. eqb (s .id) id) (connectionOf c .seats) ≡ none → Enacts c c (Edit.removeSeat id ∷ [])
+pub seat-missing : {c : List ℕ} → Sound c → (id : ℕ) → first (λ s. eqb (s .id) id) (connectionOf c .seats) ≡ none → EnactedControl c c (Edit.removeSeat id ∷ [])
 unfolding enact connectionWith
 seat-missing {c} ok id missing =
     reconnects (Edit.removeSeat id)
@@ -146,7 +146,7 @@ device-of c rows texts k d e = ap (λ (x : Core). deviceOn x (tab (x .pending) (
 
 module _ {c e : List ℕ} where
   amends : {k : ℕ} {to : Core} (a : Amend) → k < deviceCount c → Amended c e k to → coreAt c k .pending ≡ to .pending
-      → ((ps : List (Item Load)) → deviceOn to ps ≡ amended a (deviceOn (coreAt c k) ps)) → Enacts c e (Edit.amend k a ∷ [])
+      → ((ps : List (Item Load)) → deviceOn to ps ≡ amended a (deviceOn (coreAt c k) ps)) → EnactedControl c e (Edit.amend k a ∷ [])
   unfolding session enactAll enact
   amends {k} {to} a l r same h words reals texts load =
       let rows : ℕ → Row = rowAt words reals in
@@ -161,28 +161,28 @@ module _ {c e : List ℕ} where
       }
 
   pub interface-unlinked : {k id : ℕ} (bit : ℕ) → k < deviceCount c → linksIn bit id (coreAt c k .interfaces) ≡ true
-      → Amended c e k (withInterfaces (map (unlinkedBit bit) (coreAt c k .interfaces)) (coreAt c k)) → Enacts c e (Edit.amend k (Amend.unlink id) ∷ [])
+      → Amended c e k (withInterfaces (map (unlinkedBit bit) (coreAt c k .interfaces)) (coreAt c k)) → EnactedControl c e (Edit.amend k (Amend.unlink id) ∷ [])
   unfolding amended deviceWith
   interface-unlinked {k} {id} bit l links r =
       amends (Amend.unlink id) l r refl
       (λ ps. ap (λ (is : List Interface). deviceOn (withInterfaces is (coreAt c k)) ps) (unlinked-core c k bit id links))
 
   touched : {k : ℕ} {f : DownTouchIds} (a : Amend) (ids : List ℕ) → k < deviceCount c → Holds ids f → Amended c e k (withTouches (held f) (coreAt c k))
-      → ((ps : List (Item Load)) → deviceOn (withTouches ids (coreAt c k)) ps ≡ amended a (deviceOn (coreAt c k) ps)) → Enacts c e (Edit.amend k a ∷ [])
+      → ((ps : List (Item Load)) → deviceOn (withTouches ids (coreAt c k)) ps ≡ amended a (deviceOn (coreAt c k) ps)) → EnactedControl c e (Edit.amend k a ∷ [])
   touched {k} a ids l h r q = amends a l r refl (λ ps. ap (λ (xs : List ℕ). deviceOn (withTouches xs (coreAt c k)) ps) (h .ids-are) ∙ q ps)
 
   pub touch-downed : {k t : ℕ} {f : DownTouchIds} → k < deviceCount c → Holds (coreAt c k .downTouchIds ++ (t ∷ [])) f
-      → Amended c e k (withTouches (held f) (coreAt c k)) → Enacts c e (Edit.amend k (Amend.touchDown t) ∷ [])
+      → Amended c e k (withTouches (held f) (coreAt c k)) → EnactedControl c e (Edit.amend k (Amend.touchDown t) ∷ [])
   unfolding amended deviceWith
   touch-downed {k} {t} l h r = touched (Amend.touchDown t) (coreAt c k .downTouchIds ++ (t ∷ [])) l h r (λ ps. refl)
 
   pub touch-upped : {k t : ℕ} {f : DownTouchIds} → k < deviceCount c → Holds (without t (coreAt c k .downTouchIds)) f
-      → Amended c e k (withTouches (held f) (coreAt c k)) → Enacts c e (Edit.amend k (Amend.touchUp t) ∷ [])
+      → Amended c e k (withTouches (held f) (coreAt c k)) → EnactedControl c e (Edit.amend k (Amend.touchUp t) ∷ [])
   unfolding amended deviceWith
   touch-upped {k} {t} l h r = touched (Amend.touchUp t) (without t (coreAt c k .downTouchIds)) l h r (λ ps. refl)
 
   pub touches-cleared : {k : ℕ} {f : DownTouchIds} → k < deviceCount c → Holds [] f → Amended c e k (withTouches (held f) (coreAt c k))
-      → Enacts c e (Edit.amend k Amend.clearTouches ∷ [])
+      → EnactedControl c e (Edit.amend k Amend.clearTouches ∷ [])
   unfolding amended deviceWith
   touches-cleared l h r = touched Amend.clearTouches [] l h r (λ ps. refl)
 
@@ -238,7 +238,7 @@ enact-device s load id seat caps to is will =
 
 pub device-added : {c m e : List ℕ} {n : ℕ} (id seat caps : ℕ) → id ≡ connectionOf c .nextId → n ≡ length (bitsOf caps) → caps < 128
     → connectionOf c .nextId + 1 + length (bitsOf caps) ≤ 18446744073709551615 → Appended c m (newCore id seat (caps % 128))
-    → Reconnected m e (withNextId (id + 1 + n) (connectionOf m)) → Enacts c e (Edit.addDevice seat caps ∷ [])
+    → Reconnected m e (withNextId (id + 1 + n) (connectionOf m)) → EnactedControl c e (Edit.addDevice seat caps ∷ [])
 unfolding session sessionIn enactAll newCore tab
 device-added {c} {m} {e} {n} id seat caps is counted small room a b words reals texts load =
     let rows : ℕ → Row = rowAt words reals in

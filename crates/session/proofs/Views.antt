@@ -21,8 +21,8 @@ use Rattle.control.specs.Sound.{Sound, isSound}
 use Rattle.control.proofs.Tables.{tab-same, tab-length, tab-at}
 use Rattle.control.proofs.Models as models
 use Rattle.control.proofs.Sounds.{sound-bounds, bounds-sound, pending-bound}
-use Rattle.session.specs.View.{Store, wordsLength, realsLength, textsLength, pendingRow, queueRow, requestAt, itemAt, deviceIn, queueIn, sessionIn, session, isWhole, Whole, Lent}
-use Rattle.session.specs.Enact.{Enacted, Enacts}
+use Rattle.session.specs.View.{Store, wordsLength, realsLength, textsLength, pendingRow, queueRow, requestAt, itemAt, deviceIn, queueIn, sessionIn, session, isLent, isWhole, Lent, Whole, Lending, isIntact}
+use Rattle.session.specs.Enact.{Enacted, EnactedControl}
 
 -- ---- damaged states
 
@@ -30,50 +30,75 @@ both : (a b : Bool) → a && b ≡ true → (a ≡ true) × (b ≡ true)
 both true b e = (refl, e)
 both false b e = absurd (false≢true e)
 
+pub lent-parts : (c w : List ℕ) (r : List Float) → isLent c w r ≡ true → Lent c w r
+unfolding isLent
+lent-parts c w r e =
+    let sound = both (isSound c) _ e in
+    let words = both (eqb (length w) wordsLength) _ (sound .1) in
+    record {
+      sound = sound-bounds c (sound .0);
+      words-long = eqb-true (length w) wordsLength (words .0);
+      reals-long = eqb-true (length r) realsLength (words .1);
+    }
+
+pub lent-is : (c w : List ℕ) (r : List Float) → Lent c w r → isLent c w r ≡ true
+unfolding isLent
+lent-is c w r l =
+    rw (bounds-sound c (l .sound), eq-eqb (length w) wordsLength (l .words-long), eq-eqb (length r) realsLength (l .reals-long))
+
 pub whole-parts : (s : Store) → isWhole s ≡ true → Whole s
 unfolding isWhole
 whole-parts s e =
-    let sound = both (isSound (s .control)) _ e in
-    let words = both (eqb (length (s .words)) wordsLength) _ (sound .1) in
-    let reals = both (eqb (length (s .reals)) realsLength) _ (words .1) in
+    let both = both (isLent (s .control) (s .words) (s .reals)) _ e in
+    let l = lent-parts (s .control) (s .words) (s .reals) (both .0) in
     record {
-      sound = sound-bounds (s .control) (sound .0);
-      words-long = eqb-true (length (s .words)) wordsLength (words .0);
-      reals-long = eqb-true (length (s .reals)) realsLength (reals .0);
-      texts-long = eqb-true (length (s .texts)) textsLength (reals .1);
+      sound = l .sound;
+      words-long = l .words-long;
+      reals-long = l .reals-long;
+      texts-long = eqb-true (length (s .texts)) textsLength (both .1);
     }
 
 -- what the functions that change rows ask for, and have again once control words are edited
-pub whole-lent : (s : Store) → isWhole s ≡ true → Lent (s .control) (s .words) (s .reals)
-whole-lent s w =
-    let parts = whole-parts s w in record { sound = parts .sound; words-long = parts .words-long; reals-long = parts .reals-long }
+pub lent-part : (s : Store) → Whole s → Lent (s .control) (s .words) (s .reals)
+lent-part s w = record { sound = w .sound; words-long = w .words-long; reals-long = w .reals-long }
 
-pub lent-after : {c d w : List ℕ} {r : List Float} {edits : List Edit} → Lent c w r → Enacts c d edits → Lent d w r
+pub whole-lent : (s : Store) → isWhole s ≡ true → Lent (s .control) (s .words) (s .reals)
+whole-lent s w = lent-part s (whole-parts s w)
+
+pub lent-after : {c d w : List ℕ} {r : List Float} {edits : List Edit} → Lent c w r → EnactedControl c d edits → Lent d w r
 lent-after l done = record { sound = done [] [] [] Load.None .sound; words-long = l .words-long; reals-long = l .reals-long }
 
 pub whole-is : (s : Store) → Whole s → isWhole s ≡ true
 unfolding isWhole
 whole-is s w =
-    rw (
-      bounds-sound (s .control) (w .sound),
-      eq-eqb (length (s .words)) wordsLength (w .words-long),
-      eq-eqb (length (s .reals)) realsLength (w .reals-long),
-      eq-eqb (length (s .texts)) textsLength (w .texts-long),
-    )
+    rw (lent-is (s .control) (s .words) (s .reals) (lent-part s w), eq-eqb (length (s .texts)) textsLength (w .texts-long))
 
--- the test's ways to answer
-pub whole-not : (s : Store) → (Whole s → ⊥) → false ≡ isWhole s
-whole-not s h = go (isWhole s) refl
+-- a session that is whole is so in every part that a call may be lent
+pub whole-intact : (l : Lending) (s : Store) → Whole s → isIntact l s ≡ true
+unfolding isIntact
+whole-intact Lending.control s w = bounds-sound (s .control) (w .sound)
+whole-intact Lending.rows s w = lent-is (s .control) (s .words) (s .reals) (lent-part s w)
+whole-intact Lending.all s w = whole-is s w
+
+-- the tests' ways to answer
+pub lent-not : (c w : List ℕ) (r : List Float) → (Lent c w r → ⊥) → false ≡ isLent c w r
+lent-not c w r h = go (isLent c w r) refl
   where
-    go : (b : Bool) → isWhole s ≡ b → false ≡ b
-    go true e = absurd (h (whole-parts s e))
+    go : (b : Bool) → isLent c w r ≡ b → false ≡ b
+    go true e = absurd (h (lent-parts c w r e))
     go false e = refl
 
-pub whole-last : (s : Store) → Sound (s .control) → length (s .words) ≡ wordsLength → length (s .reals) ≡ realsLength
-    → eqb (length (s .texts)) textsLength ≡ isWhole s
+pub lent-last : (c w : List ℕ) (r : List Float) → Sound c → length w ≡ wordsLength → eqb (length r) realsLength ≡ isLent c w r
+unfolding isLent
+lent-last c w r ok words = rw (bounds-sound c ok, eq-eqb (length w) wordsLength words)
+
+pub whole-not : (s : Store) → isLent (s .control) (s .words) (s .reals) ≡ false → false ≡ isWhole s
 unfolding isWhole
-whole-last s ok words reals =
-    rw (bounds-sound (s .control) ok, eq-eqb (length (s .words)) wordsLength words, eq-eqb (length (s .reals)) realsLength reals)
+whole-not s e = rw e
+
+pub whole-last : (s : Store) → isLent (s .control) (s .words) (s .reals) ≡ true → eqb (length (s .texts)) textsLength ≡ isWhole s
+unfolding isWhole
+whole-last s e = rw e
 
 -- ---- edits one after another
 

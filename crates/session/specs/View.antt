@@ -124,22 +124,37 @@ session s = sessionIn (s .control) (rowAt (s .words) (s .reals)) (s .texts)
 
 -- ---- damaged states
 
--- "21 BAD_STATE: a stored count above its limit, or a stored link past its table": the control words are sound and every slice has its length.
--- A row's text lies within the texts whatever the row holds
-unfoldable pub isWhole : Store → Bool
+-- "21 BAD_STATE: a stored count above its limit, or a stored link past its table": the control words are sound, and a slice of another length is no
+-- session's. A row's text lies within the texts whatever the row holds
+unfoldable pub isLent : (control words : List ℕ) (reals : List Float) → Bool
 unfolding isSound
-isWhole s =
-    isSound (s .control) && (eqb (length (s .words)) wordsLength && (eqb (length (s .reals)) realsLength && eqb (length (s .texts)) textsLength))
+isLent c w r = isSound c && (eqb (length w) wordsLength && eqb (length r) realsLength)
 
--- the same as bounds
+unfoldable pub isWhole : Store → Bool
+unfolding isLent
+isWhole s = isLent (s .control) (s .words) (s .reals) && eqb (length (s .texts)) textsLength
+
+-- the same as bounds: of the control words and the rows of requests, and of all four
+pub record Lent (c w : List ℕ) (r : List Float) : Type 0 where
+  pub sound : Sound c
+  pub words-long : length w ≡ wordsLength
+  pub reals-long : length r ≡ realsLength
+
 pub record Whole (s : Store) : Type 0 where
   pub sound : Sound (s .control)
   pub words-long : length (s .words) ≡ wordsLength
   pub reals-long : length (s .reals) ≡ realsLength
   pub texts-long : length (s .texts) ≡ textsLength
 
--- the control words and the rows alone
-pub record Lent (c w : List ℕ) (r : List Float) : Type 0 where
-  pub sound : Sound c
-  pub words-long : length w ≡ wordsLength
-  pub reals-long : length r ≡ realsLength
+-- what a call is lent of a session: its control words, the rows of requests too, or all four slices
+pub data Lending : Type 0 where
+  control : Lending
+  rows : Lending
+  all : Lending
+
+-- REFUSAL 21's TEST looks at what a call is lent
+unfoldable pub isIntact : Lending → Store → Bool
+unfolding isSound isLent isWhole
+isIntact Lending.control s = isSound (s .control)
+isIntact Lending.rows s = isLent (s .control) (s .words) (s .reals)
+isIntact Lending.all s = isWhole s

@@ -12,8 +12,9 @@ ghost use Rattle.model.specs.Decide.{linksIn};
 ghost use Rattle.model.specs.Edit.{Amend, Edit, raised};
 ghost use Rattle.control.specs.Control.{seatCount, deviceCount, connectionOf, coreAt};
 ghost use Rattle.control.specs.Sound.{Sound};
-ghost use Rattle.session.specs.View.{store, isWhole};
-ghost use Rattle.session.specs.Enact.{Enacts};
+ghost use Rattle.session.specs.View.{isLent, isWhole};
+ghost use Rattle.session.specs.Slices.{before};
+ghost use Rattle.session.specs.Enact.{EnactsControl};
 
 pub const WORDS_LENGTH: usize = 3840;
 
@@ -21,9 +22,9 @@ pub const REALS_LENGTH: usize = 1536;
 
 pub const TEXTS_LENGTH: usize = 8192;
 
-// Whether these are the slices of a session: refusal 21's test. Its time does not grow with what is queued.
-pub fn whole(control: &[u64], words: &[u64], reals: &[f32], texts: &[u8]) -> bool
-    ensures { λ r. ⌜ r ≡ isWhole (store (now (control .entry)) (now (words .entry)) (now (reals .entry)) (now (texts .entry))) ⌝ }
+// Refusal 21's test, of a call that is lent the control words and the rows of requests. Its time does not grow with what is queued.
+pub fn lent(control: &[u64], words: &[u64], reals: &[f32]) -> bool
+    ensures { λ r. ⌜ r ≡ isLent (now (control .entry)) (now (words .entry)) (now (reals .entry)) ⌝ }
 {
     if !control::sound(control) {
         return false;
@@ -31,7 +32,14 @@ pub fn whole(control: &[u64], words: &[u64], reals: &[f32], texts: &[u8]) -> boo
     if words.len() != WORDS_LENGTH {
         return false;
     }
-    if reals.len() != REALS_LENGTH {
+    reals.len() == REALS_LENGTH
+}
+
+// The same, of a call that is lent all four slices.
+pub fn whole(control: &[u64], words: &[u64], reals: &[f32], texts: &[u8]) -> bool
+    ensures { λ r. ⌜ r ≡ isWhole (before control words reals texts) ⌝ }
+{
+    if !lent(control, words, reals) {
         return false;
     }
     texts.len() == TEXTS_LENGTH
@@ -40,7 +48,7 @@ pub fn whole(control: &[u64], words: &[u64], reals: &[f32], texts: &[u8]) -> boo
 // The last serial, after events that took the serials up to this one.
 pub fn raise(control: &mut [u64], serial: u32)
     requires { ⌜ Sound (now control) ⌝ }
-    ensures { λ _. ⌜ ((n : ℕ) → serial ≡ raised n (connectionOf (now (control .entry)) .lastSerial) → Enacts (now (control .entry)) (now (control .exit)) (Edit.raise n ∷ [])) ⌝ }
+    ensures { λ _. ⌜ ((n : ℕ) → serial ≡ raised n (connectionOf (now (control .entry)) .lastSerial) → EnactsControl control (Edit.raise n ∷ [])) ⌝ }
 {
     control::edits::set_last_serial(control, serial);
 }
@@ -48,7 +56,7 @@ pub fn raise(control: &mut [u64], serial: u32)
 // A seat more, with the next id.
 pub fn add_seat(control: &mut [u64], capabilities: u64)
     requires { ⌜ Sound (now control) × ((seatCount (now control) < 4) × ((capabilities < 128) × (connectionOf (now control) .nextId + 1 ≤ 18446744073709551615))) ⌝ }
-    ensures { λ _. ⌜ Enacts (now (control .entry)) (now (control .exit)) (Edit.addSeat capabilities ∷ []) ⌝ }
+    ensures { λ _. ⌜ EnactsControl control (Edit.addSeat capabilities ∷ []) ⌝ }
 {
     let id = control::next_id(control);
     control::edits::append_seat(control, id, capabilities);
@@ -58,7 +66,7 @@ pub fn add_seat(control: &mut [u64], capabilities: u64)
 // The first seat with the id taken out, if there is one.
 pub fn remove_seat(control: &mut [u64], id: u64)
     requires { ⌜ Sound (now control) ⌝ }
-    ensures { λ _. ⌜ Enacts (now (control .entry)) (now (control .exit)) (Edit.removeSeat id ∷ []) ⌝ }
+    ensures { λ _. ⌜ EnactsControl control (Edit.removeSeat id ∷ []) ⌝ }
 {
     match control::find_seat(control, id) {
         Slot::At(k) => control::edits::remove_seat_row(control, k),
@@ -69,7 +77,7 @@ pub fn remove_seat(control: &mut [u64], id: u64)
 // A device more, with the next id, and an interface for each capability with the ids behind it.
 pub fn add_device(control: &mut [u64], seat: u64, capabilities: u64)
     requires { ⌜ Sound (now control) × ((deviceCount (now control) < 8) × ((capabilities < 128) × (connectionOf (now control) .nextId + 1 + length (bitsOf capabilities) ≤ 18446744073709551615))) ⌝ }
-    ensures { λ _. ⌜ Enacts (now (control .entry)) (now (control .exit)) (Edit.addDevice seat capabilities ∷ []) ⌝ }
+    ensures { λ _. ⌜ EnactsControl control (Edit.addDevice seat capabilities ∷ []) ⌝ }
 {
     let id = control::next_id(control);
     let interfaces = DeviceCapability::count(capabilities) as u64;
@@ -80,7 +88,7 @@ pub fn add_device(control: &mut [u64], seat: u64, capabilities: u64)
 // A touch more that is down on the device in slot k.
 pub fn touch_down(control: &mut [u64], k: usize, touch: u32)
     requires { ⌜ Sound (now control) × ((k < deviceCount (now control)) × ((length (coreAt (now control) k .downTouchIds) < 16) × (member touch (coreAt (now control) k .downTouchIds) ≡ false))) ⌝ }
-    ensures { λ _. ⌜ Enacts (now (control .entry)) (now (control .exit)) (Edit.amend k (Amend.touchDown touch) ∷ []) ⌝ }
+    ensures { λ _. ⌜ EnactsControl control (Edit.amend k (Amend.touchDown touch) ∷ []) ⌝ }
 {
     let held = control::edits::down_touch_ids(control, k);
     let insertion = held.inserted(touch);
@@ -90,7 +98,7 @@ pub fn touch_down(control: &mut [u64], k: usize, touch: u32)
 // A touch that is no longer down.
 pub fn touch_up(control: &mut [u64], k: usize, touch: u32)
     requires { ⌜ Sound (now control) × (k < deviceCount (now control)) ⌝ }
-    ensures { λ _. ⌜ Enacts (now (control .entry)) (now (control .exit)) (Edit.amend k (Amend.touchUp touch) ∷ []) ⌝ }
+    ensures { λ _. ⌜ EnactsControl control (Edit.amend k (Amend.touchUp touch) ∷ []) ⌝ }
 {
     let held = control::edits::down_touch_ids(control, k);
     let removal = held.removed(touch);
@@ -99,7 +107,7 @@ pub fn touch_up(control: &mut [u64], k: usize, touch: u32)
 
 pub fn clear_touches(control: &mut [u64], k: usize)
     requires { ⌜ Sound (now control) × (k < deviceCount (now control)) ⌝ }
-    ensures { λ _. ⌜ Enacts (now (control .entry)) (now (control .exit)) (Edit.amend k Amend.clearTouches ∷ []) ⌝ }
+    ensures { λ _. ⌜ EnactsControl control (Edit.amend k Amend.clearTouches ∷ []) ⌝ }
 {
     let held = control::edits::down_touch_ids(control, k);
     control::edits::set_down_touch_ids(control, k, held.cleared());
@@ -108,7 +116,7 @@ pub fn clear_touches(control: &mut [u64], k: usize)
 // The interface of a capability's bit, which has the id, unlinked.
 pub fn unlink(control: &mut [u64], k: usize, bit: u32, id: u64)
     requires { ⌜ Sound (now control) × ((k < deviceCount (now control)) × (linksIn bit id (coreAt (now control) k .interfaces) ≡ true)) ⌝ }
-    ensures { λ _. ⌜ Enacts (now (control .entry)) (now (control .exit)) (Edit.amend k (Amend.unlink id) ∷ []) ⌝ }
+    ensures { λ _. ⌜ EnactsControl control (Edit.amend k (Amend.unlink id) ∷ []) ⌝ }
 {
     control::edits::unlink(control, k, bit);
 }

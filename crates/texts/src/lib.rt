@@ -127,7 +127,7 @@ pub fn pend_text(
     text: &[u8],
 )
     requires { ⌜ Whole (store (now control) (now words) (now reals) (now texts)) × ((k < deviceCount (now control)) × ((pendingAt (now control) k < 64) × ((length (now text) ≤ 254) × ((slot < 32) × Free (now control) (rowAt (now words) (now reals)) slot)))) ⌝ }
-    ensures { λ _. ⌜ Enacted (store (now (control .entry)) (now (words .entry)) (now (reals .entry)) (now (texts .entry))) (store (now (control .exit)) (now (words .exit)) (now (reals .exit)) (now (texts .exit))) (Edit.pend k (sight (Input.Utf8 (now (text .entry)))) ∷ []) (Load.Text (now (text .entry))) ⌝ }
+    ensures { λ _. ⌜ EnactsAll control words reals texts (Edit.pend k (sight (Input.Utf8 (now (text .entry)))) ∷ []) (Load.Text (now (text .entry))) ⌝ }
 {
     put_text(texts, slot, text);
     // Its device and its time come with its frame.

@@ -2,8 +2,11 @@
 use borrow.Author.Needs.{needs}
 use Rattle.answers.proofs.Error.number.Statement.{statement}
 use Rattle.answers.proofs.Error.number.Tie as tie
+use Rattle.model.specs.Plan.{refusal}
+use Rattle.answers.specs.Answer.{numberOf}
 
 pub number-spec : {M : Type 1} → statement M
+unfolding numberOf refusal
 number-spec = tie.close (tie.spec
     (λ c. search needs)
     (λ c. search needs)
