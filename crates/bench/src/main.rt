@@ -1,7 +1,11 @@
 // The turns of the oracle's benchmark, and a few of the store's own, repeated: `bench WORKLOAD N`. It tells how many requests were given; tests/bench.py times it.
 mod turns;
 
+use control::CONTROL_LENGTH;
 use libc::STDOUT_FILENO;
+use session::REALS_LENGTH;
+use session::TEXTS_LENGTH;
+use session::WORDS_LENGTH;
 
 // The number that a word is: at most nine digits count.
 fn number(word: &[u8], n: usize) -> u64 {
@@ -23,10 +27,10 @@ fn tell(given: u64) {
 }
 
 fn main() {
-    let mut control = [0u64; 224];
-    let mut words = [0u64; 3840];
-    let mut reals = [0.0f32; 1536];
-    let mut texts = [0u8; 8192];
+    let mut control = [0u64; CONTROL_LENGTH];
+    let mut words = [0u64; WORDS_LENGTH];
+    let mut reals = [0.0f32; REALS_LENGTH];
+    let mut texts = [0u8; TEXTS_LENGTH];
     let mut word = [0u8; 16];
     let mut count = [0u8; 16];
     os::arg(1, &mut word);

@@ -94,8 +94,8 @@ leaf-formed (Leaf.noted object event edits h) = acts Outcome.accepted _ _ refl r
 leaf-formed (Leaf.deviceGone id f e) = acts Outcome.accepted _ _ refl refl refl
 leaf-formed (Leaf.seatGone id) = acts Outcome.accepted _ _ refl refl refl
 leaf-formed {v = v} (Leaf.allGone reason explanation) = acts Outcome.accepted _ _ refl refl (removeSeats-allowed (v .connection .seats))
-leaf-formed (Leaf.queued u h) = acts Outcome.accepted _ _ refl refl refl
-leaf-formed (Leaf.flushed id f u e h) = acts Outcome.accepted _ _ refl refl refl
+leaf-formed (Leaf.queued u) = acts Outcome.accepted _ _ refl refl refl
+leaf-formed (Leaf.flushed id f u e) = acts Outcome.accepted _ _ refl refl refl
 leaf-formed (Leaf.closed id serial time f e) = acts Outcome.accepted _ _ refl refl refl
 leaf-formed Leaf.handed = acts Outcome.given _ _ refl refl refl
 leaf-formed {v = v} (Leaf.newSeat name caps) = acts (Outcome.seat (v .connection .nextId)) _ _ refl refl refl

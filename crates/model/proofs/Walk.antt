@@ -36,16 +36,6 @@ modest (Outcome.truth b) = true
 modest Outcome.none = true
 modest Outcome.given = false
 
-unfoldable pub isFrame : Untimed → Bool
-isFrame Untimed.Disconnect = false
-isFrame (Untimed.Bind s c) = false
-isFrame (Untimed.DeviceClosed d) = false
-isFrame (Untimed.RequestDevice s c) = false
-isFrame (Untimed.Frame d s t) = true
-isFrame (Untimed.Ready d) = false
-isFrame (Untimed.DeviceStartEmulating d s q) = false
-isFrame (Untimed.DeviceStopEmulating d s) = false
-
 -- what an event that tells of a change may change besides
 pub data Noted : List Edit → Type 0 where
   nothing : Noted []
@@ -105,8 +95,8 @@ pub data Leaf (v : View) (now : ℕ) : Call Sight → Plan → Type 0 where
   allGone : {c : Plain} (reason : ℕ) (explanation : Option (List ℕ)) →
       Leaf v now (Call.plain c)
       (send (farewell v reason explanation) (Edit.raise (length (seatsObjects (v .connection .seats) (v .devices))) ∷ removeSeats (v .connection .seats)))
-  queued : {c : Plain} (u : Untimed) → isFrame u ≡ false → Leaf v now (Call.plain c) (edit (Edit.queue u ∷ []))
-  flushed : {c : Plain} (id : ℕ) (f : Found) (u : Untimed) → deviceOf id v ≡ some f → isFrame u ≡ false →
+  queued : {c : Plain} (u : Untimed) → Leaf v now (Call.plain c) (edit (Edit.queue u ∷ []))
+  flushed : {c : Plain} (id : ℕ) (f : Found) (u : Untimed) → deviceOf id v ≡ some f →
       Leaf v now (Call.plain c) (edit (Edit.frame (f .slot) (v .connection .lastSerial) now ∷ Edit.queue u ∷ []))
   closed : {c : Plain} (id serial time : ℕ) (f : Found) → deviceOf id v ≡ some f → Leaf v now (Call.plain c) (edit (Edit.frame (f .slot) serial time ∷ []))
   handed : {c : Plain} → Leaf v now (Call.plain c) (record { outcome = Outcome.given; events = []; edits = Edit.deliver ∷ [] })
@@ -216,15 +206,15 @@ module _ {v : View} {now : ℕ} {c : Plain} where
   handshake-leaf (HandshakeRequest.Name t) = checkName-leaf t (refuse-leaf 1)
   handshake-leaf (HandshakeRequest.InterfaceVersion t n) = checkUtf8-leaf t (refuse-leaf 1)
 
-  seat-leaf : (id caps : ℕ) (u : Untimed) → isFrame u ≡ false → Leaf v now (Call.plain c) (handleSeat v id caps u)
+  seat-leaf : (id caps : ℕ) (u : Untimed) → Leaf v now (Call.plain c) (handleSeat v id caps u)
   unfolding handleSeat
-  seat-leaf id caps u h =
+  seat-leaf id caps u =
       onFound-leaf (seatOf id v) ignore-leaf λ s e.
-      cond-leaf (unknownBits caps) (refuse-leaf 3) (cond-leaf (contains (s .capabilities) caps) (queued u h) (refuse-leaf 3))
+      cond-leaf (unknownBits caps) (refuse-leaf 3) (cond-leaf (contains (s .capabilities) caps) (queued u) (refuse-leaf 3))
 
-  device-leaf : (id : ℕ) (u : Untimed) → isFrame u ≡ false → Leaf v now (Call.plain c) (handleDevice v now id u)
+  device-leaf : (id : ℕ) (u : Untimed) → Leaf v now (Call.plain c) (handleDevice v now id u)
   unfolding handleDevice
-  device-leaf id u h = onFound-leaf (deviceOf id v) ignore-leaf λ f e. flushed id f u e h
+  device-leaf id u = onFound-leaf (deviceOf id v) ignore-leaf λ f e. flushed id f u e
 
   next-leaf : (rs : List (Request (Unit {0}))) → Leaf v now (Call.plain c) (nextOf rs)
   unfolding nextOf modest
@@ -241,19 +231,19 @@ module _ {v : View} {now : ℕ} {c : Plain} where
   notify-leaf id event edits h = onFound-leaf (deviceOf id v) (refuse-leaf 12) λ f e. noted id event (edits (f .slot)) (h (f .slot))
 
 plain-leaf : (v : View) (now : ℕ) (c : Plain) → Leaf v now (Call.plain c) (decidePlain v now c)
-unfolding decidePlain handleSync handleFrame handleRelease addSeat addDevice removeDevice removeSeat disconnected isFrame modest
+unfolding decidePlain handleSync handleFrame handleRelease addSeat addDevice removeDevice removeSeat disconnected modest
 plain-leaf v now (Plain.handshake r) = handshake-leaf r
 plain-leaf v now (Plain.sync callback ver) = cond-leaf (eqb ver 1) (synced callback) (answered (Outcome.refusedVersion eiCallback ver) refl)
-plain-leaf v now Plain.disconnect = queued Untimed.Disconnect refl
+plain-leaf v now Plain.disconnect = queued Untimed.Disconnect
 plain-leaf v now Plain.pingpongDone = ignore-leaf
 plain-leaf v now (Plain.seatRelease seat) = noted seat (λ s. Event.Destroyed s) [] Noted.nothing
-plain-leaf v now (Plain.bind seat caps) = seat-leaf seat caps (Untimed.Bind seat caps) refl
-plain-leaf v now (Plain.requestDevice seat caps) = seat-leaf seat caps (Untimed.RequestDevice seat caps) refl
-plain-leaf v now (Plain.deviceRelease d) = device-leaf d (Untimed.DeviceClosed d) refl
-plain-leaf v now (Plain.deviceStartEmulating d s q) = device-leaf d (Untimed.DeviceStartEmulating d s q) refl
-plain-leaf v now (Plain.deviceStopEmulating d s) = device-leaf d (Untimed.DeviceStopEmulating d s) refl
+plain-leaf v now (Plain.bind seat caps) = seat-leaf seat caps (Untimed.Bind seat caps)
+plain-leaf v now (Plain.requestDevice seat caps) = seat-leaf seat caps (Untimed.RequestDevice seat caps)
+plain-leaf v now (Plain.deviceRelease d) = device-leaf d (Untimed.DeviceClosed d)
+plain-leaf v now (Plain.deviceStartEmulating d s q) = device-leaf d (Untimed.DeviceStartEmulating d s q)
+plain-leaf v now (Plain.deviceStopEmulating d s) = device-leaf d (Untimed.DeviceStopEmulating d s)
 plain-leaf v now (Plain.deviceFrame d s t) = onFound-leaf (deviceOf d v) ignore-leaf λ f e. closed d s t f e
-plain-leaf v now (Plain.deviceReady d) = device-leaf d (Untimed.Ready d) refl
+plain-leaf v now (Plain.deviceReady d) = device-leaf d (Untimed.Ready d)
 plain-leaf v now (Plain.interfaceRelease cap i) =
     onFound-leaf (deviceForInterface (capabilityIndex cap) i v) ignore-leaf λ f e. noted i (λ s. Event.Destroyed s) _ (Noted.unlinks (f .slot) i)
 plain-leaf v now Plain.nextRequest = next-leaf (v .requests)

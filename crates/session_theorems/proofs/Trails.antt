@@ -1,15 +1,16 @@
 -- Each call of the code is a step of the definitions, so a list of calls is a run of them. Assumes nothing.
 use Prim.Native.Nat.{ℕ, _+_}
 use mathlib.Core.Path.{_≡_, refl, sym, ap, ap₂, _∙_}
-use mathlib.Core.Bool.{Bool, true, false}
+use mathlib.Core.Bool.{Bool, true, false, false≢true}
 use mathlib.Core.List.{List, [], _∷_, _++_, map}
 use lib.ListN.{length, take, drop}
 use lib.Seq.{take-append-seam}
 use Rattle.wire.specs.Bits.{splice}
 use Rattle.model.specs.Call.{Input, Load, Call, Turn, split}
 use Rattle.model.specs.Session.{Item, Request, Session, mapRequest, blank}
-use Rattle.model.specs.Plan.{records}
-use Rattle.model.specs.Step.{Step, step, run}
+use Rattle.model.specs.Plan.{records, refusal}
+use Rattle.model.specs.Plan as plan
+use Rattle.model.specs.Step.{Step, refuses, step, run}
 use Rattle.model.specs.Demand3.{Observed, observed, trail, itemsOf, given, In-order}
 use Rattle.model.specs.Payload.{Matched-trails}
 use Rattle.model.proofs.EqualTrails.{matched-trails}
@@ -18,10 +19,9 @@ use Rattle.session.specs.View.{Store, session, isWhole}
 use Rattle.session.proofs.Views.{whole-is}
 use Rattle.answers.specs.Answer.{errorOf, outcomeOf}
 use Rattle.answers.specs.Meets.{Meets, turn, Handled}
-use Rattle.answers.specs.declared.Error.{Error}
 use Rattle.answers.specs.declared.Outcome.{Outcome}
 use Rattle.answers.specs.declared.Answer.{Answer}
-use Rattle.answers.proofs.Meetings.{control-handled}
+use Rattle.answers.proofs.Meetings.{answered-handled, error-refuses}
 use Rattle.converter.specs.Next.{givenIn, Gives}
 use Rattle.converter.specs.declared.request.NextRequest.{NextRequest}
 use Rattle.session_theorems.specs.Trail.{Exchange, turnOf, isAsked, Made, seen, shown, shownAll, Seen-is-run, Equal-seen, givenTo, Given-in-order}
@@ -54,9 +54,7 @@ pub seen-is-run : Seen-is-run
 unfolding Rest-seen shownAll run observed
 seen-is-run s [] whole Made.none = refl
 seen-is-run s (Exchange.called call clock out later answer e ∷ xs) whole (Made.called a rest) =
-    let m = a .handled whole in call-seen call clock xs m (seen-is-run e xs (whole-is e (m .whole)) rest)
-seen-is-run s (Exchange.called call clock out later answer e ∷ xs) whole (Made.calledControl a rest) =
-    let m = control-handled _ _ _ a whole in call-seen call clock xs m (seen-is-run e xs (whole-is e (m .whole)) rest)
+    let m = answered-handled s a whole in call-seen call clock xs m (seen-is-run e xs (whole-is e (m .whole)) rest)
 seen-is-run s (Exchange.asked clock buffer later answer e ∷ xs) whole (Made.asked a rest) =
     let m = a .handled clock whole in
     let n = serial-is e (m .view) in
@@ -75,31 +73,23 @@ equal-seen c n i vs s s′ xs xs′ whole whole′ f f′ made made′ matched k
 
 -- ---- what is given
 
-error-not-given : (e : Error) → isGiven (errorOf e) ≡ false
-unfolding isGiven
-error-not-given Error.UnexpectedHandshakeEvent = refl
-error-not-given (Error.InvalidInterfaceVersion i v) = refl
-error-not-given Error.InvalidCapabilities = refl
-error-not-given Error.TooManyTouches = refl
-error-not-given Error.DuplicatedTouchDown = refl
-error-not-given Error.InvalidTextLength = refl
-error-not-given Error.BadUtf8 = refl
-error-not-given Error.NameLong = refl
-error-not-given Error.UnknownHandle = refl
-error-not-given Error.BadCapabilities = refl
-error-not-given Error.FullSeats = refl
-error-not-given Error.FullDevices = refl
-error-not-given Error.FullPending = refl
-error-not-given Error.FullQueue = refl
-error-not-given Error.FullTexts = refl
-error-not-given Error.ShortOut = refl
-error-not-given Error.IdsSpent = refl
-error-not-given Error.BadState = refl
+-- what refuses gives nothing
+refused-not-given : (o : plan.Outcome) → refuses o ≡ true → isGiven o ≡ false
+unfolding refuses refusal isGiven
+refused-not-given plan.Outcome.accepted h = refl
+refused-not-given (plan.Outcome.refused n) h = refl
+refused-not-given (plan.Outcome.refusedVersion i v) h = refl
+refused-not-given (plan.Outcome.seat id) h = refl
+refused-not-given (plan.Outcome.device id) h = refl
+refused-not-given (plan.Outcome.value n) h = refl
+refused-not-given (plan.Outcome.truth b) h = refl
+refused-not-given plan.Outcome.none h = refl
+refused-not-given plan.Outcome.given h = absurd (false≢true h)
 
 outcome-not-given : (o : Outcome) → isGiven (outcomeOf o) ≡ false
 unfolding isGiven
 outcome-not-given Outcome.Accepted = refl
-outcome-not-given (Outcome.Refused e) = error-not-given e
+outcome-not-given (Outcome.Refused e) = refused-not-given (errorOf e) (error-refuses e)
 outcome-not-given (Outcome.Seat id) = refl
 outcome-not-given (Outcome.Device id) = refl
 outcome-not-given (Outcome.Value n) = refl
@@ -118,9 +108,7 @@ given-is : (d : ℕ) (s : Store) (xs : List Exchange) → isWhole s ≡ true →
 unfolding givenTo given run itemsOf
 given-is d s [] whole Made.none = refl
 given-is d s (Exchange.called call clock out later answer e ∷ xs) whole (Made.called a rest) =
-    let m = a .handled whole in given-is d e xs (whole-is e (m .whole)) rest ∙ call-gave d call clock xs m
-given-is d s (Exchange.called call clock out later answer e ∷ xs) whole (Made.calledControl a rest) =
-    let m = control-handled _ _ _ a whole in given-is d e xs (whole-is e (m .whole)) rest ∙ call-gave d call clock xs m
+    let m = answered-handled s a whole in given-is d e xs (whole-is e (m .whole)) rest ∙ call-gave d call clock xs m
 given-is d s (Exchange.asked clock buffer later answer e ∷ xs) whole (Made.asked a rest) =
     let m = a .handled clock whole in
     ap (λ (is : List (Item Load)). itemsOf d (givenIn answer later) ++ is) (given-is d e xs (whole-is e (m .whole)) rest)

@@ -4,16 +4,15 @@ use mathlib.Core.Path.{_≡_}
 use mathlib.Core.Bool.{Bool, true, false}
 use mathlib.Core.List.{List, [], _∷_, _++_, map}
 use mathlib.Core.Option.{Option}
-use lib.Ieee.{Float}
 use lib.ListN.{take}
 use Rattle.model.specs.Call.{Input, Load, Plain, Call, Turn, split}
 use Rattle.model.specs.Session.{Item, fresh, mapRequest, blank}
 use Rattle.model.specs.Step.{run}
 use Rattle.model.specs.Demand3.{Observed, observed, taken, itemsOf}
 use Rattle.model.specs.Payload.{Matched}
-use Rattle.session.specs.View.{Store, store, session, isWhole}
+use Rattle.session.specs.View.{Store, session, isWhole, Lending}
 use Rattle.answers.specs.Answer.{outcomeOf}
-use Rattle.answers.specs.Meets.{turn, Answered, AnsweredControl}
+use Rattle.answers.specs.Meets.{turn, Answered}
 use Rattle.answers.specs.declared.Answer.{Answer}
 use Rattle.converter.specs.Next.{nextOutcome, givenIn, Delivered}
 use Rattle.converter.specs.declared.request.NextRequest.{NextRequest}
@@ -35,11 +34,9 @@ isAsked (Exchange.asked clock buffer later answer e) = true
 -- "each call gets the session the one before returned, and nobody else changes it"
 pub data Made : Store → List Exchange → Type 0 where
   none : {s : Store} → Made s []
-  called : {s e : Store} {call : Call Input} {clock : ℕ} {out later : List ℕ} {answer : Answer} {xs : List Exchange} → Answered s e out later call clock answer
-      → Made e xs → Made s (Exchange.called call clock out later answer e ∷ xs)
-  -- one that is lent the control words alone: the other slices are as they were
-  calledControl : {c d w : List ℕ} {r : List Float} {t : List ℕ} {call : Call Input} {clock : ℕ} {out later : List ℕ} {answer : Answer} {xs : List Exchange}
-      → AnsweredControl c d out later call clock answer → Made (store d w r t) xs → Made (store c w r t) (Exchange.called call clock out later answer (store d w r t) ∷ xs)
+  -- whatever part of the session it is lent
+  called : {l : Lending} {s e : Store} {call : Call Input} {clock : ℕ} {out later : List ℕ} {answer : Answer} {xs : List Exchange}
+      → Answered l s e out later call clock answer → Made e xs → Made s (Exchange.called call clock out later answer e ∷ xs)
   asked : {s e : Store} {clock : ℕ} {buffer later : List ℕ} {answer : NextRequest} {xs : List Exchange} → Delivered s e buffer later answer
       → Made e xs → Made s (Exchange.asked clock buffer later answer e ∷ xs)
 
