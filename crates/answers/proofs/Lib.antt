@@ -1,1 +1,2 @@
 pub mod Meetings
+pub mod Checks

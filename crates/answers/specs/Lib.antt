@@ -1,3 +1,4 @@
 pub mod Answer
+pub mod Check
 pub mod Meets
 pub mod Promise

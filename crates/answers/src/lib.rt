@@ -1,6 +1,11 @@
-// What the calls on a running session answer.
+// What the calls on a running session answer, and the test of a lent text that several of them make.
 ghost use mathlib.Core.Path.{_≡_};
+ghost use Rattle.session.specs.Slices.{optional};
 ghost use Rattle.answers.specs.Answer.{numberOf};
+ghost use Rattle.answers.specs.Check.{Checks};
+
+// The bytes of a name or an explanation, at most.
+pub const NAME_LIMIT: usize = 254;
 
 // Why a call is refused: `Error` and `RequestError` of the source, then what the port adds.
 pub enum Error {
@@ -109,4 +114,25 @@ impl Answer {
             count,
         }
     }
+}
+
+// What a name or an explanation may meet: 10, then 11. One that is not given meets neither.
+pub enum Checked {
+    Fine,
+    Refused(Error),
+}
+
+pub fn check_optional(given: bool, text: &[u8]) -> Checked
+    ensures { λ r. ⌜ Checks (optional given (now (text .entry))) r ⌝ }
+{
+    if !given {
+        return Checked::Fine;
+    }
+    if !utf8::valid(text) {
+        return Checked::Refused(Error::BadUtf8);
+    }
+    if NAME_LIMIT < text.len() {
+        return Checked::Refused(Error::NameLong);
+    }
+    Checked::Fine
 }

@@ -22,21 +22,21 @@ use Rattle.model_steps.proofs.Counted.{removes-seats}
 use Rattle.model_steps.proofs.Steps.{step-remove, step-remove-short}
 use Rattle.control.specs.Control.{connectionOf}
 use Rattle.session.specs.View.{Store, store, sessionIn, session, Whole}
+use Rattle.session.specs.Slices.{optional}
 use Rattle.session.specs.Enact.{EnactedControl, EnactedRows}
 use Rattle.session.proofs.Views.{enacted-join, view-connection, pending-few}
 use Rattle.events.specs.declared.Mark.{Mark}
 use Rattle.events.specs.Events.{Sends, Destroys, bareDevices}
-use Rattle.events.proofs.Writes.{append-length, one-length, sends-join, destroyed-length}
+use Rattle.events.proofs.Writes.{append-length, one-length, sends-join, destroyed-length, last-is, destroys-sends}
 use Rattle.events.proofs.Seen.{seats-objects-seen}
+use Rattle.answers.specs.declared.Checked.{Checked}
 use Rattle.answers.specs.declared.Error.{Error}
 use Rattle.answers.specs.declared.Outcome.{Outcome}
 use Rattle.answers.specs.declared.Answer.{Answer}
 use Rattle.answers.specs.Answer.{outcomeOf}
+use Rattle.answers.specs.Check.{Checks}
 use Rattle.answers.specs.Meets.{turn, Handled}
 use Rattle.answers.proofs.Meetings.{meets-done, whole-after, over-handled, told-handled}
-use Rattle.connection.specs.Call.{optional, Checks}
-use Rattle.connection.specs.declared.Checked.{Checked}
-use Rattle.connection.proofs.Removals.{last-is}
 
 -- ---- the event: a text that is not given is no part of it
 
@@ -62,11 +62,6 @@ sample-most false text serial reason = omega arith
 pub end-fits : (given : Bool) (text : List ℕ) (serial reason : ℕ) {at gone n k : ℕ} → gone + recordLength (Event.Disconnected 0 reason given) text ≤ n
     → at ≡ gone → k ≡ n → at + recordLength (Event.Disconnected serial reason given) text ≤ k
 end-fits given text serial reason room a l = omega (arith, sample-length given text serial reason)
-
-destroys-sends : {out later : List ℕ} {mark r : Mark} {objects : List ℕ} → Destroys out later mark objects r
-    → Sends out later (mark .at) (destroyed (mark .serial) objects) (r .at)
-destroys-sends {mark = mark} {objects = objects} d =
-    record { bytes = d .bytes; next = omega (arith, d .at, destroyed-length (mark .serial) objects) }
 
 -- the seats are not the serial's matter
 raised-seats : {c d : List ℕ} {n : ℕ} → EnactedControl c d (Edit.raise n ∷ []) → connectionOf d .seats ≡ connectionOf c .seats

@@ -1,5 +1,3 @@
-pub mod Texts
 pub mod Seats
-pub mod Removals
 pub mod Disconnects
 pub mod Interfaces

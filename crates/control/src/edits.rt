@@ -12,7 +12,6 @@ ghost use mathlib.Core.List.{[], _∷_, _++_, map};
 ghost use mathlib.Core.Option.{some};
 ghost use Prim.Native.Nat.{_+_, _%_, _^_, _≤_, _<_};
 ghost use lib.ListN.{length, set};
-ghost use Rattle.model.specs.Edit.{nextSerial};
 ghost use Rattle.control.specs.Control.{controlLength, seatCount, deviceCount, connectionOf, coreAt};
 ghost use Rattle.control.specs.Sound.{Sound};
 ghost use Rattle.control.specs.Table.{cutAt};
@@ -21,13 +20,6 @@ ghost use Rattle.touches.specs.Changes.{Holds};
 ghost use Rattle.control.specs.Shift.{Shifted};
 ghost use Rattle.control.specs.Change.{Reconnected, Amended, Appended, Removed, Requeued, Fresh};
 ghost use Rattle.control.specs.Change.{newCore, withPending, withTouches, withInterfaces, unlinkedBit, withSeats, withSerial, withNextId, withVersions};
-
-// "The serial of an event is the last plus one, and after 4294967295 comes 0."
-pub fn next_serial(serial: u32) -> u32
-    ensures { λ r. ⌜ r ≡ nextSerial serial ⌝ }
-{
-    std::num::wrapping_add_u32(serial, 1)
-}
 
 fn wide(x: u32) -> u64
     ensures { λ r. ⌜ (r ≡ x) × (r < 2 ^ 32) ⌝ }

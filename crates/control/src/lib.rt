@@ -30,6 +30,11 @@ pub const DEVICES: usize = 32;
 
 pub const DEVICE_WORDS: usize = 24;
 
+// How many seats and devices a session has at most.
+pub const SEATS_LIMIT: usize = 4;
+
+pub const DEVICES_LIMIT: usize = 8;
+
 // A place in a table.
 pub enum Slot {
     At(usize),
@@ -90,10 +95,10 @@ pub fn sound(control: &[u64]) -> bool
     if control.len() != CONTROL_LENGTH {
         return false;
     }
-    if 4 < control[3] {
+    if (SEATS_LIMIT as u64) < control[3] {
         return false;
     }
-    if 8 < control[4] {
+    if (DEVICES_LIMIT as u64) < control[4] {
         return false;
     }
     if 256 <= control[5] {

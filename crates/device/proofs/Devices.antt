@@ -13,19 +13,19 @@ use Rattle.eiproto.specs.declared.event.DeviceCapability.{DeviceCapability}
 use Rattle.wire.specs.declared.event.Event.{Event}
 use Rattle.wire.specs.Record.{fixedLength, recordLength}
 use Rattle.model.specs.Call.{Load, Plain, Call, Split, mapCall, split}
-use Rattle.model.specs.Session.{Session, view}
-use Rattle.model.specs.Edit.{Amend, Edit, nextSerial, raised, withConnection, enact, enactAll}
+use Rattle.model.specs.Session.{view}
+use Rattle.model.specs.Edit.{Amend, Edit, nextSerial, raised}
 use Rattle.model.specs.Plan.{Sent, on, records, answer, send}
 use Rattle.model.specs.Plan as plan
 use Rattle.model.specs.Decide.{lists, decide}
 use Rattle.model.specs.Step.{refuses, step}
 use Rattle.model_steps.proofs.Steps.{step-sent, step-sent-short}
 use Rattle.control.specs.Table.{first}
-use Rattle.control.specs.Control.{deviceCount, connectionOf, coreAt, coresOf}
+use Rattle.control.specs.Control.{connectionOf, coreAt, coresOf}
 use Rattle.control.specs.Sound.{Sound}
 use Rattle.session.specs.View.{Store, store, session, Whole}
 use Rattle.session.specs.Enact.{EnactedControl}
-use Rattle.session.proofs.Views.{enacted-none, enacted-join, devices-length}
+use Rattle.session.proofs.Views.{enacted-none, enacted-join}
 use Rattle.events.specs.Events.{Sends}
 use Rattle.events.proofs.Writes.{one-length}
 use Rattle.answers.specs.Answer.{outcomeOf}
@@ -43,14 +43,6 @@ use Rattle.device.proofs.Plans.{notice-plan, capability-plan, notice-qu
 pub raise-one : {serial : ℕ} (last : ℕ) → serial ≡ nextSerial last → serial ≡ raised 1 last
 unfolding raised
 raise-one last e = e
-
--- they are no device's
-pub raise-count : {c d : List ℕ} {n : ℕ} → EnactedControl c d (Edit.raise n ∷ []) → deviceCount d ≡ deviceCount c
-unfolding enactAll enact withConnection
-raise-count {c} {d} h =
-    sym (devices-length (store d [] [] []))
-    ∙ ap (λ (x : Session Load). length (x .devices)) (h [] [] [] Load.None .view)
-    ∙ devices-length (store c [] [] [])
 
 -- ---- what a notice changes
 

@@ -4,7 +4,6 @@ use answers::Error;
 use answers::Outcome;
 use control::Slot;
 use eiproto::event::DeviceCapability;
-use events::Mark;
 use wire::event;
 use wire::event::Event;
 ghost use mathlib.Core.Path.{_≡_};
@@ -12,8 +11,8 @@ ghost use Prim.Native.Nat.{_<_};
 ghost use Rattle.model.specs.Call.{Plain};
 ghost use Rattle.control.specs.Control.{deviceCount};
 ghost use Rattle.control.specs.Sound.{Sound};
-ghost use Rattle.session.specs.Enact.{Enacts};
-ghost use Rattle.answers.specs.Promise.{Promise, PromiseControl, ReplyControl};
+ghost use Rattle.session.specs.Enact.{EnactsControl};
+ghost use Rattle.answers.specs.Promise.{Promise, Reply, PromiseRows};
 ghost use Rattle.device.specs.Notice.{noticeCall, noticeEvent, noticeEdits};
 
 // `Device::remove`: its interfaces by capability bit, then itself. What it has pending is dropped, what is queued stays.
@@ -21,13 +20,12 @@ pub fn remove_device(
     control: &mut [u64],
     words: &mut [u64],
     reals: &mut [f32],
-    texts: &[u8],
     device: u64,
     out: &mut [u8],
 ) -> Answer
-    ensures { λ r. ⌜ Promise control words reals texts out (Plain.removeDevice device) r ⌝ }
+    ensures { λ r. ⌜ PromiseRows control words reals out (Plain.removeDevice device) r ⌝ }
 {
-    if !session::whole(control, words, reals, texts) {
+    if !session::lent(control, words, reals) {
         return Answer::refused(Error::BadState);
     }
     match control::find_device(control, device) {
@@ -35,11 +33,7 @@ pub fn remove_device(
             if out.len() < events::DESTROYED_LENGTH * events::device_objects(control, k) {
                 return Answer::refused(Error::ShortOut);
             }
-            let serial = control::last_serial(control);
-            let mark = events::write_device(control, k, out, Mark { at: 0, serial });
-            session::raise(control, mark.serial);
-            removal::remove_device(control, words, reals, k);
-            Answer::sent(mark.at)
+            Answer::sent(removal::retire_device(control, words, reals, k, out))
         }
         Slot::Unknown => Answer::refused(Error::UnknownHandle),
     }
@@ -81,14 +75,14 @@ fn enact(control: &mut [u64], k: usize, notice: Notice)
 }
 
 fn notify(control: &mut [u64], device: u64, notice: Notice, out: &mut [u8]) -> Answer
-    ensures { λ r. ⌜ PromiseControl control out (noticeCall notice device) r ⌝ }
+    ensures { λ r. ⌜ Promise control out (noticeCall notice device) r ⌝ }
 {
     if !control::sound(control) {
         return Answer::refused(Error::BadState);
     }
     match control::find_device(control, device) {
         Slot::At(k) => {
-            let serial = control::edits::next_serial(control::last_serial(control));
+            let serial = events::next_serial(control::last_serial(control));
             let told = event_of(notice, serial);
             if out.len() < event::fixed_length(told) {
                 return Answer::refused(Error::ShortOut);
@@ -103,38 +97,38 @@ fn notify(control: &mut [u64], device: u64, notice: Notice, out: &mut [u8]) -> A
 }
 
 pub fn resumed(control: &mut [u64], device: u64, out: &mut [u8]) -> Answer
-    ensures { λ r. ⌜ PromiseControl control out (Plain.resumed device) r ⌝ }
+    ensures { λ r. ⌜ Promise control out (Plain.resumed device) r ⌝ }
 {
     notify(control, device, Notice::Resumed, out)
 }
 
 pub fn paused(control: &mut [u64], device: u64, out: &mut [u8]) -> Answer
-    ensures { λ r. ⌜ PromiseControl control out (Plain.paused device) r ⌝ }
+    ensures { λ r. ⌜ Promise control out (Plain.paused device) r ⌝ }
 {
     notify(control, device, Notice::Paused, out)
 }
 
 pub fn start_emulating(control: &mut [u64], device: u64, sequence: u32, out: &mut [u8]) -> Answer
-    ensures { λ r. ⌜ PromiseControl control out (Plain.startEmulating device sequence) r ⌝ }
+    ensures { λ r. ⌜ Promise control out (Plain.startEmulating device sequence) r ⌝ }
 {
     notify(control, device, Notice::StartEmulating { sequence }, out)
 }
 
 pub fn stop_emulating(control: &mut [u64], device: u64, out: &mut [u8]) -> Answer
-    ensures { λ r. ⌜ PromiseControl control out (Plain.stopEmulating device) r ⌝ }
+    ensures { λ r. ⌜ Promise control out (Plain.stopEmulating device) r ⌝ }
 {
     notify(control, device, Notice::StopEmulating, out)
 }
 
 pub fn frame(control: &mut [u64], device: u64, time: u64, out: &mut [u8]) -> Answer
-    ensures { λ r. ⌜ PromiseControl control out (Plain.frame device time) r ⌝ }
+    ensures { λ r. ⌜ Promise control out (Plain.frame device time) r ⌝ }
 {
     notify(control, device, Notice::Frame { time }, out)
 }
 
 // `Device::has_capability`: whether the device lists an interface for it, linked or not.
 pub fn has_capability(control: &[u64], device: u64, capability: DeviceCapability) -> Answer
-    ensures { λ r. ⌜ ReplyControl control (Plain.hasCapability device capability) r ⌝ }
+    ensures { λ r. ⌜ Reply control (Plain.hasCapability device capability) r ⌝ }
 {
     if !control::sound(control) {
         return Answer::refused(Error::BadState);

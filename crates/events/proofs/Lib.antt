@@ -1,4 +1,7 @@
 pub mod Writes
 pub mod Objects
 pub mod Announced
+pub mod Named
+pub mod NewSeat
+pub mod NewDevice
 pub mod Seen

@@ -1,15 +1,16 @@
 -- The objects that go with devices and seats, slot by slot and bit by bit. Assumes nothing.
 use Prim.Native.Nat.{ℕ, zero, suc, _+_, _≤_, _<_}
 use mathlib.Core.Path.{_≡_, refl, sym, ap, ap₂, _∙_}
-use mathlib.Core.Bool.{cond}
+use mathlib.Core.Bool.{Bool, false, cond}
 use mathlib.Core.List.{List, [], _∷_, _++_, map, append-assoc, append-nil}
 use native.Mathlib.Numerals.{add-one}
 use native.Mathlib.Omega.{arith}
-use borrow.Author.Tests.{eq-eqb, ne-eqb}
+use borrow.Author.Tests.{eq-eqb, ne-eqb, leb-false}
 use lib.Count.{ones-le}
 use lib.Dec.{eqb}
 use lib.ListN.{length, length-append, length-map}
 use Rattle.eiproto.specs.Bits.{bitsOf, lowestBit, withoutLowest}
+use Rattle.eiproto.specs.Capability.{unknownBits}
 use Rattle.eiproto.proofs.Bits.{bits-length, bits-none, lowest}
 use Rattle.model.specs.Session.{Seat, Device}
 use Rattle.model.specs.Decide.{objectsOf, devicesObjects, seatObjects, seatsObjects}
@@ -71,6 +72,10 @@ objects-length c k m = ap length (objects-are c k refl m) ∙ simp (length-appen
 -- a mask of capabilities has at most seven
 pub bits-most : (m : ℕ) → m < 128 → length (bitsOf m) ≤ 7
 bits-most m h = omega (arith, bits-length m (omega arith), ones-le 7 m h)
+
+-- a mask with no unknown bit is one
+pub bits-known : (m : ℕ) {b : Bool} → b ≡ unknownBits m → b ≡ false → m < 128
+bits-known m e z = leb-false 128 m (sym e ∙ z)
 
 -- ---- the devices of a seat
 

@@ -157,6 +157,16 @@ destroys-join {out} {mid} {later} {mark} {v} {r} {xs} {ys} room p q =
       serial = q .serial ∙ ap (raised (length ys)) (p .serial) ∙ sym (raised-append s xs ys);
     }
 
+-- the serial of the last event
+pub last-is : {out later : List ℕ} {mark v : Mark} {objects : List ℕ} {n : ℕ} → Destroys out later mark objects v → mark .serial ≡ n
+    → v .serial ≡ raised (length objects) n
+last-is {objects = objects} p e = p .serial ∙ ap (raised (length objects)) e
+
+pub destroys-sends : {out later : List ℕ} {mark r : Mark} {objects : List ℕ} → Destroys out later mark objects r
+    → Sends out later (mark .at) (destroyed (mark .serial) objects) (r .at)
+destroys-sends {mark = mark} {objects = objects} d =
+    record { bytes = d .bytes; next = omega (arith, d .at, destroyed-length (mark .serial) objects) }
+
 -- Some of the objects are written, and there is room for the rest.
 pub record Going (out later : List ℕ) (from v : Mark) (all rest : List ℕ) : Type 0 where
   pub done : List ℕ

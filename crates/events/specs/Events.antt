@@ -10,6 +10,7 @@ use Rattle.model.specs.Plan.{Sent, records}
 use Rattle.model.specs.Decide.{destroyed}
 use Rattle.control.specs.Table.{tab}
 use Rattle.control.specs.Control.{deviceCount, Core, coreAt}
+use Rattle.session.specs.Slices.{Numbers}
 use Rattle.events.specs.declared.Mark.{Mark}
 
 -- the records of events stand at the place, and the answer is the place behind them
@@ -23,7 +24,15 @@ pub record Destroys (out later : List ℕ) (mark : Mark) (objects : List ℕ) (r
   pub at : r .at ≡ mark .at + 14 * length objects
   pub serial : r .serial ≡ raised (length objects) (mark .serial)
 
--- a device as its control words tell it: what is pending has no part in an event
+-- ---- the same, said of `out` as a writer is lent it
+
+abbrev pub Writes : (out : Numbers) → (at : ℕ) → List Sent → ℕ → Type 0
+Writes out at sent r = Sends (out .entry .now) (out .exit .now) at sent r
+
+abbrev pub WritesDestroyed : (out : Numbers) → Mark → (objects : List ℕ) → Mark → Type 0
+WritesDestroyed out mark objects r = Destroys (out .entry .now) (out .exit .now) mark objects r
+
+-- ---- a device as its control words tell it: what is pending has no part in an event
 unfoldable pub bare : Core → Device (Unit {0})
 bare d = record { id = d .id; seat = d .seat; interfaces = d .interfaces; downTouchIds = d .downTouchIds; pending = [] }
 

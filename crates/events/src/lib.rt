@@ -1,22 +1,26 @@
-// The events of the station's calls that are more than one record, written to the lent `out` from control words that no writer changes. Each
-// writer asks for room; how much it needs is told by a function beside it, before the first byte is written.
+// The events of the station's calls that are more than one record, written to the lent `out` from control words that no writer changes: what goes
+// is destroyed, what is new is announced. Each writer asks for room; how much it needs is told by a function beside it, before the first byte is
+// written.
 use control::Negotiated;
 use eiproto::event::DeviceCapability;
 use wire::event;
 use wire::event::Event;
 ghost use mathlib.Core.Path.{_≡_};
 ghost use mathlib.Core.List.{[], _∷_};
-ghost use Prim.Native.Nat.{_+_, _*_, _≤_, _<_};
+ghost use Prim.Native.Nat.{ℕ, _+_, _*_, _≤_, _<_};
 ghost use lib.ListN.{length};
 ghost use Rattle.eiproto.specs.Bits.{bitsOf};
 ghost use Rattle.eiproto.specs.Capability.{interfaceOfBit};
 ghost use Rattle.wire.specs.Record.{recordLength};
-ghost use Rattle.model.specs.Edit.{newInterfaces};
+ghost use Rattle.model.specs.Session.{Connection};
+ghost use Rattle.model.specs.Edit.{nextSerial, newInterfaces};
 ghost use Rattle.model.specs.Plan.{records};
-ghost use Rattle.model.specs.Decide.{isSome, version, capabilityEvents, interfaceEvents, objectsOf, devicesObjects, seatObjects, seatsObjects};
+ghost use Rattle.model.specs.Decide.{isSome, version, nameEvents, capabilityEvents, interfaceEvents, objectsOf, devicesObjects, seatObjects, seatsObjects};
 ghost use Rattle.control.specs.Control.{controlLength, connectionOf, coreAt};
 ghost use Rattle.control.specs.Sound.{Sound};
-ghost use Rattle.events.specs.Events.{Sends, Destroys, bare, bareDevices};
+ghost use Rattle.session.specs.Slices.{optional, text};
+ghost use Rattle.events.specs.Events.{Writes, WritesDestroyed, bare, bareDevices};
+ghost use Rattle.events.specs.Announce.{seatEvents, deviceEvents, CanAnnounceInterfaces, CanAnnounceSeat, CanAnnounceDevice};
 
 // A place in `out`, and the last serial so far.
 pub struct Mark {
@@ -27,25 +31,32 @@ pub struct Mark {
 // The bytes of a destroyed record, of a seat's capability and of a device's interface.
 pub const DESTROYED_LENGTH: usize = 14;
 
-pub const CAPABILITY_LENGTH: usize = 19;
+const CAPABILITY_LENGTH: usize = 19;
 
-pub const INTERFACE_LENGTH: usize = 23;
+const INTERFACE_LENGTH: usize = 23;
 
 // One event, at a place that has room for it; the place behind it.
 pub fn send(out: &mut [u8], at: usize, object: u64, e: Event, text: &[u8]) -> usize
     requires { ⌜ at + recordLength e (now text) ≤ length (now out) ⌝ }
-    ensures { λ r. ⌜ Sends (now (out .entry)) (now (out .exit)) at (record { object = object; event = e; text = now (text .entry) } ∷ []) r ⌝ }
+    ensures { λ r. ⌜ Writes out at (record { object = object; event = e; text = now (text .entry) } ∷ []) r ⌝ }
 {
     at + event::put_record(out, at, object, e, text)
 }
 
 // ---- destroyed
 
-pub fn write_destroyed(out: &mut [u8], mark: Mark, object: u64) -> Mark
-    requires { ⌜ mark .at + 14 ≤ length (now out) ⌝ }
-    ensures { λ r. ⌜ Destroys (now (out .entry)) (now (out .exit)) mark (object ∷ []) r ⌝ }
+// "The serial of an event is the last plus one, and after 4294967295 comes 0."
+pub fn next_serial(serial: u32) -> u32
+    ensures { λ r. ⌜ r ≡ nextSerial serial ⌝ }
 {
-    let serial = control::edits::next_serial(mark.serial);
+    std::num::wrapping_add_u32(serial, 1)
+}
+
+pub fn destroy(out: &mut [u8], mark: Mark, object: u64) -> Mark
+    requires { ⌜ mark .at + 14 ≤ length (now out) ⌝ }
+    ensures { λ r. ⌜ WritesDestroyed out mark (object ∷ []) r ⌝ }
+{
+    let serial = next_serial(mark.serial);
     let at = send(out, mark.at, object, Event::Destroyed { serial }, b"");
     Mark { at, serial }
 }
@@ -92,9 +103,9 @@ pub fn seats_objects(control: &[u64]) -> usize
 }
 
 // Destroyed for each interface of the device in slot k by capability bit, then for the device.
-pub fn write_device(control: &[u64], k: usize, out: &mut [u8], mark: Mark) -> Mark
+pub fn destroy_device(control: &[u64], k: usize, out: &mut [u8], mark: Mark) -> Mark
     requires { ⌜ Sound (now control) × ((k < 8) × (mark .at + 14 * length (objectsOf (bare (coreAt (now control) k))) ≤ length (now out))) ⌝ }
-    ensures { λ r. ⌜ Destroys (now (out .entry)) (now (out .exit)) mark (objectsOf (bare (coreAt (now (control .entry)) k))) r ⌝ }
+    ensures { λ r. ⌜ WritesDestroyed out mark (objectsOf (bare (coreAt (now (control .entry)) k))) r ⌝ }
 {
     let id = control::device_id(control, k);
     let made = control::device_capabilities(control, k);
@@ -102,16 +113,16 @@ pub fn write_device(control: &[u64], k: usize, out: &mut [u8], mark: Mark) -> Ma
     let mut so_far = mark;
     while left != 0 {
         let bit = DeviceCapability::lowest(left);
-        so_far = write_destroyed(out, so_far, control::interface_id(id, made, bit));
+        so_far = destroy(out, so_far, control::interface_id(id, made, bit));
         left = DeviceCapability::without_lowest(left);
     }
-    write_destroyed(out, so_far, id)
+    destroy(out, so_far, id)
 }
 
 // For each device of a seat, in the order of the table.
-fn write_devices(control: &[u64], seat: u64, out: &mut [u8], mark: Mark) -> Mark
+fn destroy_devices(control: &[u64], seat: u64, out: &mut [u8], mark: Mark) -> Mark
     requires { ⌜ Sound (now control) × (mark .at + 14 * length (devicesObjects seat (bareDevices (now control))) ≤ length (now out)) ⌝ }
-    ensures { λ r. ⌜ Destroys (now (out .entry)) (now (out .exit)) mark (devicesObjects seat (bareDevices (now (control .entry)))) r ⌝ }
+    ensures { λ r. ⌜ WritesDestroyed out mark (devicesObjects seat (bareDevices (now (control .entry)))) r ⌝ }
 {
     let devices = control::device_count(control);
     let mut so_far = mark;
@@ -120,31 +131,31 @@ fn write_devices(control: &[u64], seat: u64, out: &mut [u8], mark: Mark) -> Mark
         let slot = k;
         k += 1;
         if control::device_seat(control, slot) == seat {
-            so_far = write_device(control, slot, out, so_far);
+            so_far = destroy_device(control, slot, out, so_far);
         }
     }
     so_far
 }
 
 // Then for the seat.
-pub fn write_seat(control: &[u64], seat: u64, out: &mut [u8], mark: Mark) -> Mark
+pub fn destroy_seat(control: &[u64], seat: u64, out: &mut [u8], mark: Mark) -> Mark
     requires { ⌜ Sound (now control) × (mark .at + 14 * length (seatObjects seat (bareDevices (now control))) ≤ length (now out)) ⌝ }
-    ensures { λ r. ⌜ Destroys (now (out .entry)) (now (out .exit)) mark (seatObjects seat (bareDevices (now (control .entry)))) r ⌝ }
+    ensures { λ r. ⌜ WritesDestroyed out mark (seatObjects seat (bareDevices (now (control .entry)))) r ⌝ }
 {
-    let after_devices = write_devices(control, seat, out, mark);
-    write_destroyed(out, after_devices, seat)
+    let after_devices = destroy_devices(control, seat, out, mark);
+    destroy(out, after_devices, seat)
 }
 
 // Every seat, each after its devices.
-pub fn write_seats(control: &[u64], out: &mut [u8], mark: Mark) -> Mark
+pub fn destroy_seats(control: &[u64], out: &mut [u8], mark: Mark) -> Mark
     requires { ⌜ Sound (now control) × (mark .at + 14 * length (seatsObjects (connectionOf (now control) .seats) (bareDevices (now control))) ≤ length (now out)) ⌝ }
-    ensures { λ r. ⌜ Destroys (now (out .entry)) (now (out .exit)) mark (seatsObjects (connectionOf (now (control .entry)) .seats) (bareDevices (now (control .entry)))) r ⌝ }
+    ensures { λ r. ⌜ WritesDestroyed out mark (seatsObjects (connectionOf (now (control .entry)) .seats) (bareDevices (now (control .entry)))) r ⌝ }
 {
     let seats = control::seat_count(control);
     let mut so_far = mark;
     let mut place: usize = 0;
     while place < seats {
-        so_far = write_seat(control, control::seat_id(control, place), out, so_far);
+        so_far = destroy_seat(control, control::seat_id(control, place), out, so_far);
         place += 1;
     }
     so_far
@@ -163,7 +174,7 @@ fn negotiated(control: &[u64], bit: u32) -> bool
 }
 
 // The bytes of the capability events of a seat.
-pub fn capabilities_length(control: &[u64], seat: u64, capabilities: u64) -> usize
+fn capabilities_length(control: &[u64], seat: u64, capabilities: u64) -> usize
     requires { ⌜ Sound (now control) × (capabilities < 128) ⌝ }
     ensures { λ r. ⌜ (r ≡ length (records (capabilityEvents (connectionOf (now (control .entry))) seat (bitsOf capabilities)))) × (r ≤ 133) ⌝ }
 {
@@ -180,7 +191,7 @@ pub fn capabilities_length(control: &[u64], seat: u64, capabilities: u64) -> usi
 }
 
 // "A seat .. announces the negotiated ones only."
-pub fn write_capabilities(
+fn announce_capabilities(
     control: &[u64],
     seat: u64,
     capabilities: u64,
@@ -188,7 +199,7 @@ pub fn write_capabilities(
     from: usize,
 ) -> usize
     requires { ⌜ Sound (now control) × ((capabilities < 128) × (from + length (records (capabilityEvents (connectionOf (now control)) seat (bitsOf capabilities))) ≤ length (now out))) ⌝ }
-    ensures { λ r. ⌜ Sends (now (out .entry)) (now (out .exit)) from (capabilityEvents (connectionOf (now (control .entry))) seat (bitsOf capabilities)) r ⌝ }
+    ensures { λ r. ⌜ Writes out from (capabilityEvents (connectionOf (now (control .entry))) seat (bitsOf capabilities)) r ⌝ }
 {
     let mut at = from;
     let mut left = capabilities;
@@ -213,15 +224,15 @@ pub fn write_capabilities(
 }
 
 // The interfaces of a new device, by capability bit, with the ids behind its own.
-pub fn write_interfaces(
+fn announce_interfaces(
     control: &[u64],
     device: u64,
     capabilities: u64,
     out: &mut [u8],
     from: usize,
 ) -> usize
-    requires { ⌜ Sound (now control) × ((capabilities < 128) × ((device + 1 + length (bitsOf capabilities) ≤ 18446744073709551615) × (from + 23 * length (bitsOf capabilities) ≤ length (now out)))) ⌝ }
-    ensures { λ r. ⌜ Sends (now (out .entry)) (now (out .exit)) from (interfaceEvents (connectionOf (now (control .entry))) device (newInterfaces device capabilities)) r ⌝ }
+    requires { ⌜ CanAnnounceInterfaces (now control) device capabilities (now out) from ⌝ }
+    ensures { λ r. ⌜ Writes out from (interfaceEvents (connectionOf (now (control .entry))) device (newInterfaces device capabilities)) r ⌝ }
 {
     let mut at = from;
     let mut id = device + 1;
@@ -245,4 +256,98 @@ pub fn write_interfaces(
         id += 1;
     }
     at
+}
+
+// The bytes of a name event, 0 where no name is given.
+fn name_length(given: bool, name: &[u8]) -> usize
+    ensures { λ r. ⌜ ((object : ℕ) → r ≡ length (records (nameEvents object (text given name)))) × (r ≤ 10 + length (now (name .entry))) ⌝ }
+{
+    if given {
+        event::record_length(Event::Name, name)
+    } else {
+        0
+    }
+}
+
+// The name event, at a place that has room for it; the place behind it.
+fn announce_name(out: &mut [u8], at: usize, object: u64, given: bool, name: &[u8]) -> usize
+    requires { ⌜ at + length (records (nameEvents object (optional given (now name)))) ≤ length (now out) ⌝ }
+    ensures { λ r. ⌜ Writes out at (nameEvents object (text given name)) r ⌝ }
+{
+    if given {
+        send(out, at, object, Event::Name, name)
+    } else {
+        at
+    }
+}
+
+// A seat's events: itself, its name, its capabilities, done.
+pub fn seat_length(
+    control: &[u64],
+    id: u64,
+    version: u32,
+    given: bool,
+    name: &[u8],
+    capabilities: u64,
+) -> usize
+    requires { ⌜ Sound (now control) × (capabilities < 128) ⌝ }
+    ensures { λ r. ⌜ r ≡ length (records (seatEvents (connectionOf (now (control .entry))) id version (text given name) capabilities)) ⌝ }
+{
+    let seat = event::fixed_length(Event::Seat { id, version });
+    let done = event::fixed_length(Event::Done);
+    seat + name_length(given, name) + capabilities_length(control, id, capabilities) + done
+}
+
+// At the start of `out`; how many bytes were written.
+pub fn announce_seat(
+    control: &[u64],
+    id: u64,
+    version: u32,
+    given: bool,
+    name: &[u8],
+    capabilities: u64,
+    out: &mut [u8],
+) -> usize
+    requires { ⌜ CanAnnounceSeat (now control) id version (optional given (now name)) capabilities (now out) ⌝ }
+    ensures { λ r. ⌜ Writes out 0 (seatEvents (connectionOf (now (control .entry))) id version (text given name) capabilities) r ⌝ }
+{
+    let connection = control::connection_id(control);
+    let seat = send(out, 0, connection, Event::Seat { id, version }, b"");
+    let named = announce_name(out, seat, id, given, name);
+    let announced = announce_capabilities(control, id, capabilities, out, named);
+    send(out, announced, id, Event::Done, b"")
+}
+
+// A device's events: itself, its name, its type, its interfaces, done.
+pub fn device_length(id: u64, version: u32, given: bool, name: &[u8], capabilities: u64) -> usize
+    requires { ⌜ capabilities < 128 ⌝ }
+    ensures { λ r. ⌜ ((c : Connection) (seat kind : ℕ) → r ≡ length (records (deviceEvents c seat id version (text given name) kind capabilities))) ⌝ }
+{
+    let device = event::fixed_length(Event::Device { id, version });
+    let kind = event::fixed_length(Event::DeviceType { value: 0 });
+    let interfaces = INTERFACE_LENGTH * (DeviceCapability::count(capabilities) as usize);
+    let done = event::fixed_length(Event::Done);
+    device + name_length(given, name) + kind + interfaces + done
+}
+
+// At the start of `out`; how many bytes were written.
+pub fn announce_device(
+    control: &[u64],
+    seat: u64,
+    id: u64,
+    version: u32,
+    given: bool,
+    name: &[u8],
+    kind: u32,
+    capabilities: u64,
+    out: &mut [u8],
+) -> usize
+    requires { ⌜ CanAnnounceDevice (now control) seat id version (optional given (now name)) kind capabilities (now out) ⌝ }
+    ensures { λ r. ⌜ Writes out 0 (deviceEvents (connectionOf (now (control .entry))) seat id version (text given name) kind capabilities) r ⌝ }
+{
+    let device = send(out, 0, seat, Event::Device { id, version }, b"");
+    let named = announce_name(out, device, id, given, name);
+    let typed = send(out, named, id, Event::DeviceType { value: kind }, b"");
+    let listed = announce_interfaces(control, id, capabilities, out, typed);
+    send(out, listed, id, Event::Done, b"")
 }

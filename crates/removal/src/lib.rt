@@ -1,15 +1,19 @@
-// Devices and seats taken out of a session, in place: whole rows of control words and of pending requests move down.
+// Devices and seats that go: the client is told, and they are taken out of the session in place, where whole rows of control words and of pending
+// requests move down.
+use events::Mark;
 ghost use mathlib.Core.Path.{_≡_};
 ghost use mathlib.Core.List.{[], _∷_};
-ghost use Prim.Native.Nat.{_+_, _≤_, _<_};
+ghost use Prim.Native.Nat.{_+_, _*_, _≤_, _<_};
 ghost use lib.Ieee.{nan};
 ghost use lib.ListN.{length, getD};
 ghost use Rattle.model.specs.Edit.{Edit};
-ghost use Rattle.model.specs.Decide.{removeSeats};
-ghost use Rattle.control.specs.Control.{deviceCount, connectionOf};
+ghost use Rattle.model.specs.Decide.{objectsOf, seatObjects, removeSeats};
+ghost use Rattle.control.specs.Control.{deviceCount, connectionOf, coreAt};
 ghost use Rattle.session.specs.View.{Lent};
 ghost use Rattle.session.specs.Enact.{EnactsRows};
+ghost use Rattle.events.specs.Events.{bare, bareDevices};
 ghost use Rattle.removal.specs.Shift.{Shifted};
+ghost use Rattle.removal.specs.Retire.{Retires};
 
 // The words and the reals of a device's 64 pending rows.
 const SLOT_WORDS: usize = 320;
@@ -41,7 +45,7 @@ fn shift_reals(a: &mut [f32], to: usize, from: usize, n: usize)
 }
 
 // The device in slot k taken out with what it has pending; those behind it move down. What is queued stays.
-pub fn remove_device(control: &mut [u64], words: &mut [u64], reals: &mut [f32], k: usize)
+fn remove_device(control: &mut [u64], words: &mut [u64], reals: &mut [f32], k: usize)
     requires { ⌜ Lent (now control) (now words) (now reals) × (k < deviceCount (now control)) ⌝ }
     ensures { λ _. ⌜ EnactsRows control words reals (Edit.removeDevice k ∷ []) ⌝ }
 {
@@ -62,7 +66,7 @@ pub fn remove_device(control: &mut [u64], words: &mut [u64], reals: &mut [f32], 
 }
 
 // Every device of a seat taken out.
-pub fn remove_devices_of(control: &mut [u64], words: &mut [u64], reals: &mut [f32], seat: u64)
+fn remove_devices_of(control: &mut [u64], words: &mut [u64], reals: &mut [f32], seat: u64)
     requires { ⌜ Lent (now control) (now words) (now reals) ⌝ }
     ensures { λ _. ⌜ EnactsRows control words reals (Edit.removeDevicesOf seat ∷ []) ⌝ }
 {
@@ -86,4 +90,43 @@ pub fn remove_seats(control: &mut [u64], words: &mut [u64], reals: &mut [f32])
         remove_devices_of(control, words, reals, seat);
         session::remove_seat(control, seat);
     }
+}
+
+// ---- told and taken out, with room for what is told; how many bytes were written, at the start of `out`
+
+// The device in slot k: its interfaces by capability bit, then itself.
+pub fn retire_device(
+    control: &mut [u64],
+    words: &mut [u64],
+    reals: &mut [f32],
+    k: usize,
+    out: &mut [u8],
+) -> usize
+    requires { ⌜ Lent (now control) (now words) (now reals) × ((k < deviceCount (now control)) × (14 * length (objectsOf (bare (coreAt (now control) k))) ≤ length (now out))) ⌝ }
+    ensures { λ r. ⌜ Retires control words reals out (objectsOf (bare (coreAt (now (control .entry)) k))) (Edit.removeDevice k ∷ []) r ⌝ }
+{
+    let serial = control::last_serial(control);
+    let mark = events::destroy_device(control, k, out, Mark { at: 0, serial });
+    session::raise(control, mark.serial);
+    remove_device(control, words, reals, k);
+    mark.at
+}
+
+// A seat: its devices in the order of the table, then itself.
+pub fn retire_seat(
+    control: &mut [u64],
+    words: &mut [u64],
+    reals: &mut [f32],
+    seat: u64,
+    out: &mut [u8],
+) -> usize
+    requires { ⌜ Lent (now control) (now words) (now reals) × (14 * length (seatObjects seat (bareDevices (now control))) ≤ length (now out)) ⌝ }
+    ensures { λ r. ⌜ Retires control words reals out (seatObjects seat (bareDevices (now (control .entry)))) (Edit.removeDevicesOf seat ∷ Edit.removeSeat seat ∷ []) r ⌝ }
+{
+    let serial = control::last_serial(control);
+    let last = events::destroy_seat(control, seat, out, Mark { at: 0, serial });
+    session::raise(control, last.serial);
+    remove_devices_of(control, words, reals, seat);
+    session::remove_seat(control, seat);
+    last.at
 }

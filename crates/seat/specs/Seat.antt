@@ -1,16 +1,18 @@
--- What a new device announces. Assumes nothing.
-use Prim.Native.Nat.{ℕ}
-use mathlib.Core.List.{List, [], _∷_, _++_}
-use mathlib.Core.Option.{Option}
-use Rattle.wire.specs.declared.event.Event.{Event}
-use Rattle.model.specs.Session.{Connection}
-use Rattle.model.specs.Edit.{newInterfaces}
-use Rattle.model.specs.Plan.{Sent, on}
-use Rattle.model.specs.Decide.{nameEvents, interfaceEvents}
+-- What is asked for behind the tests of `add_device`. Assumes nothing.
+use Prim.Native.Nat.{ℕ, _<_}
+use mathlib.Core.Path.{_≡_}
+use mathlib.Core.List.{List}
+use mathlib.Core.Option.{Option, some}
+use lib.Dec.{eqb}
+use Rattle.control.specs.Table.{first}
+use Rattle.control.specs.Control.{connectionOf}
+use Rattle.control.specs.Sound.{Sound}
+use Rattle.answers.specs.Check.{Checks}
+use Rattle.answers.specs.declared.Checked.{Checked}
 
--- what `addDevice` of the model sends: the device on its seat, then on the device its name, its type, its interfaces, done
-abbrev pub deviceEvents : Connection → (seat id version : ℕ) → Option (List ℕ) → (kind capabilities : ℕ) → List Sent
-deviceEvents c seat id version name kind caps =
-    on seat (Event.Device id version)
-    ∷ nameEvents id name
-    ++ (on id (Event.DeviceType kind) ∷ interfaceEvents c id (newInterfaces id caps) ++ (on id Event.Done ∷ []))
+-- neither 21, nor 10 or 11, nor 13, nor 12: the seat is in slot k
+pub record Tested (control : List ℕ) (k seat : ℕ) (name : Option (List ℕ)) (capabilities : ℕ) : Type 0 where
+  pub sound : Sound control
+  pub fine : Checks name Checked.Fine
+  pub known : capabilities < 128
+  pub found : first (λ t. eqb (t .id) seat) (connectionOf control .seats) ≡ some k

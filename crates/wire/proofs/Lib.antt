@@ -1,4 +1,5 @@
 pub mod Bytes
 pub mod Splices
+pub mod Ids
 pub mod Records
 pub mod Trials

@@ -1,69 +1,69 @@
 -- 21, 10, or the answer. Assumes nothing.
-use mathlib.Core.Path.{refl, sym, ap, _∙_}
-use borrow.Author.Tests.{not-true, not-false}
+use mathlib.Core.Path.{_≡_, refl, sym, ap, _∙_}
+use mathlib.Core.Bool.{true}
 use borrow.Author.Needs.{needs}
-use Rattle.session.specs.View.{Store, store}
-use Rattle.session.proofs.Views.{whole-parts}
-use Rattle.control.specs.Answer.{versionTold}
+use Rattle.utf8.specs.Rfc3629.{isUtf8}
 use Rattle.model.specs.Decide.{versionAnswer}
+use Rattle.control.specs.Answer.{versionTold}
+use Rattle.control.specs.Sound.{isSound}
+use Rattle.control.proofs.Sounds.{sound-bounds}
+use Rattle.session.specs.View.{store}
 use Rattle.answers.specs.declared.Outcome.{Outcome}
-use Rattle.answers.proofs.Meetings.{whole-failed, whole-passed, damaged-answered, whole-answered}
+use Rattle.answers.proofs.Meetings.{failed, passed, unsound-answered, sound-answered}
 use Rattle.connection.proofs.Interfaces.{version-invalid, version-told}
 use Rattle.connection.proofs.interface_version.Statement.{statement}
 use Rattle.connection.proofs.interface_version.Tie as tie
 
-returns : tie.Need-returns
-returns c =
-    let a = c .before .before .before .before .before .before .before .before .args in
-    let s : Store = store (a .control .now) (a .words .now) (a .reals .now) (a .texts .now) in
-    λ clock out. damaged-answered s out _ clock _ (whole-failed s (c .before .before .whole .ensures) (c .before .if1 .taken)) (c .refused .ensures)
+-- behind 21's test
+sound : (p : tie.Else1) → isSound (p .before .before .before .before .args .control .now) ≡ true
+sound p = passed (p .before .sound .ensures) (p .if1 .left)
 
+-- behind 10's
+valid : (p : tie.Else2) → isUtf8 (p .before .before .before .before .before .before .args .name .now) ≡ true
+valid p = passed (p .before .valid .ensures) (p .if2 .left)
+
+returns : tie.Need-returns
+returns c = λ clock out. unsound-answered (failed (c .before .before .sound .ensures) (c .before .if1 .taken)) (c .refused .ensures)
+
+-- 10
 returns-2 : tie.Need-returns-2
 returns-2 c =
-    let a = c .before .before .before .before .before .before .before .before .before .before .args in
-    let s : Store = store (a .control .now) (a .words .now) (a .reals .now) (a .texts .now) in
-    let sound = whole-passed s (c .before .before .before .before .whole .ensures) (c .before .before .before .if1 .left) in
-    λ clock out. whole-answered sound (version-invalid s (whole-parts s sound) out clock (a .name .now) (sym (c .before .before .valid .ensures) ∙ not-true _ (c .before .if2 .taken)) (c .refused2 .ensures))
+    let a = c .before .before .before .before .before .before .before .args in
+    λ clock out.
+    sound-answered (sound (c .before .before .before))
+    (λ words reals texts whole.
+    version-invalid (store (a .control .now) words reals texts) whole out clock (a .name .now) (failed (c .before .before .valid .ensures) (c .before .if2 .taken)) (c .refused2 .ensures))
 
 negotiated-requires : tie.Need-negotiated-requires
-negotiated-requires c κs =
-    let a = c .before .before .before .before .before .before .before .before .before .args in
-    let s : Store = store (a .control .now) (a .words .now) (a .reals .now) (a .texts .now) in
-    whole-parts s (whole-passed s (c .before .before .before .whole .ensures) (c .before .before .if1 .left)) .sound .long
+negotiated-requires c κs = sound-bounds _ (sound (c .before .before)) .long
 
 returns-3 : tie.Need-returns-3
 unfolding versionAnswer
 returns-3 c =
     let at-negotiated = c .before .before .before .before in
-    let at-if2 = at-negotiated .before in
-    let at-valid = at-if2 .before in
-    let at-if1 = at-valid .before in
-    let at-whole = at-if1 .before in
-    let at-start = at-whole .before .before .before .before .before .before in
-    let a = at-start .args in
-    let s : Store = store (a .control .now) (a .words .now) (a .reals .now) (a .texts .now) in
-    let sound = whole-passed s (at-whole .whole .ensures) (at-if1 .if1 .left) in
-    λ clock out. whole-answered sound (version-told s (whole-parts s sound) out clock (a .name .now) (sym (at-valid .valid .ensures) ∙ not-false _ (at-if2 .if2 .left)) (ap versionTold (sym (c .before .before .v .given .1)) ∙ at-negotiated .negotiated .ensures) _ refl (c .told .ensures))
+    let a = at-negotiated .before .before .before .before .before .before .before .args in
+    λ clock out.
+    sound-answered (sound (at-negotiated .before .before .before))
+    (λ words reals texts whole.
+    version-told (store (a .control .now) words reals texts) whole out clock (a .name .now) (valid (at-negotiated .before))
+    (ap versionTold (sym (c .before .before .v .given .1)) ∙ at-negotiated .negotiated .ensures) _ refl (c .told .ensures))
 
 returns-4 : tie.Need-returns-4
 unfolding versionAnswer
 returns-4 c =
     let at-negotiated = c .before .before .before in
-    let at-if2 = at-negotiated .before in
-    let at-valid = at-if2 .before in
-    let at-if1 = at-valid .before in
-    let at-whole = at-if1 .before in
-    let at-start = at-whole .before .before .before .before .before .before in
-    let a = at-start .args in
-    let s : Store = store (a .control .now) (a .words .now) (a .reals .now) (a .texts .now) in
-    let sound = whole-passed s (at-whole .whole .ensures) (at-if1 .if1 .left) in
-    λ clock out. whole-answered sound (version-told s (whole-parts s sound) out clock (a .name .now) (sym (at-valid .valid .ensures) ∙ not-false _ (at-if2 .if2 .left)) (ap versionTold (sym (c .before .enum-told .given .1)) ∙ at-negotiated .negotiated .ensures) Outcome.None refl (c .told2 .ensures))
+    let a = at-negotiated .before .before .before .before .before .before .before .args in
+    λ clock out.
+    sound-answered (sound (at-negotiated .before .before .before))
+    (λ words reals texts whole.
+    version-told (store (a .control .now) words reals texts) whole out clock (a .name .now) (valid (at-negotiated .before))
+    (ap versionTold (sym (c .before .enum-told .given .1)) ∙ at-negotiated .negotiated .ensures) Outcome.None refl (c .told2 .ensures))
 
 pub interface-version-spec : {M : Type 1} → statement M
 interface-version-spec =
     tie.close
     (tie.spec
-    (λ c κs. search needs)  -- whole-requires
+    (λ c κs. search needs)  -- sound-requires
     (λ c κs. search needs)  -- refused-requires
     returns
     (λ c κs. search needs)  -- valid-requires

@@ -15,9 +15,10 @@ use Rattle.session.proofs.Views.{found-bound}
 use Rattle.answers.specs.declared.Error.{Error}
 use Rattle.answers.specs.declared.Outcome.{Outcome}
 use Rattle.answers.proofs.Meetings.{failed, passed, unsound-answered, sound-answered, told-handled}
+use Rattle.removal.proofs.Retiring.{raise-count}
 use Rattle.device.specs.Notice.{noticeCall}
 use Rattle.device.proofs.Plans.{notice-unknown}
-use Rattle.device.proofs.Devices.{raise-one, raise-count, notice-room, notice-short, notice-told}
+use Rattle.device.proofs.Devices.{raise-one, notice-room, notice-short, notice-told}
 use Rattle.device.proofs.notify.Statement.{statement}
 use Rattle.device.proofs.notify.Tie as tie
 

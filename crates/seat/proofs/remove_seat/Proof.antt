@@ -1,159 +1,116 @@
--- 21, 12 and 19 leave all as it was; else the objects of the seat are destroyed, its devices go, then the seat. Assumes nothing.
-use mathlib.Core.Path.{refl, sym, ap, _∙_}
+-- 21, 12 and 19 leave all as it was; else the objects of the seat are destroyed, and it goes. Assumes nothing.
+use mathlib.Core.Path.{_≡_, sym, ap, _∙_}
+use mathlib.Core.Bool.{true}
 use mathlib.Core.List.{[], _∷_}
+use mathlib.Core.Option.{some}
 use native.Mathlib.Omega.{arith}
 use borrow.Author.Needs.{needs}
-use Rattle.model.specs.Call.{Load, Plain}
+use lib.Dec.{eqb}
+use Rattle.model.specs.Call.{Plain}
 use Rattle.model.specs.Edit.{Edit}
 use Rattle.model_steps.proofs.Counted.{removes-seat}
+use Rattle.control.specs.Table.{first}
+use Rattle.control.specs.Control.{connectionOf}
 use Rattle.control.specs.Answer.{slotTold}
-use Rattle.session.specs.View.{Store, store}
-use Rattle.session.proofs.Views.{whole-parts, enacted-join, whole-lent, lent-after}
+use Rattle.session.specs.View.{store, isLent}
+use Rattle.session.proofs.Views.{lent-parts}
 use Rattle.events.proofs.Seen.{seat-objects-seen}
 use Rattle.answers.specs.declared.Error.{Error}
 use Rattle.answers.specs.declared.Outcome.{Outcome}
-use Rattle.answers.proofs.Meetings.{whole-failed, whole-passed, damaged-answered, told-answered}
-use Rattle.connection.proofs.Removals.{last-is, gone-short, gone}
+use Rattle.answers.proofs.Meetings.{failed, passed, unlent-answered, lent-answered, told-handled}
+use Rattle.removal.proofs.Retiring.{retired-short, retired-handled}
 use Rattle.seat.proofs.Removed.{seat-unknown, seat-plan}
 use Rattle.seat.proofs.remove_seat.Statement.{statement}
 use Rattle.seat.proofs.remove_seat.Tie as tie
 
+-- behind 21's test
+lent : (p : tie.Else1) → let a = p .before .before .before .before .before .before .before .before .before .args in isLent (a .control .now) (a .words .now) (a .reals .now) ≡ true
+lent p = passed (p .before .lent .ensures) (p .if1 .left)
+
+-- the seat is there
+found : (k : tie.After-enum-told) → let a = k .before .before .before .before .before .before .before .before .before .before .before .before .before .args in first (λ t. eqb (t .id) (a .seat)) (connectionOf (a .control .now) .seats) ≡ some (k .enum-told .given .0 .0)
+found k = sym (k .before .before .find-seat .ensures) ∙ ap slotTold (k .enum-told .given .1)
+
 returns : tie.Need-returns
-returns c =
-    let a = c .before .before .before .before .before .before .before .before .before .before .before .args in
-    let s : Store = store (a .control .now) (a .words .now) (a .reals .now) (a .texts .now) in
-    λ clock.
-    damaged-answered s (a .out .now) _ clock _ (whole-failed s (c .before .before .whole .ensures) (c .before .if1 .taken)) (c .refused .ensures)
+returns c = λ clock. unlent-answered (failed (c .before .before .lent .ensures) (c .before .if1 .taken)) (c .refused .ensures)
 
 find-seat-requires : tie.Need-find-seat-requires
-find-seat-requires c κs =
-    whole-parts _ (whole-passed _ (c .before .before .whole .ensures) (c .before .if1 .left)) .sound
+find-seat-requires c κs = lent-parts _ _ _ (lent (c .before)) .sound
 
 seat-objects-requires : tie.Need-seat-objects-requires
-seat-objects-requires c κs =
-    whole-parts _ (whole-passed _ (c .before .before .before .before .before .before .whole .ensures) (c .before .before .before .before .before .if1 .left)) .sound
+seat-objects-requires c κs = lent-parts _ _ _ (lent (c .before .before .before .before .before)) .sound
 
+-- 19
 returns-2 : tie.Need-returns-2
 returns-2 c =
-    let at-enum-told = c .before .before .before .before in
-    let at-find-seat = at-enum-told .before .before in
-    let at-if1 = at-find-seat .before .before in
-    let at-whole = at-if1 .before in
-    let at-start = at-whole .before .before .before .before .before .before .before .before .before in
-    let a = at-start .args in
-    let s : Store = store (a .control .now) (a .words .now) (a .reals .now) (a .texts .now) in
+    let k = c .before .before .before .before in
+    let a = k .before .before .before .before .before .before .before .before .before .before .before .before .before .args in
     λ clock.
-    gone-short s (whole-passed s (at-whole .whole .ensures) (at-if1 .if1 .left)) (a .out .now)
-    (Plain.removeSeat (a .seat)) clock (Edit.removeDevicesOf (a .seat) ∷ Edit.removeSeat (a .seat) ∷ []) (seat-plan s (a .seat) clock (sym (at-find-seat .find-seat .ensures) ∙ ap slotTold (at-enum-told .enum-told .given .1))) (seat-objects-seen s (a .seat)) (removes-seat _ (a .seat))
-    (c .before .before .seat-objects .ensures .0) (omega arith) (c .refused2 .ensures)
+    lent-answered (lent (k .before .before .before .before))
+    (λ texts whole.
+    let s = store (a .control .now) (a .words .now) (a .reals .now) texts in
+    retired-short s whole (a .out .now) (Plain.removeSeat (a .seat)) clock (Edit.removeDevicesOf (a .seat) ∷ Edit.removeSeat (a .seat) ∷ [])
+    (seat-plan s (a .seat) clock (found k)) (seat-objects-seen s (a .seat)) (removes-seat _ _) (c .before .before .seat-objects .ensures .0) (omega arith) (c .refused2 .ensures))
 
-last-serial-requires : tie.Need-last-serial-requires
-last-serial-requires c κs =
-    whole-parts _ (whole-passed _ (c .before .before .before .before .before .before .before .before .before .whole .ensures) (c .before .before .before .before .before .before .before .before .if1 .left)) .sound .long
+retire-seat-requires : tie.Need-retire-seat-requires
+retire-seat-requires c κs = (lent-parts _ _ _ (lent (c .before .before .before .before .before .before .before .before .before .before .before)), omega (arith, c .before .before .before .before .before .seat-objects .ensures .0, c .before .before .before .before .if2 .left))
 
-write-seat-requires : tie.Need-write-seat-requires
-write-seat-requires c κs =
-    let at-if2 = c .before .before .before .before in
-    let at-seat-objects = at-if2 .before in
-    let at-if1 = at-seat-objects .before .before .before .before .before .before in
-    let at-whole = at-if1 .before in
-    let at-start = at-whole .before .before .before .before .before .before .before .before .before in
-    let a = at-start .args in
-    let s : Store = store (a .control .now) (a .words .now) (a .reals .now) (a .texts .now) in
-    (whole-parts s (whole-passed s (at-whole .whole .ensures) (at-if1 .if1 .left)) .sound, omega (arith, at-seat-objects .seat-objects .ensures .0, at-if2 .if2 .left))
-
-raise-requires : tie.Need-raise-requires
-raise-requires c κs =
-    let at-if1 = c .before .before .before .before .before .before .before .before .before .before .before .before .before .before .before in
-    let at-whole = at-if1 .before in
-    whole-parts _ (whole-passed _ (at-whole .whole .ensures) (at-if1 .if1 .left)) .sound
-
-remove-devices-of-requires : tie.Need-remove-devices-of-requires
-remove-devices-of-requires c κs =
-    let at-raise = c .before .before .before .before .before in
-    let at-write-seat = at-raise .before .before .before .before in
-    let at-last-serial = at-write-seat .before .before .before in
-    let at-if1 = at-last-serial .before .before .before .before .before .before .before .before .before in
-    let at-whole = at-if1 .before in
-    let at-start = at-whole .before .before .before .before .before .before .before .before .before in
-    let a = at-start .args in
-    let s : Store = store (a .control .now) (a .words .now) (a .reals .now) (a .texts .now) in
-    let o = whole-lent s (whole-passed s (at-whole .whole .ensures) (at-if1 .if1 .left)) in
-    let r = at-raise .raise .ensures _ (last-is (at-write-seat .write-seat .ensures) (at-last-serial .last-serial .ensures)) in
-    lent-after o r
-
-remove-seat-requires : tie.Need-remove-seat-requires
-remove-seat-requires c κs =
-    c .before .before .before .before .before .before .before .remove-devices-of .ensures [] Load.None .sound
-
+-- gone
 returns-3 : tie.Need-returns-3
 returns-3 c =
-    let at-remove-seat = c .before .before .before in
-    let at-remove-devices-of = at-remove-seat .before .before .before .before .before .before .before .before in
-    let at-raise = at-remove-devices-of .before .before .before .before .before .before in
-    let at-write-seat = at-raise .before .before .before .before in
-    let at-last-serial = at-write-seat .before .before .before in
-    let at-if2 = at-last-serial .before .before in
-    let at-seat-objects = at-if2 .before in
-    let at-enum-told = at-seat-objects .before .before in
-    let at-find-seat = at-enum-told .before .before in
-    let at-if1 = at-find-seat .before .before in
-    let at-whole = at-if1 .before in
-    let at-start = at-whole .before .before .before .before .before .before .before .before .before in
-    let a = at-start .args in
-    let s : Store = store (a .control .now) (a .words .now) (a .reals .now) (a .texts .now) in
+    let at-retire = c .before .before .before .before .before .before .before .before .before in
+    let at-room = at-retire .before .before .before .before .before in
+    let k = at-room .before .before .before in
+    let a = k .before .before .before .before .before .before .before .before .before .before .before .before .before .args in
     λ clock.
-    gone s (whole-passed s (at-whole .whole .ensures) (at-if1 .if1 .left)) (a .out .now)
-    (Plain.removeSeat (a .seat)) clock (Edit.removeDevicesOf (a .seat) ∷ Edit.removeSeat (a .seat) ∷ []) (seat-plan s (a .seat) clock (sym (at-find-seat .find-seat .ensures) ∙ ap slotTold (at-enum-told .enum-told .given .1))) (seat-objects-seen s (a .seat)) (removes-seat _ (a .seat))
-    (at-seat-objects .seat-objects .ensures .0) (omega (arith, at-if2 .if2 .left)) refl (at-last-serial .last-serial .ensures)
-    (at-write-seat .write-seat .ensures) (at-raise .raise .ensures) (λ texts load. enacted-join (at-remove-devices-of .remove-devices-of .ensures texts load) (at-remove-seat .remove-seat .ensures _ _ texts load))
-    (at-remove-devices-of .remove-devices-of .kept .1 .0) (at-remove-devices-of .remove-devices-of .kept .1 .1 .0) (c .sent .ensures)
+    lent-answered (lent (k .before .before .before .before))
+    (λ texts whole.
+    let s = store (a .control .now) (a .words .now) (a .reals .now) texts in
+    retired-handled s whole (a .out .now) (Plain.removeSeat (a .seat)) clock (Edit.removeDevicesOf (a .seat) ∷ Edit.removeSeat (a .seat) ∷ [])
+    (seat-plan s (a .seat) clock (found k)) (seat-objects-seen s (a .seat)) (removes-seat _ _) (at-room .before .seat-objects .ensures .0)
+    (omega (arith, at-room .if2 .left)) (at-retire .retire-seat .ensures) (at-retire .retire-seat .kept .1 .0) (at-retire .retire-seat .kept .1 .1 .0) (c .sent .ensures))
 
+-- 12
 returns-4 : tie.Need-returns-4
 returns-4 c =
-    let at-find-seat = c .before .before .before in
-    let at-if1 = at-find-seat .before .before in
-    let at-whole = at-if1 .before in
-    let at-start = at-whole .before .before .before .before .before .before .before .before .before in
-    let a = at-start .args in
-    let s : Store = store (a .control .now) (a .words .now) (a .reals .now) (a .texts .now) in
+    let p = c .before .before .before .before .before in
+    let a = p .before .before .before .before .before .before .before .before .before .args in
     λ clock.
-    told-answered s (a .out .now) (Plain.removeSeat (a .seat)) clock (Outcome.Refused Error.UnknownHandle) _ (whole-passed s (at-whole .whole .ensures) (at-if1 .if1 .left))
-    (seat-unknown s (a .seat) clock (sym (at-find-seat .find-seat .ensures) ∙ ap slotTold (c .before .enum-told2 .given .1))) (c .refused3 .ensures)
+    lent-answered (lent p)
+    (λ texts whole.
+    let s = store (a .control .now) (a .words .now) (a .reals .now) texts in
+    told-handled s (a .out .now) (Plain.removeSeat (a .seat)) clock (Outcome.Refused Error.UnknownHandle) _ whole
+    (seat-unknown s (a .seat) clock (sym (c .before .before .before .find-seat .ensures) ∙ ap slotTold (c .before .enum-told2 .given .1))) (c .refused3 .ensures))
 
 pub remove-seat-spec : {M : Type 1} → statement M
 remove-seat-spec =
     tie.close
     (tie.spec
-    (λ c κs. search needs)
-    (λ c κs. search needs)
-    (λ c. search needs)
-    (λ c. search needs)
-    (λ c. search needs)
+    (λ c κs. search needs)  -- lent-requires
+    (λ c κs. search needs)  -- refused-requires
+    (λ c. search needs)  -- same-length
+    (λ c. search needs)  -- same-length-2
+    (λ c. search needs)  -- same-length-3
     returns
     find-seat-requires
-    (λ c. search needs)
+    (λ c. search needs)  -- enum-told
     seat-objects-requires
-    (λ c. search needs)
-    (λ c κs. search needs)
-    (λ c. search needs)
-    (λ c. search needs)
-    (λ c. search needs)
+    (λ c. search needs)  -- mul-if2
+    (λ c κs. search needs)  -- refused-requires-2
+    (λ c. search needs)  -- same-length-4
+    (λ c. search needs)  -- same-length-5
+    (λ c. search needs)  -- same-length-6
     returns-2
-    last-serial-requires
-    write-seat-requires
-    raise-requires
-    remove-devices-of-requires
-    remove-seat-requires
-    (λ c κs. search needs)
-    (λ c. search needs)
-    (λ c κs. search needs)
-    (λ c. search needs)
-    (λ c. search needs)
-    (λ c. search needs)
-    (λ c. search needs)
+    retire-seat-requires
+    (λ c κs. search needs)  -- sent-requires
+    (λ c. search needs)  -- enum-told-2
+    (λ c κs. search needs)  -- refused-requires-3
+    (λ c. search needs)  -- same-length-7
+    (λ c. search needs)  -- same-length-8
+    (λ c. search needs)  -- same-length-9
+    (λ c. search needs)  -- same-length-10
     returns-3
-    (λ c. search needs)
-    (λ c. search needs)
-    (λ c. search needs)
+    (λ c. search needs)  -- same-length-11
+    (λ c. search needs)  -- same-length-12
+    (λ c. search needs)  -- same-length-13
     returns-4)

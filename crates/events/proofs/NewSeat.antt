@@ -1,0 +1,77 @@
+-- The events of a new seat, each behind those before it. Assumes nothing.
+use Prim.Native.Nat.{ℕ, _+_, _≤_}
+use mathlib.Core.Path.{_≡_, refl, _∙_}
+use mathlib.Core.List.{List, [], _∷_, _++_}
+use mathlib.Core.Option.{Option}
+use native.Mathlib.Omega.{arith}
+use lib.ListN.{length}
+use Rattle.eiproto.specs.Bits.{bitsOf}
+use Rattle.wire.specs.declared.event.Event.{Event}
+use Rattle.wire.specs.Bits.{widths}
+use Rattle.wire.specs.Record.{layout, textOf, fixedLength, recordLength}
+use Rattle.model.specs.Session.{Connection}
+use Rattle.model.specs.Plan.{Sent, on, records}
+use Rattle.model.specs.Decide.{nameEvents, capabilityEvents}
+use Rattle.events.specs.Events.{Sends}
+use Rattle.events.specs.Announce.{seatEvents}
+use Rattle.events.proofs.Writes.{append-length, one-length, cons-length, sends-join}
+use Rattle.events.proofs.Named.{done-text}
+
+seat-text : (id version : ℕ) (text : List ℕ) → recordLength (Event.Seat id version) text ≡ fixedLength (Event.Seat id version)
+unfolding recordLength textOf layout
+seat-text id version text = omega arith
+
+module _ (c : Connection) (id version : ℕ) (name : Option (List ℕ)) (caps : ℕ) where
+  abbrev all : List Sent
+  all = seatEvents c id version name caps
+
+  abbrev named : ℕ
+  named = length (records (nameEvents id name))
+
+  abbrev announced : ℕ
+  announced = length (records (capabilityEvents c id (bitsOf caps)))
+
+  pub seat-bytes : length (records all) ≡ fixedLength (Event.Seat id version) + named + announced + fixedLength Event.Done
+  seat-bytes =
+      let a = cons-length (c .id) (Event.Seat id version) (fixedLength (Event.Seat id version)) (nameEvents id name ++ (capabilityEvents c id (bitsOf caps) ++ (on id Event.Done ∷ []))) (seat-text id version []) in
+      let b = append-length (nameEvents id name) (capabilityEvents c id (bitsOf caps) ++ (on id Event.Done ∷ [])) in
+      let d = append-length (capabilityEvents c id (bitsOf caps)) (on id Event.Done ∷ []) in
+      let e = one-length id Event.Done [] ∙ done-text [] in
+      omega arith
+
+  module _ (out : List ℕ) (room : length (records all) ≤ length out) where
+    pub seat-room : (text : List ℕ) → 0 + recordLength (Event.Seat id version) text ≤ length out
+    seat-room text = omega (arith, seat-text id version text, seat-bytes)
+
+    module _ {m : List ℕ} {a object : ℕ} (o : object ≡ c .id) (p : Sends out m 0 (on object (Event.Seat id version) ∷ []) a) (l : length m ≡ length out) where
+      at-name : a ≡ fixedLength (Event.Seat id version)
+      at-name = omega (arith, p .next, one-length object (Event.Seat id version) [] ∙ seat-text id version [])
+
+      pub name-room : a + named ≤ length m
+      name-room = omega (arith, at-name, seat-bytes)
+
+      module _ {k : List ℕ} {b : ℕ} (q : Sends m k a (nameEvents id name) b) (h : length k ≡ length out) where
+        pub capabilities-room : b + announced ≤ length k
+        capabilities-room = omega (arith, at-name, q .next, seat-bytes)
+
+        module _ {j : List ℕ} {d : ℕ} (s : Sends k j b (capabilityEvents c id (bitsOf caps)) d) (i : length j ≡ length out) where
+          pub done-room : (text : List ℕ) → d + recordLength Event.Done text ≤ length j
+          done-room text = omega (arith, at-name, q .next, s .next, seat-bytes, done-text text)
+
+          pub seat-sends : {later : List ℕ} {r : ℕ} → Sends j later d (on id Event.Done ∷ []) r → Sends out later 0 all r
+          seat-sends f =
+              let one = one-length id Event.Done [] ∙ done-text [] in
+              let ends = append-length (capabilityEvents c id (bitsOf caps)) (on id Event.Done ∷ []) in
+              let behind = append-length (nameEvents id name) (capabilityEvents c id (bitsOf caps) ++ (on id Event.Done ∷ [])) in
+              let z = at-name in
+              let n = seat-bytes in
+              sends-join (omega (arith, p .next))
+              (rw o at p)
+              (sends-join (omega (arith, q .next))
+              q
+              (sends-join (omega (arith, q .next, s .next)) s f))
+
+-- the room of an event without a text
+pub seat-fixed : (id version : ℕ) → fixedLength (Event.Seat id version) ≡ 22
+unfolding fixedLength layout widths
+seat-fixed id version = refl
