@@ -7,6 +7,9 @@ ghost use Rattle.answers.specs.Check.{Checks};
 // The bytes of a name or an explanation, at most.
 pub const NAME_LIMIT: usize = 254;
 
+// The most bytes of a name or an explanation; a longer one is `NameLong`.
+pub const NAME_LENGTH_LIMIT: usize = 254;
+
 // Why a call is refused: `Error` and `RequestError` of the source, then what the port adds.
 pub enum Error {
     UnexpectedHandshakeEvent,

@@ -1,6 +1,7 @@
 // The turns of each workload.
 use bench_calls::DEVICE;
 use requests::eis::ConnectionRequest;
+use requests::eis::InterfaceRequest;
 use requests::eis::Request;
 use requests::eis::TextRequest;
 
@@ -74,7 +75,7 @@ fn send(
             reals,
             texts,
             DEVICE + 1,
-            Request::Text(TextRequest::Utf8),
+            Request::Interface(InterfaceRequest::Text(TextRequest::Utf8)),
             b"01234567890123456789",
         ),
         Workload::Frame1 => bench_calls::many_keys(control, words, reals, texts, 1),

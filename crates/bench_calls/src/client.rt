@@ -4,6 +4,7 @@ use converter::request;
 use converter::request::NextRequest;
 use eiproto::eiproto_enum::KeyState;
 use requests::eis::DeviceRequest;
+use requests::eis::InterfaceRequest;
 use requests::eis::KeyboardRequest;
 use requests::eis::Request;
 use requests::eis::TouchscreenRequest;
@@ -44,19 +45,19 @@ pub fn without_text(
 }
 
 fn key(key: u32, state: KeyState) -> Request {
-    Request::Keyboard(KeyboardRequest::Key { key, state })
+    Request::Interface(InterfaceRequest::Keyboard(KeyboardRequest::Key { key, state }))
 }
 
 fn down(touchid: u32, x: f32, y: f32) -> Request {
-    Request::Touchscreen(TouchscreenRequest::Down { touchid, x, y })
+    Request::Interface(InterfaceRequest::Touchscreen(TouchscreenRequest::Down { touchid, x, y }))
 }
 
 fn motion(touchid: u32, x: f32, y: f32) -> Request {
-    Request::Touchscreen(TouchscreenRequest::Motion { touchid, x, y })
+    Request::Interface(InterfaceRequest::Touchscreen(TouchscreenRequest::Motion { touchid, x, y }))
 }
 
 fn up(touchid: u32) -> Request {
-    Request::Touchscreen(TouchscreenRequest::Up { touchid })
+    Request::Interface(InterfaceRequest::Touchscreen(TouchscreenRequest::Up { touchid }))
 }
 
 pub fn frame(timestamp: u64) -> Request {

@@ -16,14 +16,14 @@ fn negotiated(h: EisHandshaker, name: &[u8]) -> EisHandshaker {
 }
 
 // The handshake, in which the interfaces that a session needs are negotiated.
-fn shaken(control: &mut [u64], words: &[u64], reals: &[f32], texts: &[u8]) {
+fn shaken(control: &mut [u64]) {
     let mut out = [0u8; 4096];
     let mut h = EisHandshaker::new(7, &mut out).handshaker;
     h = negotiated(h, b"ei_connection");
     h = negotiated(h, b"ei_callback");
     h = negotiated(h, b"ei_pingpong");
     let finished = h.handle_request(Shake::Finish, b"", &mut out);
-    request::new(control, words, reals, texts, finished.response);
+    request::new(control, finished.response);
 }
 
 fn add_devices(
@@ -63,7 +63,7 @@ pub fn begin(
     capabilities: u64,
 ) {
     let mut out = [0u8; 4096];
-    shaken(control, words, reals, texts);
+    shaken(control);
     connection::add_seat(
         control,
         words,

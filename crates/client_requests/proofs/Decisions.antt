@@ -1,8 +1,8 @@
 -- What becomes of a timed request, by the device that was found and by what was asked of it. Assumes nothing.
 use Prim.Native.Nat.{ℕ, _≤_, _<_}
-use mathlib.Core.Path.{_≡_, refl, sym, subst, ap, _∙_}
+use mathlib.Core.Path.{_≡_, refl, sym, ap, _∙_}
 use mathlib.Core.Logic.{_⊎_, inl}
-use mathlib.Core.Bool.{Bool, true, false, cond}
+use mathlib.Core.Bool.{Bool, true, false, cond, false≢true}
 use mathlib.Core.List.{List, [], _∷_}
 use mathlib.Core.Option.{Option, none, some}
 use native.Mathlib.Omega.{arith}
@@ -14,43 +14,64 @@ use Rattle.eiproto.specs.Bits.{bitsOf, lowestBit}
 use Rattle.eiproto.specs.declared.event.DeviceCapability.{DeviceCapability}
 use Rattle.eiproto.specs.Interface.{eiTouchscreen}
 use Rattle.touches.specs.Touches.{member}
-use Rattle.model.specs.Call.{Kind, Sight, bare, touching, Load, Call, Split}
+use Rattle.model.specs.Call.{Kind, Input, Sight, sight, touching, Load, Call, Split}
 use Rattle.model.specs.Session.{View, view}
 use Rattle.model.specs.Edit.{Amend}
 use Rattle.model.specs.Plan.{Outcome, Plan, answer, refuse, ignore}
-use Rattle.model.specs.Decide.{Found, Rule, Handler, handledBy, handler, pendAfter, ifHeld, handle, handleTimed, linksIn, deviceForInterface, onFound, decide}
+use Rattle.model.specs.Decide.{Found, Handler, handler, pendAfter, ifHeld, handle, handleTimed, linksIn, deviceForInterface, onFound, decide}
 use Rattle.model.specs.Step.{textsBy, texts, counts, unchanged, carriedOut, step}
 use Rattle.model_steps.proofs.Steps.{step-answer, step-pend-full, step-pend-texts, step-pend}
 use Rattle.control.specs.Table.{first}
-use Rattle.control.specs.Control.{deviceCount, pendingAt, coreAt, coresOf}
+use Rattle.control.specs.Control.{deviceCount, coreAt, coresOf}
 use Rattle.control.proofs.Models.{device-passes}
 use Rattle.session.specs.View.{Store, session}
 use Rattle.session.proofs.Views.{deviceSeen, devices-length, device-touches, pending-count, found-interface, interface-bound, no-interface}
 use Rattle.answers.specs.Answer.{errorOf}
 use Rattle.answers.specs.declared.Error.{Error}
-use Rattle.client_requests.specs.Decision.{queueOn, Decided}
+use Rattle.client_requests.specs.Decision.{amendsOf, goesDown, CanChange, queueOn, decidedStep, Fits, Decided, OnlyQueued, OnlyHeld}
+use Rattle.client_requests.specs.declared.timed.TouchChange.{TouchChange}
 use Rattle.client_requests.specs.declared.timed.Decision.{Decision}
 
 -- ---- decisions are told apart
 
-pub ignored-not : {k : ℕ} → Decision.Ignored ≡ Decision.Queued k → ⊥
+ignored-not : {k : ℕ} {change : TouchChange} → Decision.Ignored ≡ Decision.Queued k change → ⊥
 ignored-not q = let z : _≡_ {A = ℕ} 0 1 = cc in omega arith
 
-pub refused-not : {e : Error} {k : ℕ} → Decision.Refused e ≡ Decision.Queued k → ⊥
+refused-not : {e : Error} {k : ℕ} {change : TouchChange} → Decision.Refused e ≡ Decision.Queued k change → ⊥
 refused-not q = let z : _≡_ {A = ℕ} 0 1 = cc in omega arith
 
-queued-same : {j k : ℕ} → Decision.Queued j ≡ Decision.Queued k → j ≡ k
-queued-same q = cc
+same-slot : {j k : ℕ} {x y : TouchChange} → Decision.Queued j x ≡ Decision.Queued k y → j ≡ k
+same-slot q = cc
+
+same-change : {j k : ℕ} {x y : TouchChange} → Decision.Queued j x ≡ Decision.Queued k y → x ≡ y
+same-change q = cc
+
+not-down : {change : TouchChange} (held : List ℕ) → goesDown change ≡ false → CanChange change held
+not-down held h id e = absurd (false≢true (sym h ∙ ap goesDown e))
 
 -- ---- the pending list's test, and the bit of a capability
 
-pub queue-full : (c : List ℕ) (k : ℕ) → 64 ≤ coreAt c k .pending → Decision.Refused Error.FullPending ≡ queueOn c k
-unfolding queueOn
-queue-full c k h = rw (le-leb 64 _ h)
+module _ (c : List ℕ) (k : ℕ) (change : TouchChange) where
+  pub queue-full : 64 ≤ coreAt c k .pending → Decision.Refused Error.FullPending ≡ queueOn c k change
+  unfolding queueOn
+  queue-full h = rw (le-leb 64 _ h)
 
-pub queue-room : (c : List ℕ) (k : ℕ) → coreAt c k .pending < 64 → Decision.Queued k ≡ queueOn c k
-unfolding queueOn
-queue-room c k h = rw (lt-leb 64 _ h)
+  pub queue-room : coreAt c k .pending < 64 → Decision.Queued k change ≡ queueOn c k change
+  unfolding queueOn
+  queue-room h = rw (lt-leb 64 _ h)
+
+  fits-on : k < deviceCount c → CanChange change (coreAt c k .downTouchIds) → Fits c (queueOn c k change)
+  unfolding queueOn coreAt
+  fits-on known touch = go (leb 64 (coreAt c k .pending)) refl
+    where
+      go : (b : Bool) → leb 64 (coreAt c k .pending) ≡ b → Fits c (cond b (Decision.Refused Error.FullPending) (Decision.Queued k change))
+      go true full j x q = absurd (refused-not q)
+      go false room j x q =
+          rw (← same-slot q, ← same-change q) (record { known = known; room = leb-false 64 _ room; touch = touch })
+
+  -- where the touches stay, or one goes up
+  pub fits-kept : {d : Decision} → k < deviceCount c → goesDown change ≡ false → d ≡ queueOn c k change → Fits c d
+  fits-kept known h is = rw is (fits-on known (not-down (coreAt c k .downTouchIds) h))
 
 pub bit-is : (cap : DeviceCapability) → lowestBit (capabilityMask cap) ≡ capabilityIndex cap
 unfolding lowestBit bitsOf
@@ -120,12 +141,12 @@ module _ (cap : DeviceCapability) (interface version : ℕ) (i : Sight) (valid :
 
   -- ---- the decision
 
-  module _ (c : List ℕ) (amends : List Amend) where
-    pub unknown : linkedSlot cap interface c ≡ none → Decided c (Call.timed interface version i) amends i Decision.Ignored
+  module _ (c : List ℕ) where
+    pub unknown : linkedSlot cap interface c ≡ none → Decided c interface version i Decision.Ignored
     unknown e =
         record {
           step-is = λ s t same call. step-unknown s t call (ap (linkedSlot cap interface) same ∙ e);
-          slot = λ k q. absurd (ignored-not q);
+          fits = λ k x q. absurd (ignored-not q);
         }
 
     module _ {k : ℕ} (e : linkedSlot cap interface c ≡ some k) where
@@ -139,45 +160,43 @@ module _ (cap : DeviceCapability) (interface version : ℕ) (i : Sight) (valid :
       waiting : (s : Store) → s .control ≡ c → coreAt (s .control) k .pending ≡ coreAt c k .pending
       waiting s same = ap (λ (x : List ℕ). coreAt x k .pending) same
 
-      pub ignored : ((f : Found) → f .device .downTouchIds ≡ coreAt c k .downTouchIds → handled f ≡ ignore) → Decided c (Call.timed interface version i) amends i Decision.Ignored
+      pub ignored : ((f : Found) → f .device .downTouchIds ≡ coreAt c k .downTouchIds → handled f ≡ ignore) → Decided c interface version i Decision.Ignored
       unfolding ignore
       ignored h =
-          record { step-is = λ s t same call. step-told s t call (found s same) Outcome.accepted (h _ (touches s same)); slot = λ j q. absurd (ignored-not q) }
+          record { step-is = λ s t same call. step-told s t call (found s same) Outcome.accepted (h _ (touches s same)); fits = λ j x q. absurd (ignored-not q) }
 
       pub refused : (error : Error) → ((f : Found) → f .device .downTouchIds ≡ coreAt c k .downTouchIds → handled f ≡ answer (errorOf error))
-          → Decided c (Call.timed interface version i) amends i (Decision.Refused error)
+          → Decided c interface version i (Decision.Refused error)
       refused error h =
-          record { step-is = λ s t same call. step-told s t call (found s same) (errorOf error) (h _ (touches s same)); slot = λ j q. absurd (refused-not q) }
+          record { step-is = λ s t same call. step-told s t call (found s same) (errorOf error) (h _ (touches s same)); fits = λ j x q. absurd (refused-not q) }
 
-      pub queued : {d : Decision} → d ≡ queueOn c k → texts (i .kind) ≡ 0 → ((f : Found) → f .device .downTouchIds ≡ coreAt c k .downTouchIds → handled f ≡ pendAfter amends f i)
-          → Decided c (Call.timed interface version i) amends i d
+      pub queued : {d : Decision} (change : TouchChange) → CanChange change (coreAt c k .downTouchIds) → d ≡ queueOn c k change → texts (i .kind) ≡ 0
+          → ((f : Found) → f .device .downTouchIds ≡ coreAt c k .downTouchIds → handled f ≡ pendAfter (amendsOf change) f i) → Decided c interface version i d
       unfolding queueOn pendAfter coreAt
-      queued is textless h = subst (λ (d : Decision). Decided c (Call.timed interface version i) amends i d) (sym is) (go (leb 64 (coreAt c k .pending)) refl)
+      queued change touch is textless h =
+          rw is
+          (record {
+            step-is = λ s t same call. go (leb 64 (coreAt c k .pending)) refl s t same call;
+            fits = fits-on c k change (linked-within cap interface c e) touch;
+          })
         where
-          go : (b : Bool) → leb 64 (coreAt c k .pending) ≡ b → Decided c (Call.timed interface version i) amends i (cond b (Decision.Refused Error.FullPending) (Decision.Queued k))
-          go true full =
-              record {
-                step-is = λ s t same call. step-full s t call (found s same) amends (h _ (touches s same)) (rw (waiting s same) (leb-true 64 _ full));
-                slot = λ j q. absurd (refused-not q);
-              }
-          go false room =
-              record {
-                step-is = λ s t same call. step-queued s t call (found s same) amends (h _ (touches s same)) (rw (waiting s same) (leb-false 64 _ room)) (inl textless);
-                slot = λ j q. subst (λ (x : ℕ). (x < deviceCount c) × (pendingAt c x < 64)) (queued-same q) (linked-within cap interface c e, leb-false 64 _ room);
-              }
+          go : (b : Bool) → leb 64 (coreAt c k .pending) ≡ b → (s : Store) (t : Split Load) → s .control ≡ c → t .call ≡ Call.timed interface version i
+              → step t (session s) ≡ decidedStep (cond b (Decision.Refused Error.FullPending) (Decision.Queued k change)) i (t .load) (session s)
+          go true full s t same call = step-full s t call (found s same) (amendsOf change) (h _ (touches s same)) (rw (waiting s same) (leb-true 64 _ full))
+          go false room s t same call =
+              step-queued s t call (found s same) (amendsOf change) (h _ (touches s same)) (rw (waiting s same) (leb-false 64 _ room)) (inl textless)
 
 -- ---- a request of which nothing is asked
 
-module _ (c : List ℕ) (cap : DeviceCapability) (interface : ℕ) (kind : Kind) (version : ℕ) (h : handler kind ≡ handledBy cap Rule.queued) where
-  pub plain-unknown : linkedSlot cap interface c ≡ none → Decided c (Call.timed interface version (bare kind)) [] (bare kind) Decision.Ignored
-  plain-unknown e = unknown cap interface version (bare kind) refl (ap (λ (x : Handler). x .capability) h) c [] e
+module _ (c : List ℕ) {cap : DeviceCapability} (interface version : ℕ) {input : Input} (only : OnlyQueued cap input) where
+  pub plain-unknown : linkedSlot cap interface c ≡ none → Decided c interface version (sight input) Decision.Ignored
+  plain-unknown e = unknown cap interface version (sight input) (only .valid) (ap (λ (x : Handler). x .capability) (only .by)) c e
 
-  pub plain-queued : {k : ℕ} {d : Decision} → linkedSlot cap interface c ≡ some k → d ≡ queueOn c k
-      → Decided c (Call.timed interface version (bare kind)) [] (bare kind) d
+  pub plain-queued : {k : ℕ} {d : Decision} → linkedSlot cap interface c ≡ some k → d ≡ queueOn c k TouchChange.Nothing → Decided c interface version (sight input) d
   unfolding texts textsBy handle
-  plain-queued e q =
-      queued cap interface version (bare kind) refl (ap (λ (x : Handler). x .capability) h) c [] e q (ap (λ (x : Handler). textsBy (x .rule)) h)
-      (λ f same. ap (λ (x : Handler). handle (x .rule) version f (bare kind)) h)
+  plain-queued {k} e q =
+      queued cap interface version (sight input) (only .valid) (ap (λ (x : Handler). x .capability) (only .by)) c e TouchChange.Nothing (not-down (coreAt c k .downTouchIds) refl) q
+      (ap (λ (x : Handler). textsBy (x .rule)) (only .by)) (λ f same. ap (λ (x : Handler). handle (x .rule) version f (sight input)) (only .by))
 
 -- ---- touches
 
@@ -201,43 +220,37 @@ touch-texts Kind.TextUtf8 e = absurd (text-not e)
     text-not : DeviceCapability.Text ≡ DeviceCapability.Touch → ⊥
     text-not e = let z : _≡_ {A = ℕ} 6 3 = ap capabilityIndex e in omega arith
 
-module _ (c : List ℕ) (touchscreen touch : ℕ) (kind : Kind) (version : ℕ) (amends : List Amend) (by : handler kind .capability ≡ DeviceCapability.Touch) where
-  pub touch-unknown : linkedSlot DeviceCapability.Touch touchscreen c ≡ none
-      → Decided c (Call.timed touchscreen version (touching kind touch)) amends (touching kind touch) Decision.Ignored
-  touch-unknown e = unknown DeviceCapability.Touch touchscreen version (touching kind touch) refl by c amends e
+module _ (c : List ℕ) (touchscreen touch : ℕ) (kind : Kind) (version : ℕ) (by : handler kind .capability ≡ DeviceCapability.Touch) where
+  pub touch-unknown : linkedSlot DeviceCapability.Touch touchscreen c ≡ none → Decided c touchscreen version (touching kind touch) Decision.Ignored
+  touch-unknown e = unknown DeviceCapability.Touch touchscreen version (touching kind touch) refl by c e
 
-  module _ (asks : (f : Found) → handle (handler kind .rule) version f (touching kind touch) ≡ ifHeld f (touching kind touch) amends)
-      {k : ℕ} (e : linkedSlot DeviceCapability.Touch touchscreen c ≡ some k) where
-    pub touch-not-held : member touch (coreAt c k .downTouchIds) ≡ false → Decided c (Call.timed touchscreen version (touching kind touch)) amends (touching kind touch) Decision.Ignored
-    unfolding ifHeld
-    touch-not-held m =
-        ignored DeviceCapability.Touch touchscreen version (touching kind touch) refl by c amends e
-        (λ f same. asks f ∙ ap (λ (b : Bool). cond b (pendAfter amends f (touching kind touch)) ignore) (ap (member touch) same ∙ m))
+-- the touch must be held
+module _ (c : List ℕ) (touchscreen touch : ℕ) {kind : Kind} {version : ℕ} {change : TouchChange} (only : OnlyHeld kind version touch change)
+    {k : ℕ} (e : linkedSlot DeviceCapability.Touch touchscreen c ≡ some k) where
+  asked : {b : Bool} → member touch (coreAt c k .downTouchIds) ≡ b → (f : Found) → f .device .downTouchIds ≡ coreAt c k .downTouchIds
+      → handle (handler kind .rule) version f (touching kind touch) ≡ cond b (pendAfter (amendsOf change) f (touching kind touch)) ignore
+  unfolding ifHeld
+  asked m f same = only .asks f ∙ ap (λ (b : Bool). cond b (pendAfter (amendsOf change) f (touching kind touch)) ignore) (ap (member touch) same ∙ m)
 
-    pub touch-held : {d : Decision} → member touch (coreAt c k .downTouchIds) ≡ true → d ≡ queueOn c k → Decided c (Call.timed touchscreen version (touching kind touch)) amends (touching kind touch) d
-    unfolding ifHeld
-    touch-held m q =
-        queued DeviceCapability.Touch touchscreen version (touching kind touch) refl by c amends e q (touch-texts kind by)
-        (λ f same. asks f ∙ ap (λ (b : Bool). cond b (pendAfter amends f (touching kind touch)) ignore) (ap (member touch) same ∙ m))
+  pub touch-not-held : member touch (coreAt c k .downTouchIds) ≡ false → Decided c touchscreen version (touching kind touch) Decision.Ignored
+  touch-not-held m = ignored DeviceCapability.Touch touchscreen version (touching kind touch) refl (only .by) c e (asked m)
+
+  pub touch-held : {d : Decision} → goesDown change ≡ false → member touch (coreAt c k .downTouchIds) ≡ true → d ≡ queueOn c k change
+      → Decided c touchscreen version (touching kind touch) d
+  touch-held up m q =
+      queued DeviceCapability.Touch touchscreen version (touching kind touch) refl (only .by) c e change (not-down (coreAt c k .downTouchIds) up) q
+      (touch-texts kind (only .by)) (asked m)
 
 -- ---- Down
 
-queue-on-slot : (c : List ℕ) (j k : ℕ) → queueOn c j ≡ Decision.Queued k → j ≡ k
-unfolding queueOn
-queue-on-slot c j k = go (leb 64 (coreAt c j .pending))
-  where
-    go : (b : Bool) → cond b (Decision.Refused Error.FullPending) (Decision.Queued j) ≡ Decision.Queued k → j ≡ k
-    go true q = absurd (refused-not q)
-    go false q = queued-same q
-
 module _ (c : List ℕ) (touchscreen touch : ℕ) {k : ℕ} (e : linkedSlot DeviceCapability.Touch touchscreen c ≡ some k) where
   abbrev Downs : Decision → Type 0
-  Downs d = (version : ℕ) → Decided c (Call.timed touchscreen version (touching Kind.TouchDown touch)) (Amend.touchDown touch ∷ []) (touching Kind.TouchDown touch) d
+  Downs d = (version : ℕ) → Decided c touchscreen version (touching Kind.TouchDown touch) d
 
   pub down-many : 16 ≤ length (coreAt c k .downTouchIds) → Downs (Decision.Refused Error.TooManyTouches)
   unfolding handler handle refuse
   down-many m version =
-      refused DeviceCapability.Touch touchscreen version (touching Kind.TouchDown touch) refl refl c (Amend.touchDown touch ∷ []) e Error.TooManyTouches
+      refused DeviceCapability.Touch touchscreen version (touching Kind.TouchDown touch) refl refl c e Error.TooManyTouches
       (λ f same. rw (ap (λ (x : List ℕ). leb 16 (length x)) same ∙ le-leb 16 _ m))
 
   module _ (m : length (coreAt c k .downTouchIds) < 16) where
@@ -247,29 +260,29 @@ module _ (c : List ℕ) (touchscreen touch : ℕ) {k : ℕ} (e : linkedSlot Devi
     pub down-twice : member touch (coreAt c k .downTouchIds) ≡ true → Downs (Decision.Refused Error.DuplicatedTouchDown)
     unfolding handler handle refuse
     down-twice h version =
-        refused DeviceCapability.Touch touchscreen version (touching Kind.TouchDown touch) refl refl c (Amend.touchDown touch ∷ []) e Error.DuplicatedTouchDown
+        refused DeviceCapability.Touch touchscreen version (touching Kind.TouchDown touch) refl refl c e Error.DuplicatedTouchDown
         (λ f same. rw (few f same, ap (member touch) same ∙ h))
 
-    -- what is then known of the device too
-    pub down-queued : {d : Decision} → member touch (coreAt c k .downTouchIds) ≡ false → d ≡ queueOn c k
-        → Downs d × ((j : ℕ) → d ≡ Decision.Queued j → (length (coreAt c j .downTouchIds) < 16) × (member touch (coreAt c j .downTouchIds) ≡ false))
+    pub down-queued : {d : Decision} → member touch (coreAt c k .downTouchIds) ≡ false → d ≡ queueOn c k (TouchChange.Down touch) → Downs d
     unfolding handler handle refuse texts textsBy
-    down-queued h q = (
-      λ version. queued DeviceCapability.Touch touchscreen version (touching Kind.TouchDown touch) refl refl c (Amend.touchDown touch ∷ []) e q refl
-          (λ f same. rw (few f same, ap (member touch) same ∙ h)),
-      λ j is. subst (λ (x : ℕ). (length (coreAt c x .downTouchIds) < 16) × (member touch (coreAt c x .downTouchIds) ≡ false)) (queue-on-slot c k j (sym q ∙ is)) (m, h),
-    )
+    down-queued h q version =
+        queued DeviceCapability.Touch touchscreen version (touching Kind.TouchDown touch) refl refl c e (TouchChange.Down touch)
+        (λ id is. (m, ap (λ (x : ℕ). member x (coreAt c k .downTouchIds)) (sym (same-touch is)) ∙ h)) q refl
+        (λ f same. rw (few f same, ap (member touch) same ∙ h))
+      where
+        same-touch : {x y : ℕ} → TouchChange.Down x ≡ TouchChange.Down y → x ≡ y
+        same-touch q = cc
 
 -- ---- Cancel
 
 module _ (c : List ℕ) (touchscreen touch version : ℕ) where
-  pub cancel-asks : 2 ≤ version → (f : Found) → handle (handler Kind.TouchCancel .rule) version f (touching Kind.TouchCancel touch) ≡ ifHeld f (touching Kind.TouchCancel touch) (Amend.touchUp touch ∷ [])
+  pub cancel-held : 2 ≤ version → OnlyHeld Kind.TouchCancel version touch (TouchChange.Up touch)
   unfolding handler handle
-  cancel-asks h f = rw (le-ltb version 2 h)
+  cancel-held h = record { by = refl; asks = λ f. rw (le-ltb version 2 h) }
 
   pub cancel-old : {k : ℕ} → linkedSlot DeviceCapability.Touch touchscreen c ≡ some k → version < 2
-      → Decided c (Call.timed touchscreen version (touching Kind.TouchCancel touch)) (Amend.touchUp touch ∷ []) (touching Kind.TouchCancel touch) (Decision.Refused (Error.InvalidInterfaceVersion eiTouchscreen version))
+      → Decided c touchscreen version (touching Kind.TouchCancel touch) (Decision.Refused (Error.InvalidInterfaceVersion eiTouchscreen version))
   unfolding handler handle
   cancel-old e h =
-      refused DeviceCapability.Touch touchscreen version (touching Kind.TouchCancel touch) refl refl c (Amend.touchUp touch ∷ []) e (Error.InvalidInterfaceVersion eiTouchscreen version)
+      refused DeviceCapability.Touch touchscreen version (touching Kind.TouchCancel touch) refl refl c e (Error.InvalidInterfaceVersion eiTouchscreen version)
       (λ f same. rw (lt-ltb version 2 h))

@@ -12,7 +12,7 @@ use lib.ListN.{length, getD}
 use Rattle.eiproto.specs.declared.event.DeviceCapability.{DeviceCapability}
 use Rattle.utf8.specs.Rfc3629.{isUtf8}
 use Rattle.wire.proofs.Splices.{splice-none}
-use Rattle.model.specs.Call.{Kind, Input, Sight, sight, Load, load, loadOf, Call, mapCall, split}
+use Rattle.model.specs.Call.{Kind, Input, sight, Load, load, loadOf, Call, mapCall, split}
 use Rattle.model.specs.Edit.{Amend, Edit, enactAll}
 use Rattle.model.specs.Plan.{records, refusal, answer, refuse, edit}
 use Rattle.model.specs.Plan as plan
@@ -20,39 +20,59 @@ use Rattle.model.specs.Decide.{handler, pendAfter, handle}
 use Rattle.model.specs.Step.{textsBy, texts, Counts, counts, refuses, step}
 use Rattle.model_steps.proofs.Counted.{counts-amend}
 use Rattle.control.specs.Control.{deviceCount, pendingAt, coreAt}
+use Rattle.control.specs.Sound.{Sound}
 use Rattle.session.specs.View.{Store, store, session, Whole, Lent}
 use Rattle.session.specs.Enact.{Enacted, EnactedControl}
-use Rattle.session.proofs.Views.{lent-after, devices-length, pending-count, deviceSeen}
+use Rattle.session.proofs.Views.{lent-after, enacted-none, devices-length, pending-count, deviceSeen}
 use Rattle.answers.specs.Answer.{outcomeOf}
-use Rattle.answers.specs.Meets.{Meets, turn, Handled}
+use Rattle.answers.specs.Meets.{turn, Handled}
 use Rattle.answers.specs.declared.Error.{Error}
 use Rattle.answers.specs.declared.Outcome.{Outcome}
 use Rattle.answers.specs.declared.Answer.{Answer}
 use Rattle.answers.proofs.Meetings.{meets-unchanged, meets-done}
-use Rattle.client_requests.specs.Decision.{decidedStep}
+use Rattle.client_requests.specs.Decision.{amendsOf, decidedStep, CanQueue, Decided}
+use Rattle.client_requests.specs.declared.timed.TouchChange.{TouchChange}
 use Rattle.client_requests.specs.declared.timed.Decision.{Decision}
 use Rattle.client_requests.proofs.Decisions.{linkedSlot, step-unknown, step-told, step-full, step-texts, step-queued}
 
-module _ (s : Store) (out : List ℕ) (d : Decision) (amends : List Amend) (i : Sight) (load : Load) (r : Answer) (whole : Whole s) where
-  pub met-ignored : d ≡ Decision.Ignored → (r .outcome ≡ Outcome.Accepted) × (r .count ≡ 0) → Meets s s out out (decidedStep d amends i load (session s)) r
-  met-ignored is told =
-      meets-unchanged s out _ plan.Outcome.accepted r whole (ap (λ (x : Decision). decidedStep x amends i load (session s)) is) (ap outcomeOf (told .0)) (told .1)
+-- ---- what was decided
 
-  pub met-refused : {error : Error} → d ≡ Decision.Refused error → (r .outcome ≡ Outcome.Refused error) × (r .count ≡ 0) → Meets s s out out (decidedStep d amends i load (session s)) r
-  met-refused is told =
-      meets-unchanged s out _ _ r whole (ap (λ (x : Decision). decidedStep x amends i load (session s)) is) (ap outcomeOf (told .0)) (told .1)
+module _ (s : Store) (out : List ℕ) (interface version clock : ℕ) (input : Input) {d : Decision} (r : Answer) (whole : Whole s)
+    (dec : Decided (s .control) interface version (sight input) d) where
+  abbrev asked : Call Input
+  asked = Call.timed interface version input
 
-  pub met-queued : (e : Store) {k : ℕ} → d ≡ Decision.Queued k → length (e .words) ≡ length (s .words) → length (e .reals) ≡ length (s .reals) → e .texts ≡ s .texts
-      → Enacted s e (map (λ a. Edit.amend k a) amends ++ (Edit.pend k i ∷ [])) load → (r .outcome ≡ Outcome.Accepted) × (r .count ≡ 0)
-      → Meets s e out out (decidedStep d amends i load (session s)) r
+  stepped : {x : Decision} → d ≡ x → step (split (turn asked clock out)) (session s) ≡ decidedStep x (sight input) (load input) (session s)
+  unfolding split mapCall loadOf
+  stepped is = dec .step-is s (split (turn asked clock out)) refl refl ∙ ap (λ (x : Decision). decidedStep x (sight input) (load input) (session s)) is
+
+  pub met-ignored : d ≡ Decision.Ignored → (r .outcome ≡ Outcome.Accepted) × (r .count ≡ 0) → Handled s s out out asked clock r
+  met-ignored is told = meets-unchanged s out _ plan.Outcome.accepted r whole (stepped is) (ap outcomeOf (told .0)) (told .1)
+
+  pub met-refused : {error : Error} → d ≡ Decision.Refused error → (r .outcome ≡ Outcome.Refused error) × (r .count ≡ 0) → Handled s s out out asked clock r
+  met-refused is told = meets-unchanged s out _ _ r whole (stepped is) (ap outcomeOf (told .0)) (told .1)
+
+  pub met-queued : (e : Store) {k : ℕ} {change : TouchChange} → d ≡ Decision.Queued k change → length (e .words) ≡ length (s .words) → length (e .reals) ≡ length (s .reals)
+      → e .texts ≡ s .texts → Enacted s e (map (λ a. Edit.amend k a) (amendsOf change) ++ (Edit.pend k (sight input) ∷ [])) (load input)
+      → (r .outcome ≡ Outcome.Accepted) × (r .count ≡ 0) → Handled s e out out asked clock r
   unfolding edit refuses refusal records
-  met-queued e {k} is words reals texts done told =
-      meets-done s e out out _ (edit (map (λ a. Edit.amend k a) amends ++ (Edit.pend k i ∷ []))) load r
+  met-queued e {k} {change} is words reals texts done told =
+      meets-done s e out out _ (edit (map (λ a. Edit.amend k a) (amendsOf change) ++ (Edit.pend k (sight input) ∷ []))) (load input) r
       (record { sound = done .sound; words-long = words ∙ whole .words-long; reals-long = reals ∙ whole .reals-long; texts-long = ap length texts ∙ whole .texts-long })
-      (ap (λ (x : Decision). decidedStep x amends i load (session s)) is) done refl (ap outcomeOf (told .0)) (told .1) (sym (splice-none out 0))
+      (stepped is) done refl (ap outcomeOf (told .0)) (told .1) (sym (splice-none out 0))
 
--- a change of the held touches leaves every count
-module _ {c e : List ℕ} {k : ℕ} {a : Amend} (h : EnactedControl c e (Edit.amend k a ∷ [])) where
+-- ---- the held touches
+
+pub changes-touch : {c e : List ℕ} (k : ℕ) {x y : TouchChange} → x ≡ y → EnactedControl c e (map (λ a. Edit.amend k a) (amendsOf y))
+    → EnactedControl c e (map (λ a. Edit.amend k a) (amendsOf x))
+changes-touch k e h = rw e h
+
+pub changes-nothing : {c : List ℕ} (k : ℕ) {change : TouchChange} → change ≡ TouchChange.Nothing → Sound c
+    → EnactedControl c c (map (λ a. Edit.amend k a) (amendsOf change))
+changes-nothing {c} k e ok = changes-touch k e (λ words reals texts load. enacted-none (store c words reals texts) load ok)
+
+-- a change of them leaves every count
+module _ {c e : List ℕ} (k : ℕ) (change : TouchChange) (h : EnactedControl c e (map (λ a. Edit.amend k a) (amendsOf change))) where
   abbrev before : Store
   before = store c [] [] []
 
@@ -61,7 +81,12 @@ module _ {c e : List ℕ} {k : ℕ} {a : Amend} (h : EnactedControl c e (Edit.am
 
   counts-kept : counts (session after) ≡ counts (session before)
   unfolding enactAll
-  counts-kept = ap counts (h [] [] [] Load.None .view) ∙ counts-amend k a Load.None (session before)
+  counts-kept = ap counts (h [] [] [] Load.None .view) ∙ amends-kept change
+    where
+      amends-kept : (x : TouchChange) → counts (enactAll (map (λ a. Edit.amend k a) (amendsOf x)) Load.None (session before)) ≡ counts (session before)
+      amends-kept TouchChange.Nothing = refl
+      amends-kept (TouchChange.Down id) = counts-amend k (Amend.touchDown id) Load.None (session before)
+      amends-kept (TouchChange.Up id) = counts-amend k (Amend.touchUp id) Load.None (session before)
 
   devices-kept : deviceCount e ≡ deviceCount c
   unfolding counts
@@ -73,10 +98,10 @@ module _ {c e : List ℕ} {k : ℕ} {a : Amend} (h : EnactedControl c e (Edit.am
       sym (pending-count after k (omega (arith, devices-kept))) ∙ ap (λ (n : Counts). getD (n .pending) k 0) counts-kept ∙ pending-count before k l
 
   -- so the pending list has room as it had
-  pub amended-lent : {w : List ℕ} {r : List Float} → Lent c w r → (k < deviceCount c) × (pendingAt c k < 64) → Lent e w r × ((k < deviceCount e) × (pendingAt e k < 64))
-  amended-lent lent room = (
+  pub changed-lent : {w : List ℕ} {r : List Float} → Lent c w r → CanQueue c k change → Lent e w r × ((k < deviceCount e) × (pendingAt e k < 64))
+  changed-lent lent can = (
     lent-after lent h,
-    (omega (arith, devices-kept), omega (arith, pending-kept (room .0))),
+    (omega (arith, devices-kept, can .known), omega (arith, pending-kept (can .known), can .room)),
   )
 
 -- ---- Utf8

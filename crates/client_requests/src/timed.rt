@@ -3,45 +3,54 @@ use answers::Answer;
 use answers::Error;
 use control::Slot;
 use eiproto::event::DeviceCapability;
+use queue::PENDING_LIMIT;
 use requests::cell::Cell;
+use texts::TEXTS_LIMIT;
+use texts::TEXT_LENGTH_LIMIT;
+use touches::EIS_MAX_TOUCHES;
 ghost use mathlib.Core.Path.{_≡_};
 ghost use mathlib.Core.Bool.{true, false};
-ghost use mathlib.Core.List.{List, [], _∷_};
+ghost use mathlib.Core.List.{map};
 ghost use Prim.Native.Nat.{ℕ, _<_};
-ghost use lib.ListN.{length};
 ghost use Rattle.eiproto.specs.Capability.{capabilityIndex};
 ghost use Rattle.utf8.specs.Rfc3629.{isUtf8};
-ghost use Rattle.touches.specs.Touches.{member};
-ghost use Rattle.requests.specs.Row.{rowOf};
-ghost use Rattle.model.specs.Call.{Kind, Input, Sight, bare, touching, Load, Call};
-ghost use Rattle.model.specs.Edit.{Amend, item};
-ghost use Rattle.model.specs.Decide.{Found, Rule, handledBy, handler, linksIn, ifHeld, handle};
+ghost use Rattle.model.specs.Call.{Kind, Input, touching, Call};
+ghost use Rattle.model.specs.Edit.{Edit};
+ghost use Rattle.model.specs.Decide.{linksIn};
 ghost use Rattle.control.specs.Table.{first};
-ghost use Rattle.control.specs.Control.{deviceCount, pendingAt, coreAt, coresOf};
+ghost use Rattle.control.specs.Control.{deviceCount, coreAt, coresOf};
 ghost use Rattle.control.specs.Sound.{Sound};
 ghost use Rattle.control.specs.Answer.{slotTold};
-ghost use Rattle.session.specs.View.{store, session, itemAt, Lent, Whole};
-ghost use Rattle.answers.specs.Meets.{Meets, Handled};
-ghost use Rattle.client_requests.specs.Decision.{queueOn, decidedStep, Decided};
+ghost use Rattle.session.specs.View.{store, Lent, Whole};
+ghost use Rattle.session.specs.Enact.{EnactsControl};
+ghost use Rattle.answers.specs.Promise.{Silent, SilentRows};
+ghost use Rattle.client_requests.specs.Decision.{amendsOf, goesDown, CanChange, queueOn, Fits, Decided, OnlyQueued, OnlyHeld, Waits, CarriesOut};
+
+// What a request changes of the held touches of its device.
+pub enum TouchChange {
+    Nothing,
+    Down(u32),
+    Up(u32),
+}
 
 // What becomes of a timed request.
 pub enum Decision {
     // It is on no known interface, or for a touch that is not down.
     Ignored,
     Refused(Error),
-    // It waits for its frame, on the device in the slot.
-    Queued(usize),
+    // It waits for its frame, on the device in the slot, whose held touches change before.
+    Queued { slot: usize, change: TouchChange },
 }
 
-// `queue_request`, where nothing else is asked: 16 where the device has 64 pending.
-fn queue_on(control: &[u64], k: usize) -> Decision
+// Where nothing else is asked: 16 where the pending list is full.
+fn queue_on(control: &[u64], k: usize, change: TouchChange) -> Decision
     requires { ⌜ Sound (now control) × (k < deviceCount (now control)) ⌝ }
-    ensures { λ r. ⌜ r ≡ queueOn (now (control .entry)) k ⌝ }
+    ensures { λ r. ⌜ r ≡ queueOn (now (control .entry)) k change ⌝ }
 {
-    if 64 <= control::pending_count(control, k) {
+    if PENDING_LIMIT <= control::pending_count(control, k) {
         return Decision::Refused(Error::FullPending);
     }
-    Decision::Queued(k)
+    Decision::Queued { slot: k, change }
 }
 
 // The slot of the device of which a request's interface is, for the capability.
@@ -56,48 +65,42 @@ pub fn device_for_interface(control: &[u64], capability: DeviceCapability, inter
     )
 }
 
-// A request of which nothing is asked but a known interface.
-pub fn decide(control: &[u64], capability: DeviceCapability, interface: u64) -> Decision
-    requires { ⌜ Sound (now control) ⌝ }
-    ensures { λ r. ⌜ ((kind : Kind) (version : ℕ) → handler kind ≡ handledBy capability Rule.queued → Decided (now (control .entry)) (Call.timed interface version (bare kind)) [] (bare kind) r) ⌝ }
-{
-    match device_for_interface(control, capability, interface) {
-        Slot::At(k) => queue_on(control, k),
-        Slot::Unknown => Decision::Ignored,
-    }
-}
-
 // "TOO_MANY_TOUCHES: Down while 16 ids are held, even for a held id. DUPLICATED_TOUCH_DOWN: Down for a held id, fewer than 16 held."
 pub fn decide_down(control: &[u64], touchscreen: u64, touch: u32) -> Decision
     requires { ⌜ Sound (now control) ⌝ }
-    ensures { λ r. ⌜ ((version : ℕ) → Decided (now (control .entry)) (Call.timed touchscreen version (touching Kind.TouchDown touch)) (Amend.touchDown touch ∷ []) (touching Kind.TouchDown touch) r) × ((k : ℕ) → r ≡ Decision.Queued k → (length (coreAt (now (control .entry)) k .downTouchIds) < 16) × (member touch (coreAt (now (control .entry)) k .downTouchIds) ≡ false)) ⌝ }
+    ensures { λ r. ⌜ ((version : ℕ) → Decided (now (control .entry)) touchscreen version (touching Kind.TouchDown touch) r) ⌝ }
 {
     match device_for_interface(control, DeviceCapability::Touch, touchscreen) {
         Slot::At(k) => {
             let held = control::edits::down_touch_ids(control, k);
-            if 16 <= held.len() {
+            if EIS_MAX_TOUCHES <= held.len() {
                 return Decision::Refused(Error::TooManyTouches);
             }
             if held.contains(touch) {
                 return Decision::Refused(Error::DuplicatedTouchDown);
             }
-            queue_on(control, k)
+            queue_on(control, k, TouchChange::Down(touch))
         }
         Slot::Unknown => Decision::Ignored,
     }
 }
 
 // "Touch Motion, Up and Cancel for an id not held: accepted, nothing."
-pub fn decide_held(control: &[u64], touchscreen: u64, touch: u32) -> Decision
-    requires { ⌜ Sound (now control) ⌝ }
-    ensures { λ r. ⌜ ((kind : Kind) (version : ℕ) (amends : List Amend) → handler kind .capability ≡ DeviceCapability.Touch → ((f : Found) → handle (handler kind .rule) version f (touching kind touch) ≡ ifHeld f (touching kind touch) amends) → Decided (now (control .entry)) (Call.timed touchscreen version (touching kind touch)) amends (touching kind touch) r) ⌝ }
+pub fn decide_held(
+    control: &[u64],
+    touchscreen: u64,
+    touch: u32,
+    change: TouchChange,
+) -> Decision
+    requires { ⌜ Sound (now control) × (goesDown change ≡ false) ⌝ }
+    ensures { λ r. ⌜ ((kind : Kind) (version : ℕ) → OnlyHeld kind version touch change → Decided (now (control .entry)) touchscreen version (touching kind touch) r) ⌝ }
 {
     match device_for_interface(control, DeviceCapability::Touch, touchscreen) {
         Slot::At(k) => {
             if !control::edits::down_touch_ids(control, k).contains(touch) {
                 return Decision::Ignored;
             }
-            queue_on(control, k)
+            queue_on(control, k, change)
         }
         Slot::Unknown => Decision::Ignored,
     }
@@ -106,7 +109,7 @@ pub fn decide_held(control: &[u64], touchscreen: u64, touch: u32) -> Decision
 // "touch Cancel on a known touchscreen, the request's version below 2, even for an id not held"
 pub fn decide_cancel(control: &[u64], touchscreen: u64, version: u32, touch: u32) -> Decision
     requires { ⌜ Sound (now control) ⌝ }
-    ensures { λ r. ⌜ Decided (now (control .entry)) (Call.timed touchscreen version (touching Kind.TouchCancel touch)) (Amend.touchUp touch ∷ []) (touching Kind.TouchCancel touch) r ⌝ }
+    ensures { λ r. ⌜ Decided (now (control .entry)) touchscreen version (touching Kind.TouchCancel touch) r ⌝ }
 {
     if version < 2 {
         return match device_for_interface(control, DeviceCapability::Touch, touchscreen) {
@@ -117,7 +120,18 @@ pub fn decide_cancel(control: &[u64], touchscreen: u64, version: u32, touch: u32
             Slot::Unknown => Decision::Ignored,
         };
     }
-    decide_held(control, touchscreen, touch)
+    decide_held(control, touchscreen, touch, TouchChange::Up(touch))
+}
+
+fn change_touches(control: &mut [u64], k: usize, change: TouchChange)
+    requires { ⌜ Sound (now control) × ((k < deviceCount (now control)) × CanChange change (coreAt (now control) k .downTouchIds)) ⌝ }
+    ensures { λ _. ⌜ EnactsControl control (map (λ a. Edit.amend k a) (amendsOf change)) ⌝ }
+{
+    match change {
+        TouchChange::Nothing => {}
+        TouchChange::Down(touch) => session::touch_down(control, k, touch),
+        TouchChange::Up(touch) => session::touch_up(control, k, touch),
+    }
 }
 
 // A request that was decided on, in the pending list of its device. `request` has no device and no time yet: they come with its frame.
@@ -128,62 +142,38 @@ pub fn queue_request(
     decision: Decision,
     request: Cell,
 ) -> Answer
-    requires { ⌜ Lent (now control) (now words) (now reals) × ((k : ℕ) → decision ≡ Decision.Queued k → (k < deviceCount (now control)) × (pendingAt (now control) k < 64)) ⌝ }
-    ensures { λ r. ⌜ ((texts out : List ℕ) (i : Sight) (load : Load) → item i load ≡ itemAt texts (rowOf request) → Whole (rowsBefore control words reals texts) → Meets (rowsBefore control words reals texts) (rowsAfter control words reals texts) out out (decidedStep decision [] i load (session (rowsBefore control words reals texts))) r) ⌝ }
+    requires { ⌜ Lent (now control) (now words) (now reals) × Fits (now control) decision ⌝ }
+    ensures { λ r. ⌜ CarriesOut control words reals decision request r ⌝ }
 {
     match decision {
         Decision::Ignored => Answer::accepted(),
         Decision::Refused(e) => Answer::refused(e),
-        Decision::Queued(k) => {
-            queue::pend(control, words, reals, k, request);
+        Decision::Queued { slot, change } => {
+            change_touches(control, slot, change);
+            queue::pend(control, words, reals, slot, request);
             Answer::accepted()
         }
     }
 }
 
-// Down, with its touch then held.
-pub fn queue_down(
+// A request of which nothing is asked but a known interface.
+pub fn queue_for_interface(
     control: &mut [u64],
     words: &mut [u64],
     reals: &mut [f32],
-    decision: Decision,
-    touch: u32,
+    capability: DeviceCapability,
+    interface: u64,
     request: Cell,
 ) -> Answer
-    requires { ⌜ Lent (now control) (now words) (now reals) × ((k : ℕ) → decision ≡ Decision.Queued k → ((k < deviceCount (now control)) × (pendingAt (now control) k < 64)) × ((length (coreAt (now control) k .downTouchIds) < 16) × (member touch (coreAt (now control) k .downTouchIds) ≡ false))) ⌝ }
-    ensures { λ r. ⌜ ((texts out : List ℕ) (i : Sight) (load : Load) → item i load ≡ itemAt texts (rowOf request) → Whole (rowsBefore control words reals texts) → Meets (rowsBefore control words reals texts) (rowsAfter control words reals texts) out out (decidedStep decision (Amend.touchDown touch ∷ []) i load (session (rowsBefore control words reals texts))) r) ⌝ }
+    requires { ⌜ Lent (now control) (now words) (now reals) ⌝ }
+    ensures { λ r. ⌜ ((version clock : ℕ) (input : Input) → OnlyQueued capability input → Waits input request → SilentRows control words reals (Call.timed interface version input) clock r) ⌝ }
 {
-    match decision {
-        Decision::Ignored => Answer::accepted(),
-        Decision::Refused(e) => Answer::refused(e),
-        Decision::Queued(k) => {
-            session::touch_down(control, k, touch);
-            queue::pend(control, words, reals, k, request);
-            Answer::accepted()
+    match device_for_interface(control, capability, interface) {
+        Slot::At(k) => {
+            let decision = queue_on(control, k, TouchChange::Nothing);
+            queue_request(control, words, reals, decision, request)
         }
-    }
-}
-
-// Up and Cancel, with their touch no longer held.
-pub fn queue_up(
-    control: &mut [u64],
-    words: &mut [u64],
-    reals: &mut [f32],
-    decision: Decision,
-    touch: u32,
-    request: Cell,
-) -> Answer
-    requires { ⌜ Lent (now control) (now words) (now reals) × ((k : ℕ) → decision ≡ Decision.Queued k → (k < deviceCount (now control)) × (pendingAt (now control) k < 64)) ⌝ }
-    ensures { λ r. ⌜ ((texts out : List ℕ) (i : Sight) (load : Load) → item i load ≡ itemAt texts (rowOf request) → Whole (rowsBefore control words reals texts) → Meets (rowsBefore control words reals texts) (rowsAfter control words reals texts) out out (decidedStep decision (Amend.touchUp touch ∷ []) i load (session (rowsBefore control words reals texts))) r) ⌝ }
-{
-    match decision {
-        Decision::Ignored => Answer::accepted(),
-        Decision::Refused(e) => Answer::refused(e),
-        Decision::Queued(k) => {
-            session::touch_up(control, k, touch);
-            queue::pend(control, words, reals, k, request);
-            Answer::accepted()
-        }
+        Slot::Unknown => Answer::accepted(),
     }
 }
 
@@ -201,14 +191,14 @@ pub fn queue_utf8(
 {
     match device_for_interface(control, DeviceCapability::Text, interface) {
         Slot::At(k) => {
-            if text.len() == 0 || 254 < text.len() {
+            if text.len() == 0 || TEXT_LENGTH_LIMIT < text.len() {
                 return Answer::refused(Error::InvalidTextLength);
             }
-            if 64 <= control::pending_count(control, k) {
+            if PENDING_LIMIT <= control::pending_count(control, k) {
                 return Answer::refused(Error::FullPending);
             }
             let live = texts::live_texts(control, words, reals);
-            if 32 <= live.count {
+            if TEXTS_LIMIT <= live.count {
                 return Answer::refused(Error::FullTexts);
             }
             texts::pend_text(

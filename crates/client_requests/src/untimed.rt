@@ -2,22 +2,21 @@
 use answers::Answer;
 use answers::Error;
 use control::Slot;
+use eiproto::eiproto_eis::CALLBACK;
 use eiproto::event::DeviceCapability;
 use events::Mark;
 use requests::request::EisRequest;
 use wire::event;
 use wire::event::Event;
-ghost use mathlib.Core.Path.{_≡_};
-ghost use mathlib.Core.List.{List, [], _∷_};
 ghost use Prim.Native.Nat.{ℕ};
-ghost use Rattle.model.specs.Call.{Input, sight, Plain, Call, mapCall};
-ghost use Rattle.model.specs.Session.{Untimed, Request, View, view};
-ghost use Rattle.model.specs.Edit.{Edit};
-ghost use Rattle.model.specs.Plan.{edit};
-ghost use Rattle.model.specs.Decide.{handleSeat, handleDevice, decide};
+ghost use mathlib.Core.List.{List};
+ghost use Rattle.model.specs.Call.{Input, Plain, Call};
+ghost use Rattle.model.specs.Decide.{handleSeat, handleDevice};
 ghost use Rattle.control.specs.Sound.{Sound};
-ghost use Rattle.session.specs.View.{store, session, requestIn, Lent, Whole};
-ghost use Rattle.answers.specs.Meets.{Handled, HandledRows, HandledControl};
+ghost use Rattle.session.specs.View.{Lent};
+ghost use Rattle.answers.specs.Meets.{HandledControl};
+ghost use Rattle.answers.specs.Promise.{HandlesControl, SilentRows};
+ghost use Rattle.client_requests.specs.Queueing.{Planned, QueuesRows};
 
 // A request that flushes nothing, behind all others.
 pub fn queue_untimed(
@@ -27,7 +26,7 @@ pub fn queue_untimed(
     request: EisRequest,
 ) -> Answer
     requires { ⌜ Lent (now control) (now words) (now reals) ⌝ }
-    ensures { λ r. ⌜ ((u : Untimed) (call : Call Input) (out texts : List ℕ) (clock : ℕ) → requestIn request [] ≡ Request.untimed u → decide (view (session (rowsBefore control words reals texts))) clock (mapCall sight call) ≡ edit (Edit.queue u ∷ []) → Whole (rowsBefore control words reals texts) → Handled (rowsBefore control words reals texts) (rowsAfter control words reals texts) out out call clock r) ⌝ }
+    ensures { λ r. ⌜ QueuesRows control words reals request r ⌝ }
 {
     if !queue::has_room(control, 1) {
         return Answer::refused(Error::FullQueue);
@@ -51,9 +50,6 @@ pub fn sync(callback: u64, version: u32, out: &mut [u8]) -> Answer
     }
     Answer::sent(events::send(out, 0, callback, done, b""))
 }
-
-// The number of `ei_callback`.
-const CALLBACK: u8 = 2;
 
 // "Seat Release .. always sends destroyed."
 pub fn release_seat(control: &mut [u64], seat: u64, out: &mut [u8]) -> Answer
@@ -79,7 +75,7 @@ pub fn queue_for_seat(
     request: EisRequest,
 ) -> Answer
     requires { ⌜ Lent (now control) (now words) (now reals) ⌝ }
-    ensures { λ r. ⌜ ((u : Untimed) (call : Call Input) (clock : ℕ) → requestIn request [] ≡ Request.untimed u → ((v : View) → decide v clock (mapCall sight call) ≡ handleSeat v seat capabilities u) → SilentRows control words reals call clock r) ⌝ }
+    ensures { λ r. ⌜ ((call : Call Input) (clock : ℕ) → Planned request call clock (λ v u. handleSeat v seat capabilities u) → SilentRows control words reals call clock r) ⌝ }
 {
     match control::find_seat(control, seat) {
         Slot::At(k) => {
@@ -105,7 +101,7 @@ pub fn queue_for_device(
     request: EisRequest,
 ) -> Answer
     requires { ⌜ Lent (now control) (now words) (now reals) ⌝ }
-    ensures { λ r. ⌜ ((u : Untimed) (call : Call Input) → requestIn request [] ≡ Request.untimed u → ((v : View) → decide v clock (mapCall sight call) ≡ handleDevice v clock device u) → SilentRows control words reals call clock r) ⌝ }
+    ensures { λ r. ⌜ ((call : Call Input) → Planned request call clock (λ v u. handleDevice v clock device u) → SilentRows control words reals call clock r) ⌝ }
 {
     match control::find_device(control, device) {
         Slot::At(k) => {

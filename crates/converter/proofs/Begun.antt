@@ -1,12 +1,11 @@
 -- A session's beginning: the versions that the handshake settled, set one after another. Assumes nothing.
 use Prim.Native.Nat.{ℕ, zero, suc, _+_, _≤_, _<_}
 use mathlib.Core.Path.{_≡_, refl, sym, ap, _∙_}
-use mathlib.Core.Bool.{true, false, false≢true}
+use mathlib.Core.Bool.{true, false}
 use mathlib.Core.List.{List, [], _∷_}
 use mathlib.Core.Option.{Option, none, some}
 use native.Mathlib.Omega.{arith}
 use native.Mathlib.Numerals.{add-one}
-use borrow.Author.Tests.{eq-eqb, ne-eqb}
 use lib.Ieee.{Float}
 use lib.ListN.{length, getD, set, replicate}
 use Rattle.requests.specs.Row.{rowAt}
@@ -15,7 +14,7 @@ use Rattle.control.specs.Table.{tab}
 use Rattle.control.specs.Control.{controlLength, deviceCount, queueHead, queueLength, connectionOf}
 use Rattle.control.specs.Sound.{Sound}
 use Rattle.control.specs.Change.{Reconnected, Fresh, withVersions}
-use Rattle.session.specs.View.{Store, store, wordsLength, realsLength, textsLength, requestAt, queueRow, deviceIn, queueIn, session, Whole}
+use Rattle.session.specs.View.{store, requestAt, queueRow, deviceIn, queueIn, session}
 use Rattle.session.proofs.Views.{session-of}
 use Rattle.handshake.specs.View.{versionIn, versionsOf}
 use Rattle.handshake.specs.declared.handshake.InterfaceVersion.{InterfaceVersion}
@@ -24,7 +23,7 @@ use Rattle.answers.specs.declared.Error.{Error}
 use Rattle.answers.specs.declared.Outcome.{Outcome}
 use Rattle.answers.specs.declared.Answer.{Answer}
 use Rattle.client_requests.proofs.Handling.{Tells}
-use Rattle.converter.specs.Next.{hasLengths, Begins}
+use Rattle.converter.specs.Next.{Begins}
 
 -- ---- the first i of the versions
 
@@ -107,7 +106,7 @@ module _ (p : EisHandshakeResp) (long : length (p .interfaces) ≡ 12) where
         }
 
   -- all are set
-  pub beginning-all : {e : List ℕ} (i : ℕ) (w : List ℕ) (r : List Float) (t : List ℕ) → 12 ≤ i → Beginning e p i
+  beginning-all : {e : List ℕ} (i : ℕ) (w : List ℕ) (r : List Float) (t : List ℕ) → 12 ≤ i → Beginning e p i
       → session (store e w r t) ≡ fresh (p .connection) (p .serial) (p .next) (versionsOf (p .interfaces))
   unfolding session fresh queueIn tab
   beginning-all {e} i w r t l b =
@@ -115,48 +114,20 @@ module _ (p : EisHandshakeResp) (long : length (p .interfaces) ≡ 12) where
       (ap (λ (n : ℕ). tab n (deviceIn e (rowAt w r) t)) (b .devices))
       (ap (λ (n : ℕ). tab n (λ j. requestAt t (rowAt w r (queueRow (queueHead e) j)))) (b .queued))
 
--- ---- the lengths
+-- ---- the answer
 
-module _ (s : Store) where
-  pub not-control : (length (s .control) ≡ controlLength → ⊥) → hasLengths s ≡ false
-  unfolding hasLengths
-  not-control h = rw (ne-eqb (length (s .control)) controlLength h)
+module _ {c : List ℕ} (p : EisHandshakeResp) {a : Answer} where
+  pub begins-bad : (length c ≡ controlLength → ⊥) → Tells a (Outcome.Refused Error.BadState) 0 → Begins c c p a
+  begins-bad short t =
+      record { count = t .1; damaged = λ h. (t .0, refl); accepted = λ h. absurd (short h); begun = λ h. absurd (short h) }
 
-  module _ (c : length (s .control) ≡ controlLength) where
-    pub not-words : (length (s .words) ≡ wordsLength → ⊥) → hasLengths s ≡ false
-    unfolding hasLengths
-    not-words h = rw (eq-eqb (length (s .control)) controlLength c, ne-eqb (length (s .words)) wordsLength h)
-
-    module _ (w : length (s .words) ≡ wordsLength) where
-      pub not-reals : (length (s .reals) ≡ realsLength → ⊥) → hasLengths s ≡ false
-      unfolding hasLengths
-      not-reals h = rw (eq-eqb (length (s .control)) controlLength c, eq-eqb (length (s .words)) wordsLength w, ne-eqb (length (s .reals)) realsLength h)
-
-      module _ (r : length (s .reals) ≡ realsLength) where
-        pub not-texts : (length (s .texts) ≡ textsLength → ⊥) → hasLengths s ≡ false
-        unfolding hasLengths
-        not-texts h =
-            rw (
-              eq-eqb (length (s .control)) controlLength c,
-              eq-eqb (length (s .words)) wordsLength w,
-              eq-eqb (length (s .reals)) realsLength r,
-              ne-eqb (length (s .texts)) textsLength h,
-            )
-
-        pub all-lengths : length (s .texts) ≡ textsLength → hasLengths s ≡ true
-        unfolding hasLengths
-        all-lengths h =
-            rw (
-              eq-eqb (length (s .control)) controlLength c,
-              eq-eqb (length (s .words)) wordsLength w,
-              eq-eqb (length (s .reals)) realsLength r,
-              eq-eqb (length (s .texts)) textsLength h,
-            )
-
-module _ (s : Store) (p : EisHandshakeResp) (a : Answer) where
-  pub begins-bad : hasLengths s ≡ false → Tells a (Outcome.Refused Error.BadState) 0 → Begins s s p a
-  begins-bad b t = record { count = t .1; damaged = λ h. (t .0, refl); begun = λ h. absurd (false≢true (sym b ∙ h)) }
-
-  pub begins-done : {e : Store} → hasLengths s ≡ true → Tells a Outcome.Accepted 0 → Whole e
-      → session e ≡ fresh (p .connection) (p .serial) (p .next) (versionsOf (p .interfaces)) → Begins s e p a
-  begins-done b t w v = record { count = t .1; damaged = λ h. absurd (false≢true (sym h ∙ b)); begun = λ h. (t .0, (w, v)) }
+  pub begins-done : {d : List ℕ} (i : ℕ) → length c ≡ controlLength → length (p .interfaces) ≡ 12 → 12 ≤ i → Beginning d p i → Tells a Outcome.Accepted 0
+      → Begins c d p a
+  begins-done i h long all b t =
+      record {
+        count = t .1;
+        damaged = λ short. absurd (short h);
+        accepted = λ _. t .0;
+        begun = λ _ w r s words reals texts.
+            (record { sound = b .sound; words-long = words; reals-long = reals; texts-long = texts }, beginning-all p long i w r s all b);
+      }

@@ -1,4 +1,2 @@
-pub mod Answering
 pub mod Given
 pub mod Begun
-pub mod Interfaces

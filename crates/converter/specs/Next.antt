@@ -1,9 +1,9 @@
 -- What is promised of `next_request`, and of a session's beginning. Assumes nothing.
 use Prim.Native.Nat.{ℕ}
 use mathlib.Core.Path.{_≡_}
-use mathlib.Core.Bool.{Bool, true, false, _&&_}
-use lib.Dec.{eqb}
+use mathlib.Core.Bool.{true, false}
 use mathlib.Core.List.{List, [], _∷_, _++_}
+use lib.Ieee.{Float}
 use lib.ListN.{length, take}
 use Rattle.wire.specs.Bits.{splice}
 use Rattle.model.specs.Call.{Load, Plain, Call, split}
@@ -11,7 +11,8 @@ use Rattle.model.specs.Session.{Request, fresh}
 use Rattle.model.specs.Plan as plan
 use Rattle.model.specs.Step.{Step, refuses, step}
 use Rattle.requests.specs.Request.{textLength}
-use Rattle.session.specs.View.{Store, session, requestIn, wordsLength, realsLength, textsLength, isWhole, Whole}
+use Rattle.session.specs.View.{Store, store, session, requestIn, wordsLength, realsLength, textsLength, isWhole, Whole}
+use Rattle.session.specs.Slices.{Numbers, Reals, before, after}
 use Rattle.control.specs.Control.{controlLength}
 use Rattle.handshake.specs.View.{versionsOf}
 use Rattle.handshake.specs.declared.handshake.EisHandshakeResp.{EisHandshakeResp}
@@ -63,15 +64,18 @@ pub record Delivered (s e : Store) (buffer later : List ℕ) (r : NextRequest) :
   -- whatever the clock is
   pub handled : (clock : ℕ) → isWhole s ≡ true → Gives s e buffer later (step (split (turn (Call.plain Plain.nextRequest) clock buffer)) (session s)) r
 
--- "Both lists start from the same session, as a successful Finish leaves it": the connection's id, the serial, the next id and the versions that it settled.
--- Slices of another length are no session's, and are left as they were
-unfoldable pub hasLengths : Store → Bool
-hasLengths s =
-    eqb (length (s .control)) controlLength
-    && (eqb (length (s .words)) wordsLength && (eqb (length (s .reals)) realsLength && eqb (length (s .texts)) textsLength))
+-- the same, of the slices that the call is lent
+abbrev pub Delivers : (control words : Numbers) (reals : Reals) (texts buffer : Numbers) → NextRequest → Type 0
+Delivers c w q t buffer r = Delivered (before c w q t) (after c w q t) (buffer .entry .now) (buffer .exit .now) r
 
-pub record Begins (s e : Store) (response : EisHandshakeResp) (r : Answer) : Type 0 where
+-- "Both lists start from the same session, as a successful Finish leaves it": the connection's id, the serial, the next id and the versions that it settled.
+-- c are the control words before, d those after. Of another length they are no session's, and are left as they were
+pub record Begins (c d : List ℕ) (response : EisHandshakeResp) (r : Answer) : Type 0 where
   pub count : r .count ≡ 0
-  pub damaged : hasLengths s ≡ false → (r .outcome ≡ Outcome.Refused Error.BadState) × (e ≡ s)
-  pub begun : hasLengths s ≡ true → (r .outcome ≡ Outcome.Accepted)
-      × (Whole e × (session e ≡ fresh (response .connection) (response .serial) (response .next) (versionsOf (response .interfaces))))
+  pub damaged : (length c ≡ controlLength → ⊥) → (r .outcome ≡ Outcome.Refused Error.BadState) × (d ≡ c)
+  pub accepted : length c ≡ controlLength → r .outcome ≡ Outcome.Accepted
+  -- whatever the other slices hold
+  pub begun : length c ≡ controlLength → (words : List ℕ) (reals : List Float) (texts : List ℕ)
+      → length words ≡ wordsLength → length reals ≡ realsLength → length texts ≡ textsLength
+      → Whole (store d words reals texts)
+      × (session (store d words reals texts) ≡ fresh (response .connection) (response .serial) (response .next) (versionsOf (response .interfaces)))

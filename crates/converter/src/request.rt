@@ -4,20 +4,14 @@ use answers::Answer;
 use answers::Error;
 use control::CONTROL_LENGTH;
 use handshake::handshake::EisHandshakeResp;
+use requests::eis::InterfaceRequest;
 use requests::eis::Request;
 use requests::request::EisRequest;
-use session::REALS_LENGTH;
-use session::TEXTS_LENGTH;
-use session::WORDS_LENGTH;
-ghost use Rattle.session.specs.View.{store, Whole};
-ghost use Rattle.answers.specs.Promise.{PromiseAt};
-ghost use Rattle.handlers.specs.Call.{callOf};
-ghost use Rattle.converter.specs.Next.{Begins, Delivered};
-ghost use mathlib.Core.Path.{_≡_};
-ghost use mathlib.Core.Bool.{true};
 ghost use Prim.Native.Nat.{ℕ};
-ghost use Rattle.answers.specs.Meets.{Handled};
-ghost use Rattle.converter.specs.Interface.{onInterface};
+ghost use Rattle.session.specs.View.{store, Whole};
+ghost use Rattle.answers.specs.Promise.{PromiseAt, Handles};
+ghost use Rattle.handlers.specs.Call.{interfaceCall, callOf};
+ghost use Rattle.converter.specs.Next.{Begins, Delivers};
 
 // A client's request on the object of this id and version, at this clock. The text is that of a request that carries one.
 pub fn handle_request(
@@ -56,41 +50,26 @@ pub fn handle_request(
             r,
             clock,
         ),
-        // Pointer, PointerAbsolute, Scroll, Button, Keyboard, Touchscreen and Text.
-        _ => handle_interface_request(
+        Request::Interface(r) => handle_interface_request(
             control,
             words,
             reals,
             texts,
             object,
             version,
-            request,
+            r,
             text,
             out,
         ),
     }
 }
 
-// A session as a Finish that succeeds leaves it: no seats, no devices, nothing queued. What is in the other slices does not count.
-pub fn new(
-    control: &mut [u64],
-    words: &[u64],
-    reals: &[f32],
-    texts: &[u8],
-    response: EisHandshakeResp,
-) -> Answer
-    ensures { λ r. ⌜ Begins (before control words reals texts) (after control words reals texts) response r ⌝ }
+// A session as a Finish that succeeds leaves it: no seats, no devices, nothing queued. What is in the other slices does not count, so
+// that it is begun in the control words alone.
+pub fn new(control: &mut [u64], response: EisHandshakeResp) -> Answer
+    ensures { λ r. ⌜ Begins (now (control .entry)) (now (control .exit)) response r ⌝ }
 {
     if control.len() != CONTROL_LENGTH {
-        return Answer::refused(Error::BadState);
-    }
-    if words.len() != WORDS_LENGTH {
-        return Answer::refused(Error::BadState);
-    }
-    if reals.len() != REALS_LENGTH {
-        return Answer::refused(Error::BadState);
-    }
-    if texts.len() != TEXTS_LENGTH {
         return Answer::refused(Error::BadState);
     }
     control::edits::new(control, response.connection, response.serial, response.next);
@@ -121,7 +100,7 @@ pub fn next_request(
     texts: &[u8],
     buffer: &mut [u8],
 ) -> NextRequest
-    ensures { λ r. ⌜ Delivered (before control words reals texts) (after control words reals texts) (now (buffer .entry)) (now (buffer .exit)) r ⌝ }
+    ensures { λ r. ⌜ Delivers control words reals texts buffer r ⌝ }
 {
     if !session::whole(control, words, reals, texts) {
         return NextRequest::Refused(Error::BadState);
@@ -139,81 +118,80 @@ pub fn next_request(
     NextRequest::Given(request)
 }
 
-// A request on an interface of a device: no other is handed on to this function.
+// A request on an interface of a device.
 pub fn handle_interface_request(
     control: &mut [u64],
     words: &mut [u64],
     reals: &mut [f32],
     texts: &mut [u8],
-    object: u64,
+    interface: u64,
     version: u32,
-    request: Request,
+    request: InterfaceRequest,
     text: &[u8],
     out: &mut [u8],
 ) -> Answer
-    requires { ⌜ Whole (store (now control) (now words) (now reals) (now texts)) × (onInterface request ≡ true) ⌝ }
-    ensures { λ r. ⌜ ((clock : ℕ) → Handles control words reals texts out (callOf request object version (now (text .entry))) clock r) ⌝ }
+    requires { ⌜ Whole (store (now control) (now words) (now reals) (now texts)) ⌝ }
+    ensures { λ r. ⌜ ((clock : ℕ) → Handles control words reals texts out (interfaceCall request interface version (now (text .entry))) clock r) ⌝ }
 {
     match request {
-        Request::Pointer(r) => handlers::handle_pointer_request(
+        InterfaceRequest::Pointer(r) => handlers::handle_pointer_request(
             control,
             words,
             reals,
-            object,
+            interface,
             r,
             out,
         ),
-        Request::PointerAbsolute(r) => handlers::handle_pointer_absolute_request(
+        InterfaceRequest::PointerAbsolute(r) => handlers::handle_pointer_absolute_request(
             control,
             words,
             reals,
-            object,
+            interface,
             r,
             out,
         ),
-        Request::Scroll(r) => handlers::handle_scroll_request(
+        InterfaceRequest::Scroll(r) => handlers::handle_scroll_request(
             control,
             words,
             reals,
-            object,
+            interface,
             r,
             out,
         ),
-        Request::Button(r) => handlers::handle_button_request(
+        InterfaceRequest::Button(r) => handlers::handle_button_request(
             control,
             words,
             reals,
-            object,
+            interface,
             r,
             out,
         ),
-        Request::Keyboard(r) => handlers::handle_keyboard_request(
+        InterfaceRequest::Keyboard(r) => handlers::handle_keyboard_request(
             control,
             words,
             reals,
-            object,
+            interface,
             r,
             out,
         ),
-        Request::Touchscreen(r) => handlers::handle_touchscreen_request(
+        InterfaceRequest::Touchscreen(r) => handlers::handle_touchscreen_request(
             control,
             words,
             reals,
-            object,
+            interface,
             version,
             r,
             out,
         ),
-        Request::Text(r) => handlers::handle_text_request(
+        InterfaceRequest::Text(r) => handlers::handle_text_request(
             control,
             words,
             reals,
             texts,
-            object,
+            interface,
             r,
             text,
             out,
         ),
-        _ => Answer::accepted(),
     }
 }

@@ -15,6 +15,7 @@ use Rattle.requests.specs.declared.eis.ButtonRequest.{ButtonRequest}
 use Rattle.requests.specs.declared.eis.KeyboardRequest.{KeyboardRequest}
 use Rattle.requests.specs.declared.eis.TouchscreenRequest.{TouchscreenRequest}
 use Rattle.requests.specs.declared.eis.TextRequest.{TextRequest}
+use Rattle.requests.specs.declared.eis.InterfaceRequest.{InterfaceRequest}
 use Rattle.requests.specs.declared.eis.Request.{Request}
 
 -- a Release of the interface for a capability
@@ -78,17 +79,21 @@ textCall TextRequest.Release i v text = release DeviceCapability.Text i
 textCall (TextRequest.Keysym keysym state) i v text = Call.timed i v (Input.Keysym keysym state)
 textCall TextRequest.Utf8 i v text = Call.timed i v (Input.Utf8 text)
 
--- a request on the object of this id and version, with the text lent beside it
+-- a request on the interface of this id and version, with the text lent beside it
+abbrev pub interfaceCall : InterfaceRequest → (interface version : ℕ) → (text : List ℕ) → Call Input
+interfaceCall (InterfaceRequest.Pointer r) i v text = pointerCall r i v
+interfaceCall (InterfaceRequest.PointerAbsolute r) i v text = pointerAbsoluteCall r i v
+interfaceCall (InterfaceRequest.Scroll r) i v text = scrollCall r i v
+interfaceCall (InterfaceRequest.Button r) i v text = buttonCall r i v
+interfaceCall (InterfaceRequest.Keyboard r) i v text = keyboardCall r i v
+interfaceCall (InterfaceRequest.Touchscreen r) i v text = touchscreenCall r i v
+interfaceCall (InterfaceRequest.Text r) i v text = textCall r i v text
+
+-- the same on any object
 abbrev pub callOf : Request → (object version : ℕ) → (text : List ℕ) → Call Input
 callOf (Request.Handshake r) o v text = handshakeCall r text
 callOf (Request.Connection r) o v text = connectionCall r
 callOf Request.PingpongDone o v text = Call.plain Plain.pingpongDone
 callOf (Request.Seat r) o v text = seatCall r o
 callOf (Request.Device r) o v text = deviceCall r o
-callOf (Request.Pointer r) o v text = pointerCall r o v
-callOf (Request.PointerAbsolute r) o v text = pointerAbsoluteCall r o v
-callOf (Request.Scroll r) o v text = scrollCall r o v
-callOf (Request.Button r) o v text = buttonCall r o v
-callOf (Request.Keyboard r) o v text = keyboardCall r o v
-callOf (Request.Touchscreen r) o v text = touchscreenCall r o v
-callOf (Request.Text r) o v text = textCall r o v text
+callOf (Request.Interface r) o v text = interfaceCall r o v text

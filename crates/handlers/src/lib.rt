@@ -1,7 +1,11 @@
-// What a client sends, and the handlers of src/request.rs for the requests that are not timed.
-// A session lies in four lent slices; `store` says what they mean.
+// The handlers of src/request.rs: what becomes of each request that a client sends.
+// A session lies in four lent slices; `session` says what they mean.
 use answers::Answer;
 use answers::Error;
+use answers::NAME_LENGTH_LIMIT;
+use client_requests::timed;
+use client_requests::timed::TouchChange;
+use client_requests::untimed;
 use eiproto::event::DeviceCapability;
 use requests::cell;
 use requests::cell::Cell;
@@ -19,15 +23,12 @@ use requests::eis::TouchscreenRequest;
 use requests::request::EisRequest;
 ghost use mathlib.Core.List.{List};
 ghost use Prim.Native.Nat.{ℕ};
-ghost use Rattle.session.specs.View.{Lent, store, itemAt, Whole};
-ghost use Rattle.answers.specs.Meets.{HandledRows, HandledControl, Handled};
+ghost use Rattle.model.specs.Call.{Input};
+ghost use Rattle.session.specs.View.{store, Lent, Whole};
+ghost use Rattle.answers.specs.Meets.{HandledControl};
+ghost use Rattle.answers.specs.Promise.{Handles, HandlesRows, SilentRows};
+ghost use Rattle.client_requests.specs.Decision.{Waits};
 ghost use Rattle.handlers.specs.Call.{handshakeCall, connectionCall, seatCall, deviceCall, pointerCall, pointerAbsoluteCall, scrollCall, buttonCall, keyboardCall, touchscreenCall, textCall};
-ghost use mathlib.Core.Path.{_≡_};
-ghost use Rattle.requests.specs.Row.{rowOf};
-ghost use Rattle.model.specs.Call.{Kind, Input, bare, sight, load, Call};
-ghost use Rattle.model.specs.Edit.{item};
-ghost use Rattle.model.specs.Decide.{Rule, handledBy, handler};
-ghost use Rattle.handlers.specs.Waits.{Waits, Queues};
 
 // A handshake's request in a running session, after what its text may meet.
 pub fn handle_handshake_request(request: HandshakeRequest, text: &[u8]) -> Answer
@@ -38,7 +39,7 @@ pub fn handle_handshake_request(request: HandshakeRequest, text: &[u8]) -> Answe
             if !utf8::valid(text) {
                 return Answer::refused(Error::BadUtf8);
             }
-            if 254 < text.len() {
+            if NAME_LENGTH_LIMIT < text.len() {
                 return Answer::refused(Error::NameLong);
             }
             Answer::refused(Error::UnexpectedHandshakeEvent)
@@ -68,12 +69,12 @@ pub fn handle_connection_request(
     ensures { λ r. ⌜ ((clock : ℕ) → HandlesRows control words reals out (connectionCall request) clock r) ⌝ }
 {
     match request {
-        ConnectionRequest::Sync { callback, version } => client_requests::untimed::sync(
+        ConnectionRequest::Sync { callback, version } => untimed::sync(
             callback,
             version,
             out,
         ),
-        ConnectionRequest::Disconnect => client_requests::untimed::queue_untimed(
+        ConnectionRequest::Disconnect => untimed::queue_untimed(
             control,
             words,
             reals,
@@ -94,10 +95,10 @@ pub fn handle_seat_request(
     ensures { λ r. ⌜ ((clock : ℕ) → HandlesRows control words reals out (seatCall request seat) clock r) ⌝ }
 {
     match request {
-        SeatRequest::Release => client_requests::untimed::release_seat(control, seat, out),
+        SeatRequest::Release => untimed::release_seat(control, seat, out),
         SeatRequest::Bind { capabilities } => {
             let bind = EisRequest::Bind { seat, capabilities };
-            client_requests::untimed::queue_for_seat(
+            untimed::queue_for_seat(
                 control,
                 words,
                 reals,
@@ -108,7 +109,7 @@ pub fn handle_seat_request(
         }
         SeatRequest::RequestDevice { capabilities } => {
             let request_device = EisRequest::RequestDevice { seat, capabilities };
-            client_requests::untimed::queue_for_seat(
+            untimed::queue_for_seat(
                 control,
                 words,
                 reals,
@@ -129,12 +130,12 @@ pub fn handle_device_request(
     clock: u64,
 ) -> Answer
     requires { ⌜ Lent (now control) (now words) (now reals) ⌝ }
-    ensures { λ r. ⌜ (SilentRows control words reals (deviceCall request device) clock r) ⌝ }
+    ensures { λ r. ⌜ SilentRows control words reals (deviceCall request device) clock r ⌝ }
 {
     match request {
         DeviceRequest::Release => {
             let closed = EisRequest::DeviceClosed { device };
-            client_requests::untimed::queue_for_device(control, words, reals, device, clock, closed)
+            untimed::queue_for_device(control, words, reals, device, clock, closed)
         }
         DeviceRequest::StartEmulating {
             last_serial,
@@ -145,19 +146,19 @@ pub fn handle_device_request(
                 last_serial,
                 sequence,
             };
-            client_requests::untimed::queue_for_device(control, words, reals, device, clock, start)
+            untimed::queue_for_device(control, words, reals, device, clock, start)
         }
         DeviceRequest::StopEmulating { last_serial } => {
             let stop = EisRequest::DeviceStopEmulating {
                 device,
                 last_serial,
             };
-            client_requests::untimed::queue_for_device(control, words, reals, device, clock, stop)
+            untimed::queue_for_device(control, words, reals, device, clock, stop)
         }
         DeviceRequest::Frame {
             last_serial,
             timestamp,
-        } => client_requests::untimed::queue_frame(
+        } => untimed::queue_frame(
             control,
             words,
             reals,
@@ -165,7 +166,7 @@ pub fn handle_device_request(
             last_serial,
             timestamp,
         ),
-        DeviceRequest::Ready => client_requests::untimed::queue_for_device(
+        DeviceRequest::Ready => untimed::queue_for_device(
             control,
             words,
             reals,
@@ -174,22 +175,6 @@ pub fn handle_device_request(
             EisRequest::Ready { device },
         ),
     }
-}
-
-// A request of which nothing is asked but a known interface, made pending.
-fn queue_request(
-    control: &mut [u64],
-    words: &mut [u64],
-    reals: &mut [f32],
-    capability: DeviceCapability,
-    interface: u64,
-    request: Cell,
-) -> Answer
-    requires { ⌜ Lent (now control) (now words) (now reals) × Queues capability ⌝ }
-    ensures { λ r. ⌜ ((kind : Kind) (version : ℕ) (input : Input) → handler kind ≡ handledBy capability Rule.queued → Waits input request (bare kind) → (clock : ℕ) → SilentRows control words reals (Call.timed interface version input) clock r) ⌝ }
-{
-    let decision = client_requests::timed::decide(control, capability, interface);
-    client_requests::timed::queue_request(control, words, reals, decision, request)
 }
 
 pub fn handle_keyboard_request(
@@ -204,7 +189,7 @@ pub fn handle_keyboard_request(
     ensures { λ r. ⌜ ((version clock : ℕ) → HandlesRows control words reals out (keyboardCall request keyboard version) clock r) ⌝ }
 {
     match request {
-        KeyboardRequest::Release => client_requests::untimed::release_interface(
+        KeyboardRequest::Release => untimed::release_interface(
             control,
             DeviceCapability::Keyboard,
             keyboard,
@@ -212,7 +197,7 @@ pub fn handle_keyboard_request(
         ),
         KeyboardRequest::Key { key, state } => {
             let request = cell::keyboard_key(0, 0, key, state);
-            queue_request(
+            timed::queue_for_interface(
                 control,
                 words,
                 reals,
@@ -236,7 +221,7 @@ pub fn handle_pointer_request(
     ensures { λ r. ⌜ ((version clock : ℕ) → HandlesRows control words reals out (pointerCall request pointer version) clock r) ⌝ }
 {
     match request {
-        PointerRequest::Release => client_requests::untimed::release_interface(
+        PointerRequest::Release => untimed::release_interface(
             control,
             DeviceCapability::Pointer,
             pointer,
@@ -244,7 +229,7 @@ pub fn handle_pointer_request(
         ),
         PointerRequest::MotionRelative { x, y } => {
             let request = cell::pointer_motion(0, 0, x, y);
-            queue_request(
+            timed::queue_for_interface(
                 control,
                 words,
                 reals,
@@ -268,7 +253,7 @@ pub fn handle_pointer_absolute_request(
     ensures { λ r. ⌜ ((version clock : ℕ) → HandlesRows control words reals out (pointerAbsoluteCall request «pointer_absolute» version) clock r) ⌝ }
 {
     match request {
-        PointerAbsoluteRequest::Release => client_requests::untimed::release_interface(
+        PointerAbsoluteRequest::Release => untimed::release_interface(
             control,
             DeviceCapability::PointerAbsolute,
             pointer_absolute,
@@ -276,7 +261,7 @@ pub fn handle_pointer_absolute_request(
         ),
         PointerAbsoluteRequest::MotionAbsolute { x, y } => {
             let request = cell::pointer_motion_absolute(0, 0, x, y);
-            queue_request(
+            timed::queue_for_interface(
                 control,
                 words,
                 reals,
@@ -300,7 +285,7 @@ pub fn handle_button_request(
     ensures { λ r. ⌜ ((version clock : ℕ) → HandlesRows control words reals out (buttonCall request interface version) clock r) ⌝ }
 {
     match request {
-        ButtonRequest::Release => client_requests::untimed::release_interface(
+        ButtonRequest::Release => untimed::release_interface(
             control,
             DeviceCapability::Button,
             interface,
@@ -308,7 +293,7 @@ pub fn handle_button_request(
         ),
         ButtonRequest::Button { button, state } => {
             let request = cell::button(0, 0, button, state);
-            queue_request(
+            timed::queue_for_interface(
                 control,
                 words,
                 reals,
@@ -322,7 +307,7 @@ pub fn handle_button_request(
 
 // "ScrollStop with `is_cancel` not 0 becomes ScrollCancel; `x` and `y` become true when not 0."
 fn scroll_stop(x: u32, y: u32, is_cancel: u32) -> Cell
-    ensures { λ r. ⌜ ((texts : List ℕ) → item (sight (Input.ScrollStop x y «is_cancel»)) (load (Input.ScrollStop x y «is_cancel»)) ≡ itemAt texts (rowOf r)) ⌝ }
+    ensures { λ r. ⌜ Waits (Input.ScrollStop x y «is_cancel») r ⌝ }
 {
     if is_cancel != 0 {
         cell::scroll_cancel(0, 0, x != 0, y != 0)
@@ -343,7 +328,7 @@ pub fn handle_scroll_request(
     ensures { λ r. ⌜ ((version clock : ℕ) → HandlesRows control words reals out (scrollCall request scroll version) clock r) ⌝ }
 {
     match request {
-        ScrollRequest::Release => client_requests::untimed::release_interface(
+        ScrollRequest::Release => untimed::release_interface(
             control,
             DeviceCapability::Scroll,
             scroll,
@@ -351,7 +336,7 @@ pub fn handle_scroll_request(
         ),
         ScrollRequest::Scroll { x, y } => {
             let request = cell::scroll_delta(0, 0, x, y);
-            queue_request(
+            timed::queue_for_interface(
                 control,
                 words,
                 reals,
@@ -362,7 +347,7 @@ pub fn handle_scroll_request(
         }
         ScrollRequest::ScrollDiscrete { x, y } => {
             let request = cell::scroll_discrete(0, 0, x, y);
-            queue_request(
+            timed::queue_for_interface(
                 control,
                 words,
                 reals,
@@ -373,7 +358,7 @@ pub fn handle_scroll_request(
         }
         ScrollRequest::ScrollStop { x, y, is_cancel } => {
             let request = scroll_stop(x, y, is_cancel);
-            queue_request(
+            timed::queue_for_interface(
                 control,
                 words,
                 reals,
@@ -398,36 +383,36 @@ pub fn handle_touchscreen_request(
     ensures { λ r. ⌜ ((clock : ℕ) → HandlesRows control words reals out (touchscreenCall request touchscreen version) clock r) ⌝ }
 {
     match request {
-        TouchscreenRequest::Release => client_requests::untimed::release_interface(
+        TouchscreenRequest::Release => untimed::release_interface(
             control,
             DeviceCapability::Touch,
             touchscreen,
             out,
         ),
         TouchscreenRequest::Down { touchid, x, y } => {
-            let decision = client_requests::timed::decide_down(control, touchscreen, touchid);
+            let decision = timed::decide_down(control, touchscreen, touchid);
             let request = cell::touch_down(0, 0, touchid, x, y);
-            client_requests::timed::queue_down(control, words, reals, decision, touchid, request)
+            timed::queue_request(control, words, reals, decision, request)
         }
         TouchscreenRequest::Motion { touchid, x, y } => {
-            let decision = client_requests::timed::decide_held(control, touchscreen, touchid);
+            let decision = timed::decide_held(control, touchscreen, touchid, TouchChange::Nothing);
             let request = cell::touch_motion(0, 0, touchid, x, y);
-            client_requests::timed::queue_request(control, words, reals, decision, request)
+            timed::queue_request(control, words, reals, decision, request)
         }
         TouchscreenRequest::Up { touchid } => {
-            let decision = client_requests::timed::decide_held(control, touchscreen, touchid);
+            let decision = timed::decide_held(control, touchscreen, touchid, TouchChange::Up(touchid));
             let request = cell::touch_up(0, 0, touchid);
-            client_requests::timed::queue_up(control, words, reals, decision, touchid, request)
+            timed::queue_request(control, words, reals, decision, request)
         }
         TouchscreenRequest::Cancel { touchid } => {
-            let decision = client_requests::timed::decide_cancel(
+            let decision = timed::decide_cancel(
                 control,
                 touchscreen,
                 version,
                 touchid,
             );
             let request = cell::touch_cancel(0, 0, touchid);
-            client_requests::timed::queue_up(control, words, reals, decision, touchid, request)
+            timed::queue_request(control, words, reals, decision, request)
         }
     }
 }
@@ -446,7 +431,7 @@ pub fn handle_text_request(
     ensures { λ r. ⌜ ((version clock : ℕ) → Handles control words reals texts out (textCall request interface version (now (text .entry))) clock r) ⌝ }
 {
     match request {
-        TextRequest::Release => client_requests::untimed::release_interface(
+        TextRequest::Release => untimed::release_interface(
             control,
             DeviceCapability::Text,
             interface,
@@ -454,7 +439,7 @@ pub fn handle_text_request(
         ),
         TextRequest::Keysym { keysym, state } => {
             let request = cell::text_keysym(0, 0, keysym, state);
-            queue_request(
+            timed::queue_for_interface(
                 control,
                 words,
                 reals,
@@ -467,7 +452,7 @@ pub fn handle_text_request(
             if !utf8::valid(text) {
                 return Answer::refused(Error::BadUtf8);
             }
-            client_requests::timed::queue_utf8(control, words, reals, texts, interface, text)
+            timed::queue_utf8(control, words, reals, texts, interface, text)
         }
     }
 }

@@ -72,13 +72,8 @@ pub enum TextRequest {
     Utf8,
 }
 
-pub enum Request {
-    Handshake(HandshakeRequest),
-    Connection(ConnectionRequest),
-    // Pingpong's Done.
-    PingpongDone,
-    Seat(SeatRequest),
-    Device(DeviceRequest),
+// A request on an interface of a device.
+pub enum InterfaceRequest {
     Pointer(PointerRequest),
     PointerAbsolute(PointerAbsoluteRequest),
     Scroll(ScrollRequest),
@@ -86,4 +81,14 @@ pub enum Request {
     Keyboard(KeyboardRequest),
     Touchscreen(TouchscreenRequest),
     Text(TextRequest),
+}
+
+pub enum Request {
+    Handshake(HandshakeRequest),
+    Connection(ConnectionRequest),
+    // Pingpong's Done.
+    PingpongDone,
+    Seat(SeatRequest),
+    Device(DeviceRequest),
+    Interface(InterfaceRequest),
 }

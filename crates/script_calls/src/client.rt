@@ -8,6 +8,7 @@ use requests::eis::ButtonRequest;
 use requests::eis::ConnectionRequest;
 use requests::eis::DeviceRequest;
 use requests::eis::HandshakeRequest;
+use requests::eis::InterfaceRequest;
 use requests::eis::KeyboardRequest;
 use requests::eis::PointerAbsoluteRequest;
 use requests::eis::PointerRequest;
@@ -91,14 +92,14 @@ fn of_device(verb: Verb, second: Value, third: Value) -> Request {
     )
 }
 
-fn of_pointer(verb: Verb, second: Value, third: Value) -> Request {
+fn of_pointer(verb: Verb, second: Value, third: Value) -> InterfaceRequest {
     let x = script::f32_of(second);
     let y = script::f32_of(third);
     match verb {
-        Verb::PointerRelease => Request::Pointer(PointerRequest::Release),
-        Verb::PointerMotionRelative => Request::Pointer(PointerRequest::MotionRelative { x, y }),
-        Verb::PointerAbsoluteRelease => Request::PointerAbsolute(PointerAbsoluteRequest::Release),
-        _ => Request::PointerAbsolute(PointerAbsoluteRequest::MotionAbsolute { x, y }),
+        Verb::PointerRelease => InterfaceRequest::Pointer(PointerRequest::Release),
+        Verb::PointerMotionRelative => InterfaceRequest::Pointer(PointerRequest::MotionRelative { x, y }),
+        Verb::PointerAbsoluteRelease => InterfaceRequest::PointerAbsolute(PointerAbsoluteRequest::Release),
+        _ => InterfaceRequest::PointerAbsolute(PointerAbsoluteRequest::MotionAbsolute { x, y }),
     }
 }
 
@@ -127,10 +128,10 @@ fn scroll_discrete(second: Value, third: Value) -> ScrollRequest {
     }
 }
 
-fn of_scroll(verb: Verb, args: Args) -> Request {
+fn of_scroll(verb: Verb, args: Args) -> InterfaceRequest {
     let b = args.b;
     let c = args.c;
-    Request::Scroll(
+    InterfaceRequest::Scroll(
         match verb {
             Verb::ScrollRelease => ScrollRequest::Release,
             Verb::ScrollScroll => scroll(b, c),
@@ -140,10 +141,10 @@ fn of_scroll(verb: Verb, args: Args) -> Request {
     )
 }
 
-fn of_button(verb: Verb, second: Value, third: Value) -> Request {
+fn of_button(verb: Verb, second: Value, third: Value) -> InterfaceRequest {
     let button = script::u32_of(second);
     let state = button_state(third);
-    Request::Button(
+    InterfaceRequest::Button(
         match verb {
             Verb::ButtonRelease => ButtonRequest::Release,
             _ => ButtonRequest::Button { button, state },
@@ -151,10 +152,10 @@ fn of_button(verb: Verb, second: Value, third: Value) -> Request {
     )
 }
 
-fn of_keyboard(verb: Verb, second: Value, third: Value) -> Request {
+fn of_keyboard(verb: Verb, second: Value, third: Value) -> InterfaceRequest {
     let key = script::u32_of(second);
     let state = key_state(third);
-    Request::Keyboard(
+    InterfaceRequest::Keyboard(
         match verb {
             Verb::KeyboardRelease => KeyboardRequest::Release,
             _ => KeyboardRequest::Key { key, state },
@@ -163,12 +164,12 @@ fn of_keyboard(verb: Verb, second: Value, third: Value) -> Request {
 }
 
 // In a touch Cancel the version of its object stands before the touch.
-fn of_touchscreen(verb: Verb, second: Value, third: Value, fourth: Value) -> Request {
+fn of_touchscreen(verb: Verb, second: Value, third: Value, fourth: Value) -> InterfaceRequest {
     let touchid = script::u32_of(second);
     let cancelled = script::u32_of(third);
     let x = script::f32_of(third);
     let y = script::f32_of(fourth);
-    Request::Touchscreen(
+    InterfaceRequest::Touchscreen(
         match verb {
             Verb::TouchscreenRelease => TouchscreenRequest::Release,
             Verb::TouchscreenDown => TouchscreenRequest::Down { touchid, x, y },
@@ -179,10 +180,10 @@ fn of_touchscreen(verb: Verb, second: Value, third: Value, fourth: Value) -> Req
     )
 }
 
-fn of_text(verb: Verb, second: Value, third: Value) -> Request {
+fn of_text(verb: Verb, second: Value, third: Value) -> InterfaceRequest {
     let keysym = script::u32_of(second);
     let state = key_state(third);
-    Request::Text(
+    InterfaceRequest::Text(
         match verb {
             Verb::TextRelease => TextRequest::Release,
             Verb::TextKeysym => TextRequest::Keysym { keysym, state },
@@ -192,7 +193,7 @@ fn of_text(verb: Verb, second: Value, third: Value) -> Request {
 }
 
 // The request of a client's line on an interface of a device.
-fn of_interface(verb: Verb, args: Args) -> Request {
+fn of_interface(verb: Verb, args: Args) -> InterfaceRequest {
     let b = args.b;
     let c = args.c;
     let d = args.d;
@@ -234,7 +235,7 @@ pub fn request_of(verb: Verb, args: Args) -> Request {
         | Verb::DeviceStopEmulating
         | Verb::DeviceFrame
         | Verb::DeviceReady => of_device(verb, b, c),
-        _ => of_interface(verb, args),
+        _ => Request::Interface(of_interface(verb, args)),
     }
 }
 

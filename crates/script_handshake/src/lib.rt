@@ -94,9 +94,9 @@ pub fn take(settings: Settings, h: EisHandshaker, request: Request, text: &[u8])
 }
 
 // The session begins where the handshake ends.
-pub fn open(control: &mut [u64], words: &[u64], reals: &[f32], texts: &[u8], a: Answer) {
+pub fn open(control: &mut [u64], a: Answer) {
     if is_finished(a) {
         let response = a.response;
-        converter::request::new(control, words, reals, texts, response);
+        converter::request::new(control, response);
     }
 }

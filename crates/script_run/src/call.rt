@@ -80,16 +80,7 @@ fn start(run: Run, serial: u32) -> Run {
 }
 
 // A client's line before the session.
-fn shaken(
-    run: Run,
-    control: &mut [u64],
-    words: &[u64],
-    reals: &[f32],
-    texts: &[u8],
-    verb: Verb,
-    args: Args,
-    text: &[u8],
-) -> Run {
+fn shaken(run: Run, control: &mut [u64], verb: Verb, args: Args, text: &[u8]) -> Run {
     let settings = run.settings;
     let handshaker = run.handshaker;
     let a = script_handshake::take(
@@ -98,7 +89,7 @@ fn shaken(
         script_handshake::request_of(verb, args),
         text,
     );
-    script_handshake::open(control, words, reals, texts, a);
+    script_handshake::open(control, a);
     after(run, a)
 }
 
@@ -160,7 +151,7 @@ fn call_in(
     let n = text_into(line, first, second, buf);
     let text = &buf[from..n];
     if !run.finished {
-        return shaken(run, control, words, reals, texts, verb, args, text);
+        return shaken(run, control, verb, args, text);
     }
     let settings = run.settings;
     script_session::take(

@@ -1,17 +1,15 @@
 -- Each arm is the call of its request. Assumes nothing.
-use mathlib.Core.Path.{ap}
-use Rattle.model.specs.Call.{Plain, Call}
+use mathlib.Core.Path.{refl, ap}
+use Rattle.model.specs.Call.{Plain, Call, mapCall}
+use Rattle.model.specs.Decide.{decidePlain, decide}
+use Rattle.session.specs.View.{requestIn}
 use Rattle.model.specs.Session.{Untimed}
 use Rattle.handlers.specs.Call.{connectionCall}
 use Rattle.requests.specs.declared.eis.ConnectionRequest.{ConnectionRequest}
-use Rattle.handlers.proofs.Plain.{for-call, disconnect-plan, disconnect-in}
+use Rattle.handlers.proofs.Plain.{for-call}
 use borrow.Author.Needs.{needs}
 use Rattle.handlers.proofs.handle_connection_request.Statement.{statement}
 use Rattle.handlers.proofs.handle_connection_request.Tie as tie
-
-queue-untimed-requires : tie.Need-queue-untimed-requires
-queue-untimed-requires c κs =
-    c .before .before .before .before .before .before .before .before .before .pre
 
 returns : tie.Need-returns
 returns c =
@@ -20,6 +18,7 @@ returns c =
     for-call clock (ap (λ (x : ConnectionRequest). connectionCall x) (c .before .before .before .before .before .request .given .1)) (c .before .before .sync .ensures (a .control .now) clock (a .words .now) (a .reals .now) texts whole)
 
 returns-2 : tie.Need-returns-2
+unfolding mapCall decide decidePlain requestIn
 returns-2 c =
     let at-queue-untimed = c .before .before .before .before .before .before in
     let at-enum-told = at-queue-untimed .before .before .before .before in
@@ -27,7 +26,7 @@ returns-2 c =
     let a = at-start .args in
     λ clock texts whole.
     for-call clock (ap (λ (x : ConnectionRequest). connectionCall x) (at-enum-told .enum-told .given .1))
-    (at-queue-untimed .queue-untimed .ensures Untimed.Disconnect (Call.plain Plain.disconnect) (a .out .now) texts clock disconnect-in (disconnect-plan _ clock) whole)
+    (at-queue-untimed .queue-untimed .ensures (Call.plain Plain.disconnect) clock texts (a .out .now) (record { untimed = Untimed.Disconnect; is = refl; plan = refl }) whole)
 
 pub handle-connection-request-spec : {M : Type 1} → statement M
 handle-connection-request-spec =
@@ -36,7 +35,7 @@ handle-connection-request-spec =
     (λ c. search needs)  -- enum-known-request
     (λ c κs. search needs)  -- sync-requires
     (λ c. search needs)  -- enum-told
-    queue-untimed-requires
+    (λ c κs. search needs)  -- queue-untimed-requires
     (λ c. search needs)  -- same-length
     returns
     (λ c. search needs)  -- same-length-2

@@ -1,25 +1,15 @@
 -- Each arm is the call of its request. Assumes nothing.
-use mathlib.Core.Path.{ap}
-use Rattle.model.specs.Call.{Plain, Call}
+use mathlib.Core.Path.{refl, ap}
+use Rattle.model.specs.Call.{Plain, Call, mapCall}
+use Rattle.model.specs.Decide.{decidePlain, decide}
+use Rattle.session.specs.View.{requestIn}
 use Rattle.model.specs.Session.{Untimed}
 use Rattle.handlers.specs.Call.{seatCall}
 use Rattle.requests.specs.declared.eis.SeatRequest.{SeatRequest}
-use Rattle.handlers.proofs.Plain.{for-call, bind-plan, request-plan, bind-in, request-in}
+use Rattle.handlers.proofs.Plain.{for-call}
 use borrow.Author.Needs.{needs}
 use Rattle.handlers.proofs.handle_seat_request.Statement.{statement}
 use Rattle.handlers.proofs.handle_seat_request.Tie as tie
-
-release-seat-requires : tie.Need-release-seat-requires
-release-seat-requires c κs =
-    c .before .before .before .before .before .before .before .before .pre .sound
-
-queue-for-seat-requires : tie.Need-queue-for-seat-requires
-queue-for-seat-requires c κs =
-    c .before .before .before .before .before .before .before .before .before .before .pre
-
-queue-for-seat-requires-2 : tie.Need-queue-for-seat-requires-2
-queue-for-seat-requires-2 c κs =
-    c .before .before .before .before .before .before .before .before .before .before .pre
 
 returns : tie.Need-returns
 returns c =
@@ -31,6 +21,7 @@ returns c =
     for-call clock (ap (λ (x : SeatRequest). seatCall x (a .seat)) (at-enum-told .enum-told .given .1)) (at-release-seat .release-seat .ensures clock (a .words .now) (a .reals .now) texts whole)
 
 returns-2 : tie.Need-returns-2
+unfolding mapCall decide decidePlain requestIn
 returns-2 c =
     let at-queue-for-seat = c .before .before .before .before .before .before in
     let at-request = at-queue-for-seat .before .before .before .before .before in
@@ -38,9 +29,10 @@ returns-2 c =
     let a = at-start .args in
     λ clock texts whole.
     for-call clock (ap (λ (x : SeatRequest). seatCall x (a .seat)) (at-request .request .given .1))
-    (at-queue-for-seat .queue-for-seat .ensures (Untimed.Bind (a .seat) _) (Call.plain (Plain.bind (a .seat) _)) (a .out .now) clock (bind-in (a .seat) _) (λ v. bind-plan v clock (a .seat) _) texts whole)
+    (at-queue-for-seat .queue-for-seat .ensures (Call.plain (Plain.bind (a .seat) _)) clock (record { untimed = Untimed.Bind (a .seat) _; is = refl; plan = λ v. refl }) (a .out .now) texts whole)
 
 returns-3 : tie.Need-returns-3
+unfolding mapCall decide decidePlain requestIn
 returns-3 c =
     let at-queue-for-seat2 = c .before .before .before .before .before .before in
     let at-request2 = at-queue-for-seat2 .before .before .before .before .before in
@@ -48,18 +40,18 @@ returns-3 c =
     let a = at-start .args in
     λ clock texts whole.
     for-call clock (ap (λ (x : SeatRequest). seatCall x (a .seat)) (at-request2 .request2 .given .1))
-    (at-queue-for-seat2 .queue-for-seat2 .ensures (Untimed.RequestDevice (a .seat) _) (Call.plain (Plain.requestDevice (a .seat) _)) (a .out .now) clock (request-in (a .seat) _) (λ v. request-plan v clock (a .seat) _) texts whole)
+    (at-queue-for-seat2 .queue-for-seat2 .ensures (Call.plain (Plain.requestDevice (a .seat) _)) clock (record { untimed = Untimed.RequestDevice (a .seat) _; is = refl; plan = λ v. refl }) (a .out .now) texts whole)
 
 pub handle-seat-request-spec : {M : Type 1} → statement M
 handle-seat-request-spec =
     tie.close
     (tie.spec
     (λ c. search needs)  -- enum-told
-    release-seat-requires
+    (λ c κs. search needs)  -- release-seat-requires
     (λ c. search needs)  -- enum-known-request
-    queue-for-seat-requires
+    (λ c κs. search needs)  -- queue-for-seat-requires
     (λ c. search needs)  -- enum-known-request-2
-    queue-for-seat-requires-2
+    (λ c κs. search needs)  -- queue-for-seat-requires-2
     (λ c. search needs)  -- same-length
     (λ c. search needs)  -- same-length-2
     returns

@@ -1,24 +1,19 @@
 -- Each arm is the call of its request; a text that is not UTF-8 is refused first. Assumes nothing.
-use mathlib.Core.Path.{sym, ap, _∙_}
+use mathlib.Core.Path.{refl, sym, ap, _∙_}
 use borrow.Author.Tests.{not-true, not-false}
-use Rattle.model.specs.Call.{Kind, Input}
-use Rattle.session.specs.View.{store}
+use Rattle.requests.specs.Row.{entry}
+use Rattle.requests.specs.declared.request.EisRequest.{EisRequest}
+use Rattle.model.specs.Call.{Input, sight, load}
+use Rattle.model.specs.Edit.{item}
+use Rattle.model.specs.Decide.{handler}
+use Rattle.session.specs.View.{store, requestIn, itemIn, requestAt, itemAt}
 use Rattle.handlers.specs.Call.{textCall}
 use Rattle.requests.specs.declared.eis.TextRequest.{TextRequest}
 use Rattle.handlers.proofs.Plain.{for-call}
-use Rattle.handlers.proofs.Timed.{keysym-handled, keysym-waits, utf8-bad}
+use Rattle.handlers.proofs.Timed.{row-waits, utf8-bad}
 use borrow.Author.Needs.{needs}
 use Rattle.handlers.proofs.handle_text_request.Statement.{statement}
 use Rattle.handlers.proofs.handle_text_request.Tie as tie
-
-release-interface-requires : tie.Need-release-interface-requires
-release-interface-requires c κs =
-    c .before .before .before .before .before .before .before .before .before .before .pre .sound
-
-queue-request-requires : tie.Need-queue-request-requires
-queue-request-requires c κs =
-    let whole = c .before .before .before .before .before .before .before .before .before .before .before .before .before .pre in
-    (record { sound = whole .sound; words-long = whole .words-long; reals-long = whole .reals-long }, record { kind = Kind.TextKeysym; handled = keysym-handled })
 
 returns : tie.Need-returns
 returns c =
@@ -46,16 +41,18 @@ returns-2 c =
     (at-release-interface .release-interface .ensures clock (a .words .now) (a .reals .now) (a .texts .now) whole)
 
 returns-3 : tie.Need-returns-3
+unfolding handler sight load item itemAt requestAt requestIn itemIn entry
 returns-3 c =
-    let at-queue-request = c .before .before .before .before .before .before in
-    let at-text-keysym = at-queue-request .before .before .before .before in
+    let at-queue = c .before .before .before .before .before .before in
+    let at-text-keysym = at-queue .before .before .before .before in
     let at-request = at-text-keysym .before .before in
     let at-start = at-request .before .before .before .before .before .before .before .before in
     let a = at-start .args in
     let whole = at-start .pre in
     λ version clock.
     for-call clock (ap (λ (x : TextRequest). textCall x (a .interface) version (a .text .now)) (at-request .request .given .1))
-    (at-queue-request .queue-request .ensures Kind.TextKeysym version (Input.Keysym _ _) keysym-handled (keysym-waits _ _ (at-text-keysym .text-keysym .ensures)) (a .out .now) clock (a .texts .now) whole)
+    (at-queue .queue-for-interface .ensures version clock (Input.Keysym _ _) (record { by = refl; valid = refl })
+    (row-waits (Input.Keysym _ _) (EisRequest.TextKeysym 0 0 _ _) (at-text-keysym .text-keysym .ensures) (λ t. refl)) (a .out .now) (a .texts .now) whole)
 
 returns-4 : tie.Need-returns-4
 returns-4 c =
@@ -73,10 +70,10 @@ handle-text-request-spec =
     tie.close
     (tie.spec
     (λ c. search needs)
-    release-interface-requires
+    (λ c κs. search needs)  -- release-interface-requires
     (λ c. search needs)
     (λ c κs. search needs)
-    queue-request-requires
+    (λ c κs. search needs)  -- queue-for-interface-requires
     (λ c. search needs)
     (λ c κs. search needs)
     (λ c κs. search needs)

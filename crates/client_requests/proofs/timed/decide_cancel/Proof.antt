@@ -3,11 +3,9 @@ use mathlib.Core.Path.{sym, ap, _∙_}
 use native.Mathlib.Omega.{arith}
 use Rattle.control.specs.Answer.{slotTold}
 use mathlib.Core.Path.{refl}
-use mathlib.Core.List.{[], _∷_}
 use Rattle.model.specs.Call.{Kind}
-use Rattle.model.specs.Edit.{Amend}
 use Rattle.model.specs.Decide.{handler}
-use Rattle.client_requests.proofs.Decisions.{touch-unknown, cancel-asks, cancel-old}
+use Rattle.client_requests.proofs.Decisions.{touch-unknown, cancel-held, cancel-old}
 use borrow.Author.Needs.{needs}
 use Rattle.client_requests.proofs.timed.decide_cancel.Statement.{statement}
 use Rattle.client_requests.proofs.timed.decide_cancel.Tie as tie
@@ -21,13 +19,12 @@ returns-2 : tie.Need-returns-2
 unfolding handler
 returns-2 c =
     let a = c .before .before .before .before .before .args in
-    touch-unknown (a .control .now) (a .touchscreen) (a .touch) Kind.TouchCancel (a .version) (Amend.touchUp (a .touch) ∷ []) refl (sym (c .before .before .device-for-interface .ensures) ∙ ap slotTold (c .enum-told2 .given .1))
+    touch-unknown (a .control .now) (a .touchscreen) (a .touch) Kind.TouchCancel (a .version) refl (sym (c .before .before .device-for-interface .ensures) ∙ ap slotTold (c .enum-told2 .given .1))
 
 returns-3 : tie.Need-returns-3
-unfolding handler
 returns-3 c =
     let a = c .before .before .before .args in
-    c .decide-held .ensures Kind.TouchCancel (a .version) (Amend.touchUp (a .touch) ∷ []) refl (cancel-asks (a .control .now) (a .touchscreen) (a .touch) (a .version) (omega arith))
+    c .decide-held .ensures Kind.TouchCancel (a .version) (cancel-held (a .control .now) (a .touchscreen) (a .touch) (a .version) (omega arith))
 
 pub decide-cancel-spec : {M : Type 1} → statement M
 decide-cancel-spec =

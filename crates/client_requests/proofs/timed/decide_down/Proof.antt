@@ -4,13 +4,11 @@ use native.Mathlib.Omega.{arith}
 use Rattle.control.specs.Answer.{slotTold}
 use Rattle.eiproto.specs.declared.event.DeviceCapability.{DeviceCapability}
 use mathlib.Core.Path.{refl}
-use mathlib.Core.List.{[], _∷_}
 use lib.ListN.{length}
 use Rattle.touches.specs.Touches.{member}
 use Rattle.model.specs.Call.{Kind}
-use Rattle.model.specs.Edit.{Amend}
 use Rattle.model.specs.Decide.{handler}
-use Rattle.client_requests.proofs.Decisions.{linked-within, ignored-not, refused-not, touch-unknown, down-many, down-twice, down-queued}
+use Rattle.client_requests.proofs.Decisions.{linked-within, touch-unknown, down-many, down-twice, down-queued}
 use borrow.Author.Needs.{needs}
 use Rattle.client_requests.proofs.timed.decide_down.Statement.{statement}
 use Rattle.client_requests.proofs.timed.decide_down.Tie as tie
@@ -29,7 +27,7 @@ returns c =
     let at-start = at-device-for-interface .before .before in
     let a = at-start .args in
     let k = sym (at-device-for-interface .device-for-interface .ensures) ∙ ap slotTold (at-k .k .given .1) in
-    (down-many (a .control .now) (a .touchscreen) (a .touch) k (omega (arith, c .before .len .ensures, ap length (c .before .before .down-touch-ids .ensures .ids-are))), λ j q. absurd (refused-not q))
+    down-many (a .control .now) (a .touchscreen) (a .touch) k (omega (arith, c .before .len .ensures, ap length (c .before .before .down-touch-ids .ensures .ids-are)))
 
 returns-2 : tie.Need-returns-2
 returns-2 c =
@@ -40,7 +38,7 @@ returns-2 c =
     let at-start = at-device-for-interface .before .before in
     let a = at-start .args in
     let k = sym (at-device-for-interface .device-for-interface .ensures) ∙ ap slotTold (at-k .k .given .1) in
-    (down-twice (a .control .now) (a .touchscreen) (a .touch) k (omega (arith, at-len .len .ensures, ap length (at-down-touch-ids .down-touch-ids .ensures .ids-are))) (ap (member (a .touch)) (sym (at-down-touch-ids .down-touch-ids .ensures .ids-are)) ∙ sym (c .before .contains .ensures) ∙ c .if2 .taken), λ j q. absurd (refused-not q))
+    down-twice (a .control .now) (a .touchscreen) (a .touch) k (omega (arith, at-len .len .ensures, ap length (at-down-touch-ids .down-touch-ids .ensures .ids-are))) (ap (member (a .touch)) (sym (at-down-touch-ids .down-touch-ids .ensures .ids-are)) ∙ sym (c .before .contains .ensures) ∙ c .if2 .taken)
 
 queue-on-requires : tie.Need-queue-on-requires
 queue-on-requires c κs =
@@ -65,7 +63,7 @@ returns-4 : tie.Need-returns-4
 unfolding handler
 returns-4 c =
     let a = c .before .before .before .before .args in
-    (λ version. touch-unknown (a .control .now) (a .touchscreen) (a .touch) Kind.TouchDown version (Amend.touchDown (a .touch) ∷ []) refl (sym (c .before .before .device-for-interface .ensures) ∙ ap slotTold (c .enum-told .given .1)), λ j q. absurd (ignored-not q))
+    λ version. touch-unknown (a .control .now) (a .touchscreen) (a .touch) Kind.TouchDown version refl (sym (c .before .before .device-for-interface .ensures) ∙ ap slotTold (c .enum-told .given .1))
 
 pub decide-down-spec : {M : Type 1} → statement M
 decide-down-spec =

@@ -31,10 +31,10 @@ returns c =
     let at-start = at-find-device .before .before .before .before .before in
     let a = at-start .args in
     let f = sym (at-find-device .find-device .ensures) ∙ ap slotTold (at-k .k .given .1) in
-    λ u call out e p texts w.
+    λ call x out texts w.
     let s = store (a .control .now) (a .words .now) (a .reals .now) texts in
-    flush-full s out call (a .clock) _ _ (connectionOf (a .control .now) .lastSerial) (a .clock) (device-passes (a .control .now) (λ d. eqb (d .id) (a .device)) _ f .within) u
-    (p (view (session s)) ∙ device-flush s (a .device) f (a .clock) u refl) (at-frame-entries .frame-entries .ensures .0) w
+    flush-full s out call (a .clock) _ _ (connectionOf (a .control .now) .lastSerial) (a .clock) (device-passes (a .control .now) (λ d. eqb (d .id) (a .device)) _ f .within) (x .untimed)
+    (x .plan (view (session s)) ∙ device-flush s (a .device) f (a .clock) (x .untimed) refl) (at-frame-entries .frame-entries .ensures .0) w
     (sym (c .before .before .has-room .ensures) ∙ not-true _ (c .before .if1 .taken)) (c .refused .ensures)
 
 frame-requires : tie.Need-frame-requires
@@ -88,21 +88,21 @@ returns-2 c =
     let at-start = at-find-device .before .before .before .before .before in
     let a = at-start .args in
     let f = sym (at-find-device .find-device .ensures) ∙ ap slotTold (at-k .k .given .1) in
-    λ u call out e p texts w.
+    λ call x out texts w.
     let s = store (a .control .now) (a .words .now) (a .reals .now) texts in
-    let o = enacted-join (at-frame .frame .ensures texts _) (at-push .push .ensures u e texts _) in
-    flush-done s out call (a .clock) _ _ _ (a .clock) (device-passes (a .control .now) (λ d. eqb (d .id) (a .device)) _ f .within) u
-    (p (view (session s)) ∙ device-flush s (a .device) f (a .clock) u (at-last-serial .last-serial .ensures)) (at-frame-entries .frame-entries .ensures .0)
+    let o = enacted-join (at-frame .frame .ensures texts _) (at-push .push .ensures (x .untimed) (x .is) texts _) in
+    flush-done s out call (a .clock) _ _ _ (a .clock) (device-passes (a .control .now) (λ d. eqb (d .id) (a .device)) _ f .within) (x .untimed)
+    (x .plan (view (session s)) ∙ device-flush s (a .device) f (a .clock) (x .untimed) (at-last-serial .last-serial .ensures)) (at-frame-entries .frame-entries .ensures .0)
     (sym (at-has-room .has-room .ensures) ∙ not-false _ (at-if1 .if1 .left))
     (whole-rows w o (at-push .push .kept .1 .0 ∙ at-frame .frame .kept .1 .0) (at-push .push .kept .1 .1 .0 ∙ at-frame .frame .kept .1 .1 .0)) o (c .accepted .ensures)
 
 returns-3 : tie.Need-returns-3
 returns-3 c =
     let a = c .before .before .before .before .before .before .before .before .args in
-    λ u call out e p texts w.
+    λ call x out texts w.
     let s = store (a .control .now) (a .words .now) (a .reals .now) texts in
     handled-answer s out call (a .clock) _ w
-    (p (view (session s)) ∙ device-none s (a .device) (sym (c .before .before .before .find-device .ensures) ∙ ap slotTold (c .before .enum-told .given .1)) (a .clock) u)
+    (x .plan (view (session s)) ∙ device-none s (a .device) (sym (c .before .before .before .find-device .ensures) ∙ ap slotTold (c .before .enum-told .given .1)) (a .clock) (x .untimed))
     (c .accepted2 .ensures)
 
 pub queue-for-device-spec : {M : Type 1} → statement M

@@ -21,9 +21,9 @@ returns c =
     let at-start = at-find-seat .before .before .before .before .before in
     let a = at-start .args in
     let f = sym (at-find-seat .find-seat .ensures) ∙ ap slotTold (at-k .k .given .1) in
-    λ u call out clock e p texts w.
+    λ call clock x out texts w.
     let s = store (a .control .now) (a .words .now) (a .reals .now) texts in
-    handled-answer s out call clock _ w (p (view (session s)) ∙ seat-strange s (a .seat) (a .capabilities) u f (sym (c .before .before .has-unknown .ensures) ∙ c .before .if1 .taken)) (c .refused .ensures)
+    handled-answer s out call clock _ w (x .plan (view (session s)) ∙ seat-strange s (a .seat) (a .capabilities) (x .untimed) f (sym (c .before .before .has-unknown .ensures) ∙ c .before .if1 .taken)) (c .refused .ensures)
 
 seat-capabilities-requires : tie.Need-seat-capabilities-requires
 seat-capabilities-requires c κs =
@@ -44,10 +44,10 @@ returns-2 c =
     let at-start = at-find-seat .before .before .before .before .before in
     let a = at-start .args in
     let f = sym (at-find-seat .find-seat .ensures) ∙ ap slotTold (at-k .k .given .1) in
-    λ u call out clock e p texts w.
+    λ call clock x out texts w.
     let s = store (a .control .now) (a .words .now) (a .reals .now) texts in
     handled-answer s out call clock _ w
-    (p (view (session s)) ∙ seat-lacks s (a .seat) (a .capabilities) u f (sym (at-has-unknown .has-unknown .ensures) ∙ at-if1 .if1 .left)
+    (x .plan (view (session s)) ∙ seat-lacks s (a .seat) (a .capabilities) (x .untimed) f (sym (at-has-unknown .has-unknown .ensures) ∙ at-if1 .if1 .left)
     (ap (λ (m : ℕ). contains m (a .capabilities)) (sym (at-seat-capabilities .seat-capabilities .ensures)) ∙ sym (c .before .before .contains .ensures) ∙ not-true _ (c .before .if2 .taken)))
     (c .refused2 .ensures)
 
@@ -64,20 +64,24 @@ returns-3 c =
     let at-start = at-find-seat .before .before .before .before .before in
     let a = at-start .args in
     let f = sym (at-find-seat .find-seat .ensures) ∙ ap slotTold (at-k .k .given .1) in
-    λ u call out clock e p texts w.
+    λ call clock x out texts w.
     let s = store (a .control .now) (a .words .now) (a .reals .now) texts in
-    at-queue-untimed .queue-untimed .ensures u call out texts clock e
-    (p (view (session s)) ∙ seat-has s (a .seat) (a .capabilities) u f (sym (at-has-unknown .has-unknown .ensures) ∙ at-if1 .if1 .left)
-    (ap (λ (m : ℕ). contains m (a .capabilities)) (sym (at-seat-capabilities .seat-capabilities .ensures)) ∙ sym (at-contains .contains .ensures) ∙ not-false _ (at-if2 .if2 .left)))
+    at-queue-untimed .queue-untimed .ensures call clock texts out
+    (record {
+      untimed = x .untimed;
+      is = x .is;
+      plan = x .plan (view (session s)) ∙ seat-has s (a .seat) (a .capabilities) (x .untimed) f (sym (at-has-unknown .has-unknown .ensures) ∙ at-if1 .if1 .left)
+    (ap (λ (m : ℕ). contains m (a .capabilities)) (sym (at-seat-capabilities .seat-capabilities .ensures)) ∙ sym (at-contains .contains .ensures) ∙ not-false _ (at-if2 .if2 .left));
+    })
     w
 
 returns-4 : tie.Need-returns-4
 returns-4 c =
     let a = c .before .before .before .before .before .before .before .before .args in
-    λ u call out clock e p texts w.
+    λ call clock x out texts w.
     let s = store (a .control .now) (a .words .now) (a .reals .now) texts in
     handled-answer s out call clock _ w
-    (p (view (session s)) ∙ seat-none s (a .seat) (a .capabilities) u (sym (c .before .before .before .find-seat .ensures) ∙ ap slotTold (c .before .enum-told .given .1)))
+    (x .plan (view (session s)) ∙ seat-none s (a .seat) (a .capabilities) (x .untimed) (sym (c .before .before .before .find-seat .ensures) ∙ ap slotTold (c .before .enum-told .given .1)))
     (c .accepted .ensures)
 
 pub queue-for-seat-spec : {M : Type 1} → statement M

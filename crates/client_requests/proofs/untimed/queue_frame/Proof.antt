@@ -28,7 +28,7 @@ returns c =
     let at-start = at-find-device .before .before .before .before .before in
     let a = at-start .args in
     let f = sym (at-find-device .find-device .ensures) ∙ ap slotTold (at-k .k .given .1) in
-    λ out clock texts w.
+    λ clock out texts w.
     let s = store (a .control .now) (a .words .now) (a .reals .now) texts in
     frame-full s out (Call.plain (Plain.deviceFrame (a .device) (a .serial) (a .time))) clock _ _ (a .serial) (a .time)
     (device-passes (a .control .now) (λ d. eqb (d .id) (a .device)) _ f .within)
@@ -63,7 +63,7 @@ returns-2 c =
     let at-start = at-find-device .before .before .before .before .before in
     let a = at-start .args in
     let f = sym (at-find-device .find-device .ensures) ∙ ap slotTold (at-k .k .given .1) in
-    λ out clock texts w.
+    λ clock out texts w.
     let s = store (a .control .now) (a .words .now) (a .reals .now) texts in
     let o = at-frame .frame .ensures texts _ in
     frame-done s out (Call.plain (Plain.deviceFrame (a .device) (a .serial) (a .time))) clock _ _ (a .serial) (a .time)
@@ -74,7 +74,7 @@ returns-2 c =
 returns-3 : tie.Need-returns-3
 returns-3 c =
     let a = c .before .before .before .before .before .before .before .before .args in
-    λ out clock texts w.
+    λ clock out texts w.
     let s = store (a .control .now) (a .words .now) (a .reals .now) texts in
     handled-answer s out (Call.plain (Plain.deviceFrame (a .device) (a .serial) (a .time))) clock _ w
     (frame-plan (view (session s)) clock (a .device) (a .serial) (a .time)

@@ -10,8 +10,8 @@ use Rattle.client_requests.proofs.untimed.queue_untimed.Tie as tie
 returns : tie.Need-returns
 returns c =
     let a = c .before .before .before .before .before .before .before .args in
-    λ u call out texts clock e p w.
-    queue-full (store (a .control .now) (a .words .now) (a .reals .now) texts) out call clock _ u p w (sym (c .before .before .has-room .ensures) ∙ not-true _ (c .before .if1 .taken)) (c .refused .ensures)
+    λ call clock texts out x w.
+    queue-full (store (a .control .now) (a .words .now) (a .reals .now) texts) out call clock _ (x .untimed) (x .plan) w (sym (c .before .before .has-room .ensures) ∙ not-true _ (c .before .if1 .taken)) (c .refused .ensures)
 
 push-requires : tie.Need-push-requires
 push-requires c κs =
@@ -27,9 +27,9 @@ returns-2 c =
     let at-has-room = at-if1 .before in
     let at-start = at-has-room .before .before .before .before .before in
     let a = at-start .args in
-    λ u call out texts clock e p w.
-    let o = at-push .push .ensures u e texts _ in
-    queue-done (store (a .control .now) (a .words .now) (a .reals .now) texts) out call clock _ u p (sym (at-has-room .has-room .ensures) ∙ not-false _ (at-if1 .if1 .left))
+    λ call clock texts out x w.
+    let o = at-push .push .ensures (x .untimed) (x .is) texts _ in
+    queue-done (store (a .control .now) (a .words .now) (a .reals .now) texts) out call clock _ (x .untimed) (x .plan) (sym (at-has-room .has-room .ensures) ∙ not-false _ (at-if1 .if1 .left))
     (whole-rows w o (at-push .push .kept .1 .0) (at-push .push .kept .1 .1 .0)) o (c .accepted .ensures)
 
 pub queue-untimed-spec : {M : Type 1} → statement M

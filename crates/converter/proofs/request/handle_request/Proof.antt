@@ -1,115 +1,103 @@
 -- A damaged session first, then each kind of request. Assumes nothing.
-use mathlib.Core.Path.{sym, ap, _∙_}
-use borrow.Author.Tests.{not-true, not-false}
-use Rattle.session.specs.View.{store}
-use Rattle.session.proofs.Views.{whole-parts, whole-lent}
-use Rattle.handlers.specs.Call.{callOf}
+use mathlib.Core.Path.{_≡_, ap}
+use mathlib.Core.Bool.{true}
 use Rattle.requests.specs.declared.eis.Request.{Request}
+use Rattle.session.specs.View.{Store, store, Whole, Lending, isIntact}
+use Rattle.session.proofs.Views.{whole-parts, lent-part}
+use Rattle.answers.proofs.Meetings.{failed, passed, damaged-answered, intact-answered}
+use Rattle.handlers.specs.Call.{callOf}
 use Rattle.handlers.proofs.Plain.{for-call, pingpong}
-use Rattle.converter.proofs.Interfaces.{handed-on}
-use Rattle.answers.proofs.Meetings.{damaged-answered}
-use Rattle.converter.proofs.Answering.{answered}
 use borrow.Author.Needs.{needs}
 use Rattle.converter.proofs.request.handle_request.Statement.{statement}
 use Rattle.converter.proofs.request.handle_request.Tie as tie
 
 returns : tie.Need-returns
-returns c =
-    let a = c .before .before .before .before .before .before .before .before .before .before .before .before .before .args in
-    damaged-answered (store (a .control .now) (a .words .now) (a .reals .now) (a .texts .now)) (a .out .now) (callOf (a .request) (a .object) (a .version) (a .text .now)) (a .clock) _ (sym (c .before .before .whole .ensures) ∙ not-true _ (c .before .if1 .taken)) (c .refused .ensures)
+unfolding isIntact
+returns c = damaged-answered (failed (c .before .before .whole .ensures) (c .before .if1 .taken)) (c .refused .ensures)
+
+-- ---- behind 21's test
+
+abbrev lent : tie.Else1 → Store
+lent p =
+    let a = p .before .before .before .before .before .before .before .before .before .before .before .before .args in store (a .control .now) (a .words .now) (a .reals .now) (a .texts .now)
+
+intact : (p : tie.Else1) → isIntact Lending.all (lent p) ≡ true
+unfolding isIntact
+intact p = passed (p .before .whole .ensures) (p .if1 .left)
+
+whole : (p : tie.Else1) → Whole (lent p)
+unfolding isIntact
+whole p = whole-parts (lent p) (intact p)
 
 handle-connection-request-requires : tie.Need-handle-connection-request-requires
-handle-connection-request-requires c κs =
-    let at-if1 = c .before .before .before .before .before .before .before in
-    let at-whole = at-if1 .before in
-    let at-start = at-whole .before .before .before .before .before .before .before .before .before .before .before in
-    let a = at-start .args in
-    whole-lent (store (a .control .now) (a .words .now) (a .reals .now) (a .texts .now)) (sym (at-whole .whole .ensures) ∙ not-false _ (at-if1 .if1 .left))
+handle-connection-request-requires c κs = lent-part _ (whole (c .before .before .before .before .before .before .before))
 
 handle-seat-request-requires : tie.Need-handle-seat-request-requires
-handle-seat-request-requires c κs =
-    let at-if1 = c .before .before .before .before .before .before .before in
-    let at-whole = at-if1 .before in
-    let at-start = at-whole .before .before .before .before .before .before .before .before .before .before .before in
-    let a = at-start .args in
-    whole-lent (store (a .control .now) (a .words .now) (a .reals .now) (a .texts .now)) (sym (at-whole .whole .ensures) ∙ not-false _ (at-if1 .if1 .left))
+handle-seat-request-requires c κs = lent-part _ (whole (c .before .before .before .before .before .before .before))
 
 handle-device-request-requires : tie.Need-handle-device-request-requires
-handle-device-request-requires c κs =
-    let at-if1 = c .before .before .before .before .before .before in
-    let at-whole = at-if1 .before in
-    let at-start = at-whole .before .before .before .before .before .before .before .before .before .before .before in
-    let a = at-start .args in
-    whole-lent (store (a .control .now) (a .words .now) (a .reals .now) (a .texts .now)) (sym (at-whole .whole .ensures) ∙ not-false _ (at-if1 .if1 .left))
+handle-device-request-requires c κs = lent-part _ (whole (c .before .before .before .before .before .before))
 
 handle-interface-request-requires : tie.Need-handle-interface-request-requires
-handle-interface-request-requires c κs =
-    let at-match = c .before .before .before .before .before in
-    let at-if1 = at-match .before in
-    let at-whole = at-if1 .before in
-    let at-start = at-whole .before .before .before .before .before .before .before .before .before .before .before in
-    let a = at-start .args in
-    (whole-parts (store (a .control .now) (a .words .now) (a .reals .now) (a .texts .now)) (sym (at-whole .whole .ensures) ∙ not-false _ (at-if1 .if1 .left)), handed-on (a .request) (at-match .match .keys6))
+handle-interface-request-requires c κs = whole (c .before .before .before .before .before .before .before .before)
 
 returns-2 : tie.Need-returns-2
 returns-2 c =
-    let a = c .before .before .before .before .before .before .before .before .before .before .before .before .before .before .before .before .args in
-    answered (sym (c .before .before .before .before .before .whole .ensures) ∙ not-false _ (c .before .before .before .before .if1 .left)) (λ whole.
-    for-call (a .clock) (ap (λ (x : Request). callOf x (a .object) (a .version) (a .text .now)) (c .before .before .request .given .1))
+    let at-request = c .before .before in
+    let p = at-request .before .before in
+    let a = p .before .before .before .before .before .before .before .before .before .before .before .before .args in
+    intact-answered (intact p) (λ whole.
+    for-call (a .clock) (ap (λ (x : Request). callOf x (a .object) (a .version) (a .text .now)) (at-request .request .given .1))
     (c .handle-handshake-request .ensures (a .control .now) (a .out .now) (a .clock) (a .words .now) (a .reals .now) (a .texts .now) whole))
 
 returns-3 : tie.Need-returns-3
 returns-3 c =
-    let at-handle-connection-request = c .before .before .before .before .before .before .before .before in
-    let at-request2 = at-handle-connection-request .before .before .before .before .before .before in
-    let at-if1 = at-request2 .before .before in
-    let at-whole = at-if1 .before in
-    let at-start = at-whole .before .before .before .before .before .before .before .before .before .before .before in
-    let a = at-start .args in
-    answered (sym (at-whole .whole .ensures) ∙ not-false _ (at-if1 .if1 .left)) (λ whole.
-    for-call (a .clock) (ap (λ (x : Request). callOf x (a .object) (a .version) (a .text .now)) (at-request2 .request2 .given .1))
-    (at-handle-connection-request .handle-connection-request .ensures (a .clock) (a .texts .now) whole))
+    let at-handler = c .before .before .before .before .before .before .before .before in
+    let at-request = at-handler .before .before .before .before .before .before in
+    let p = at-request .before .before in
+    let a = p .before .before .before .before .before .before .before .before .before .before .before .before .args in
+    intact-answered (intact p) (λ whole.
+    for-call (a .clock) (ap (λ (x : Request). callOf x (a .object) (a .version) (a .text .now)) (at-request .request2 .given .1))
+    (at-handler .handle-connection-request .ensures (a .clock) (a .texts .now) whole))
 
 returns-4 : tie.Need-returns-4
 returns-4 c =
-    let a = c .before .before .before .before .before .before .before .before .before .before .before .before .before .before .before .args in
-    answered (sym (c .before .before .before .before .whole .ensures) ∙ not-false _ (c .before .before .before .if1 .left)) (λ whole.
-    for-call (a .clock) (ap (λ (x : Request). callOf x (a .object) (a .version) (a .text .now)) (c .before .enum-told .given .1))
-    (pingpong (store (a .control .now) (a .words .now) (a .reals .now) (a .texts .now)) (a .out .now) (a .clock) _ whole (c .accepted .ensures)))
+    let at-request = c .before in
+    let p = at-request .before .before in
+    let a = p .before .before .before .before .before .before .before .before .before .before .before .before .args in
+    intact-answered (intact p) (λ whole.
+    for-call (a .clock) (ap (λ (x : Request). callOf x (a .object) (a .version) (a .text .now)) (at-request .enum-told .given .1))
+    (pingpong (lent p) (a .out .now) (a .clock) _ whole (c .accepted .ensures)))
 
 returns-5 : tie.Need-returns-5
 returns-5 c =
-    let at-handle-seat-request = c .before .before .before .before .before .before .before .before in
-    let at-request3 = at-handle-seat-request .before .before .before .before .before .before in
-    let at-if1 = at-request3 .before .before in
-    let at-whole = at-if1 .before in
-    let at-start = at-whole .before .before .before .before .before .before .before .before .before .before .before in
-    let a = at-start .args in
-    answered (sym (at-whole .whole .ensures) ∙ not-false _ (at-if1 .if1 .left)) (λ whole.
-    for-call (a .clock) (ap (λ (x : Request). callOf x (a .object) (a .version) (a .text .now)) (at-request3 .request3 .given .1))
-    (at-handle-seat-request .handle-seat-request .ensures (a .clock) (a .texts .now) whole))
+    let at-handler = c .before .before .before .before .before .before .before .before in
+    let at-request = at-handler .before .before .before .before .before .before in
+    let p = at-request .before .before in
+    let a = p .before .before .before .before .before .before .before .before .before .before .before .before .args in
+    intact-answered (intact p) (λ whole.
+    for-call (a .clock) (ap (λ (x : Request). callOf x (a .object) (a .version) (a .text .now)) (at-request .request3 .given .1))
+    (at-handler .handle-seat-request .ensures (a .clock) (a .texts .now) whole))
 
 returns-6 : tie.Need-returns-6
 returns-6 c =
-    let at-handle-device-request = c .before .before .before .before .before .before in
-    let at-request4 = at-handle-device-request .before .before .before .before .before in
-    let at-if1 = at-request4 .before .before in
-    let at-whole = at-if1 .before in
-    let at-start = at-whole .before .before .before .before .before .before .before .before .before .before .before in
-    let a = at-start .args in
-    answered (sym (at-whole .whole .ensures) ∙ not-false _ (at-if1 .if1 .left)) (λ whole.
-    for-call (a .clock) (ap (λ (x : Request). callOf x (a .object) (a .version) (a .text .now)) (at-request4 .request4 .given .1))
-    (at-handle-device-request .handle-device-request .ensures (a .out .now) (a .texts .now) whole))
+    let at-handler = c .before .before .before .before .before .before in
+    let at-request = at-handler .before .before .before .before .before in
+    let p = at-request .before .before in
+    let a = p .before .before .before .before .before .before .before .before .before .before .before .before .args in
+    intact-answered (intact p) (λ whole.
+    for-call (a .clock) (ap (λ (x : Request). callOf x (a .object) (a .version) (a .text .now)) (at-request .request4 .given .1))
+    (at-handler .handle-device-request .ensures (a .out .now) (a .texts .now) whole))
 
 returns-7 : tie.Need-returns-7
 returns-7 c =
-    let at-handle-interface-request = c .before .before .before .before .before .before .before .before .before .before in
-    let at-if1 = at-handle-interface-request .before .before .before .before .before .before .before in
-    let at-whole = at-if1 .before in
-    let at-start = at-whole .before .before .before .before .before .before .before .before .before .before .before in
-    let a = at-start .args in
-    answered (sym (at-whole .whole .ensures) ∙ not-false _ (at-if1 .if1 .left)) (λ whole.
-    at-handle-interface-request .handle-interface-request .ensures (a .clock))
+    let at-handler = c .before .before .before .before .before .before .before .before .before .before in
+    let at-request = at-handler .before .before .before .before .before .before .before in
+    let p = at-request .before .before in
+    let a = p .before .before .before .before .before .before .before .before .before .before .before .before .args in
+    intact-answered (intact p) (λ whole.
+    for-call (a .clock) (ap (λ (x : Request). callOf x (a .object) (a .version) (a .text .now)) (at-request .request5 .given .1))
+    (at-handler .handle-interface-request .ensures (a .clock)))
 
 pub handle-request-spec : {M : Type 1} → statement M
 handle-request-spec =
@@ -132,6 +120,7 @@ handle-request-spec =
     handle-seat-request-requires
     (λ c. search needs)  -- enum-known-request-4
     handle-device-request-requires
+    (λ c. search needs)  -- enum-known-request-5
     handle-interface-request-requires
     (λ c. search needs)  -- same-length-5
     (λ c. search needs)  -- same-length-6

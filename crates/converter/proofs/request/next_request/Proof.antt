@@ -1,13 +1,14 @@
 -- The oldest row, its text, and the row taken out. Assumes nothing.
 use Prim.Native.Nat.{_<_}
-use mathlib.Core.Path.{sym, ap, _∙_}
+use mathlib.Core.Path.{_≡_, ap, _∙_}
+use mathlib.Core.Bool.{true}
 use native.Mathlib.Omega.{arith}
-use borrow.Author.Tests.{not-true, not-false}
 use Rattle.requests.specs.Request.{textLength}
 use Rattle.model.specs.Call.{Load}
 use Rattle.control.specs.Control.{queueHead, queueLength}
-use Rattle.session.specs.View.{store, queueRow}
-use Rattle.session.proofs.Views.{whole-parts, whole-lent}
+use Rattle.session.specs.View.{Store, store, queueRow, isWhole, Whole}
+use Rattle.session.proofs.Views.{whole-parts, lent-part}
+use Rattle.answers.proofs.Meetings.{failed, passed}
 use Rattle.converter.proofs.Given.{text-room, given-none, given-short, given-done, delivered-bad, delivered}
 use borrow.Author.Needs.{needs}
 use Rattle.converter.proofs.request.next_request.Statement.{statement}
@@ -16,67 +17,58 @@ use Rattle.converter.proofs.request.next_request.Tie as tie
 returns : tie.Need-returns
 returns c =
     let a = c .before .before .before .before .before .before .before .before .args in
-    delivered-bad (store (a .control .now) (a .words .now) (a .reals .now) (a .texts .now)) (a .buffer .now) (sym (c .before .whole .ensures) ∙ not-true _ (c .if1 .taken))
+    delivered-bad (store (a .control .now) (a .words .now) (a .reals .now) (a .texts .now)) (a .buffer .now) (failed (c .before .whole .ensures) (c .if1 .taken))
+
+-- ---- behind 21's test
+
+abbrev lent : tie.Else1 → Store
+lent p = let a = p .before .before .before .before .before .before .before .before .args in store (a .control .now) (a .words .now) (a .reals .now) (a .texts .now)
+
+intact : (p : tie.Else1) → isWhole (lent p) ≡ true
+intact p = passed (p .before .whole .ensures) (p .if1 .left)
+
+whole : (p : tie.Else1) → Whole (lent p)
+whole p = whole-parts (lent p) (intact p)
+
+-- ---- behind the test of the queue
+
+some-queued : (p : tie.Else2) → 0 < queueLength (lent (p .before .before .before) .control)
+some-queued p = omega (arith, p .before .queue-length .ensures)
 
 queue-length-requires : tie.Need-queue-length-requires
-queue-length-requires c κs =
-    let at-start = c .before .before .before .before .before .before .before .before .before in
-    whole-lent (store (at-start .args .control .now) (at-start .args .words .now) (at-start .args .reals .now) (at-start .args .texts .now)) (sym (c .before .before .whole .ensures) ∙ not-false _ (c .before .if1 .left)) .sound .long
+queue-length-requires c κs = whole (c .before) .sound .long
 
 returns-2 : tie.Need-returns-2
 returns-2 c =
-    let a = c .before .before .before .before .before .before .before .before .before .before .before .args in
-    let s = store (a .control .now) (a .words .now) (a .reals .now) (a .texts .now) in
-    let b = sym (c .before .before .before .before .whole .ensures) ∙ not-false _ (c .before .before .before .if1 .left) in
-    delivered b (λ clock. given-none s (a .buffer .now) clock (whole-parts s b) (omega (arith, c .before .queue-length .ensures)))
+    let p = c .before .before .before in
+    let a = p .before .before .before .before .before .before .before .before .args in
+    delivered (intact p) (λ clock. given-none (lent p) (a .buffer .now) clock (whole p) (omega (arith, c .before .queue-length .ensures)))
 
 oldest-requires : tie.Need-oldest-requires
-oldest-requires c κs =
-    let at-if1 = c .before .before .before .before in
-    let at-whole = at-if1 .before in
-    let at-start = at-whole .before .before .before .before .before .before .before in
-    (whole-lent (store (at-start .args .control .now) (at-start .args .words .now) (at-start .args .reals .now) (at-start .args .texts .now)) (sym (at-whole .whole .ensures) ∙ not-false _ (at-if1 .if1 .left)), omega (arith, c .before .before .queue-length .ensures))
+oldest-requires c κs = (lent-part _ (whole (c .before .before .before .before)), some-queued (c .before))
 
 returns-3 : tie.Need-returns-3
 returns-3 c =
-    let at-queue-length = c .before .before .before .before .before in
-    let at-if1 = at-queue-length .before .before in
-    let at-whole = at-if1 .before in
-    let at-start = at-whole .before .before .before .before .before .before .before in
-    let a = at-start .args in
-    let s = store (a .control .now) (a .words .now) (a .reals .now) (a .texts .now) in
-    let b = sym (at-whole .whole .ensures) ∙ not-false _ (at-if1 .if1 .left) in
-    let l : 0 < queueLength (a .control .now) = omega (arith, at-queue-length .queue-length .ensures) in
-    delivered b (λ clock. given-short s (a .buffer .now) clock l (c .before .before .oldest .ensures) (c .before .text-length .ensures) (whole-parts s b) (omega arith))
+    let at-if2 = c .before .before .before .before in
+    let p = at-if2 .before .before .before in
+    let a = p .before .before .before .before .before .before .before .before .args in
+    delivered (intact p)
+    (λ clock. given-short (lent p) (a .buffer .now) clock (some-queued at-if2) (c .before .before .oldest .ensures) (c .before .text-length .ensures) (whole p) (omega arith))
 
 oldest-slot-requires : tie.Need-oldest-slot-requires
-oldest-slot-requires c κs =
-    let at-queue-length = c .before .before .before .before .before .before in
-    let at-if1 = at-queue-length .before .before in
-    let at-whole = at-if1 .before in
-    let at-start = at-whole .before .before .before .before .before .before .before in
-    (whole-lent (store (at-start .args .control .now) (at-start .args .words .now) (at-start .args .reals .now) (at-start .args .texts .now)) (sym (at-whole .whole .ensures) ∙ not-false _ (at-if1 .if1 .left)), omega (arith, at-queue-length .queue-length .ensures))
+oldest-slot-requires c κs = (lent-part _ (whole (c .before .before .before .before .before .before .before .before)), some-queued (c .before .before .before .before .before))
 
 copy-text-requires : tie.Need-copy-text-requires
 copy-text-requires c κs =
     let at-text-length = c .before .before .before .before in
     let at-oldest = at-text-length .before in
-    let at-if1 = at-oldest .before .before .before .before .before in
-    let at-whole = at-if1 .before in
-    let at-start = at-whole .before .before .before .before .before .before .before in
-    let a = at-start .args in
-    let s = store (a .control .now) (a .words .now) (a .reals .now) (a .texts .now) in
-    let b = sym (at-whole .whole .ensures) ∙ not-false _ (at-if1 .if1 .left) in
+    let p = at-oldest .before .before .before .before .before in
+    let a = p .before .before .before .before .before .before .before .before .args in
     let size = at-text-length .text-length .ensures ∙ ap textLength (at-oldest .oldest .ensures) in
-    (omega (arith, text-room (a .words .now) (a .reals .now) (queueRow (queueHead (a .control .now)) 0) _ size (omega arith), c .before .oldest-slot .ensures, whole-parts s b .texts-long), omega arith)
+    (omega (arith, text-room (a .words .now) (a .reals .now) (queueRow (queueHead (a .control .now)) 0) _ size (omega arith), c .before .oldest-slot .ensures, whole p .texts-long), omega arith)
 
 pop-requires : tie.Need-pop-requires
-pop-requires c κs =
-    let at-queue-length = c .before .before .before .before .before .before .before .before .before .before .before .before in
-    let at-if1 = at-queue-length .before .before in
-    let at-whole = at-if1 .before in
-    let at-start = at-whole .before .before .before .before .before .before .before in
-    (whole-lent (store (at-start .args .control .now) (at-start .args .words .now) (at-start .args .reals .now) (at-start .args .texts .now)) (sym (at-whole .whole .ensures) ∙ not-false _ (at-if1 .if1 .left)) .sound, omega (arith, at-queue-length .queue-length .ensures))
+pop-requires c κs = (whole (c .before .before .before .before .before .before .before .before .before .before .before .before .before .before) .sound, some-queued (c .before .before .before .before .before .before .before .before .before .before .before))
 
 returns-4 : tie.Need-returns-4
 returns-4 c =
@@ -84,20 +76,18 @@ returns-4 c =
     let at-oldest-slot = at-copy-text .before .before in
     let at-text-length = at-oldest-slot .before .before .before in
     let at-oldest = at-text-length .before in
-    let at-queue-length = at-oldest .before .before .before in
-    let at-if1 = at-queue-length .before .before in
-    let at-whole = at-if1 .before in
-    let at-start = at-whole .before .before .before .before .before .before .before in
-    let a = at-start .args in
-    let s = store (a .control .now) (a .words .now) (a .reals .now) (a .texts .now) in
-    let b = sym (at-whole .whole .ensures) ∙ not-false _ (at-if1 .if1 .left) in
-    let w = whole-parts s b in
-    let l : 0 < queueLength (a .control .now) = omega (arith, at-queue-length .queue-length .ensures) in
+    let at-if2 = at-oldest .before .before in
+    let p = at-if2 .before .before .before in
+    let a = p .before .before .before .before .before .before .before .before .args in
+    let w = whole p in
     let size = at-text-length .text-length .ensures ∙ ap textLength (at-oldest .oldest .ensures) in
     let room = text-room (a .words .now) (a .reals .now) (queueRow (queueHead (a .control .now)) 0) _ size (omega arith) in
     let o = c .before .before .pop .ensures (a .words .now) (a .reals .now) (a .texts .now) Load.None in
-    delivered b (λ clock. given-done s (a .buffer .now) clock l (at-oldest .oldest .ensures) (at-text-length .text-length .ensures) (at-oldest-slot .oldest-slot .ensures) (omega (arith, room, at-oldest-slot .oldest-slot .ensures, w .texts-long)) (omega arith)
-    (at-copy-text .copy-text .ensures) (record { sound = o .sound; words-long = w .words-long; reals-long = w .reals-long; texts-long = w .texts-long }) o)
+    delivered (intact p)
+    (λ clock.
+    given-done (lent p) (a .buffer .now) clock (some-queued at-if2) (at-oldest .oldest .ensures) (at-text-length .text-length .ensures) (at-oldest-slot .oldest-slot .ensures)
+    (omega (arith, room, at-oldest-slot .oldest-slot .ensures, w .texts-long)) (omega arith) (at-copy-text .copy-text .ensures)
+    (record { sound = o .sound; words-long = w .words-long; reals-long = w .reals-long; texts-long = w .texts-long }) o)
 
 pub next-request-spec : {M : Type 1} → statement M
 next-request-spec =
