@@ -13,15 +13,14 @@ use Rattle.model.specs.Call.{Input, Load, Plain, Call, Split, mapCall, split}
 use Rattle.model.specs.Session.{Connection, View, view}
 use Rattle.model.specs.Edit.{Edit}
 use Rattle.model.specs.Plan.{Sent, records, refusal, refuse}
-use Rattle.model.specs.Decide.{version, versionOr1, checkCapabilities, addSeat, decidePlain, decide}
+use Rattle.model.specs.Decide.{version, versionOr1, checkCapabilities, seatEvents, seatPlan, addSeat, decidePlain, decide}
 use Rattle.model.specs.Step.{refuses, step}
-use Rattle.model_steps.proofs.Steps.{seatPlan, step-seat-full, step-seat-spent, step-seat-short, step-seat}
+use Rattle.model_steps.proofs.Steps.{step-seat-full, step-seat-spent, step-seat-short, step-seat}
 use Rattle.control.specs.Control.{seatCount, connectionOf}
 use Rattle.session.specs.View.{Store, store, session, Whole}
 use Rattle.session.specs.Enact.{EnactedControl}
 use Rattle.session.proofs.Views.{connection-is, view-connection, seats-length}
 use Rattle.events.specs.Events.{Sends}
-use Rattle.events.specs.Announce.{seatEvents}
 use Rattle.answers.specs.declared.Checked.{Checked}
 use Rattle.answers.specs.declared.Error.{Error}
 use Rattle.answers.specs.declared.Outcome.{Outcome}

@@ -12,9 +12,8 @@ use Rattle.wire.specs.Record.{layout, textOf, fixedLength, recordLength}
 use Rattle.model.specs.Session.{Connection}
 use Rattle.model.specs.Edit.{newInterfaces}
 use Rattle.model.specs.Plan.{Sent, on, records}
-use Rattle.model.specs.Decide.{nameEvents, interfaceEvents}
+use Rattle.model.specs.Decide.{nameEvents, interfaceEvents, deviceEvents}
 use Rattle.events.specs.Events.{Sends}
-use Rattle.events.specs.Announce.{deviceEvents}
 use Rattle.events.proofs.Writes.{append-length, one-length, cons-length, sends-join}
 use Rattle.events.proofs.Announced.{interfaces-length}
 use Rattle.events.proofs.Named.{done-text}

@@ -11,9 +11,8 @@ use Rattle.wire.specs.Bits.{widths}
 use Rattle.wire.specs.Record.{layout, textOf, fixedLength, recordLength}
 use Rattle.model.specs.Session.{Connection}
 use Rattle.model.specs.Plan.{Sent, on, records}
-use Rattle.model.specs.Decide.{nameEvents, capabilityEvents}
+use Rattle.model.specs.Decide.{nameEvents, capabilityEvents, seatEvents}
 use Rattle.events.specs.Events.{Sends}
-use Rattle.events.specs.Announce.{seatEvents}
 use Rattle.events.proofs.Writes.{append-length, one-length, cons-length, sends-join}
 use Rattle.events.proofs.Named.{done-text}
 

@@ -1,30 +1,15 @@
--- What a new seat and a new device announce, and what the functions that write it ask for. Assumes nothing.
+-- What the functions ask for that announce a new seat and a new device. Assumes nothing.
 use Prim.Native.Nat.{ℕ, _+_, _*_, _≤_, _<_}
-use mathlib.Core.List.{List, [], _∷_, _++_}
+use mathlib.Core.List.{List}
 use mathlib.Core.Option.{Option}
 use lib.ListN.{length}
 use Rattle.eiproto.specs.Bits.{bitsOf}
-use Rattle.wire.specs.declared.event.Event.{Event}
-use Rattle.model.specs.Session.{Connection}
-use Rattle.model.specs.Edit.{newInterfaces}
-use Rattle.model.specs.Plan.{Sent, on, records}
-use Rattle.model.specs.Decide.{nameEvents, capabilityEvents, interfaceEvents}
+use Rattle.model.specs.Plan.{records}
+use Rattle.model.specs.Decide.{seatEvents, deviceEvents}
 use Rattle.control.specs.Control.{connectionOf}
 use Rattle.control.specs.Sound.{Sound}
 
--- what `addSeat` of the model sends: the seat on the connection, then on the seat its name, the negotiated capabilities, done
-abbrev pub seatEvents : Connection → (id version : ℕ) → Option (List ℕ) → (capabilities : ℕ) → List Sent
-seatEvents c id version name caps =
-    on (c .id) (Event.Seat id version) ∷ nameEvents id name ++ (capabilityEvents c id (bitsOf caps) ++ (on id Event.Done ∷ []))
-
--- what `addDevice` of the model sends: the device on its seat, then on the device its name, its type, its interfaces, done
-abbrev pub deviceEvents : Connection → (seat id version : ℕ) → Option (List ℕ) → (kind capabilities : ℕ) → List Sent
-deviceEvents c seat id version name kind caps =
-    on seat (Event.Device id version)
-    ∷ nameEvents id name
-    ++ (on id (Event.DeviceType kind) ∷ interfaceEvents c id (newInterfaces id caps) ++ (on id Event.Done ∷ []))
-
--- ---- what is asked for: known capabilities, ids that are left behind a device's own, and room
+-- what is asked for: known capabilities, ids that are left behind a device's own, and room
 
 pub record CanAnnounceSeat (control : List ℕ) (id version : ℕ) (name : Option (List ℕ)) (capabilities : ℕ) (out : List ℕ) : Type 0 where
   pub sound : Sound control

@@ -15,12 +15,12 @@ ghost use Rattle.wire.specs.Record.{recordLength};
 ghost use Rattle.model.specs.Session.{Connection};
 ghost use Rattle.model.specs.Edit.{nextSerial, newInterfaces};
 ghost use Rattle.model.specs.Plan.{records};
-ghost use Rattle.model.specs.Decide.{isSome, version, nameEvents, capabilityEvents, interfaceEvents, objectsOf, devicesObjects, seatObjects, seatsObjects};
+ghost use Rattle.model.specs.Decide.{isSome, version, nameEvents, capabilityEvents, interfaceEvents, objectsOf, devicesObjects, seatObjects, seatsObjects, seatEvents, deviceEvents};
 ghost use Rattle.control.specs.Control.{controlLength, connectionOf, coreAt};
 ghost use Rattle.control.specs.Sound.{Sound};
 ghost use Rattle.session.specs.Slices.{optional, text};
 ghost use Rattle.events.specs.Events.{Writes, WritesDestroyed, bare, bareDevices};
-ghost use Rattle.events.specs.Announce.{seatEvents, deviceEvents, CanAnnounceInterfaces, CanAnnounceSeat, CanAnnounceDevice};
+ghost use Rattle.events.specs.Announce.{CanAnnounceInterfaces, CanAnnounceSeat, CanAnnounceDevice};
 
 // A place in `out`, and the last serial so far.
 pub struct Mark {

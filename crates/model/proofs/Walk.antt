@@ -20,7 +20,7 @@ use Rattle.model.specs.Call.{Sight, HandshakeRequest, Plain, Call}
 use Rattle.model.specs.Session.{Untimed, Request, View}
 use Rattle.model.specs.Edit.{Amend, Edit, newInterfaces, raised}
 use Rattle.model.specs.Plan.{Sent, on, Outcome, Plan, answer, refuse, ignore, edit, send}
-use Rattle.model.specs.Decide.{Found, Rule, handler, deviceForInterface, deviceOf, seatOf, version, versionOr1, checkUtf8, checkName, checkOptional, checkCapabilities, onFound, sendNext, pendAfter, ifHeld, handle, handleTimed, handleHandshake, handleSync, handleSeat, handleDevice, handleFrame, handleRelease, nextOf, nameEvents, capabilityEvents, interfaceEvents, addSeat, addDevice, destroyed, objectsOf, seatObjects, seatsObjects, sendDestroyed, removeDevice, removeSeat, removeSeats, disconnected, explanationText, explained, notify, negotiated, versionAnswer, decidePlain, decide}
+use Rattle.model.specs.Decide.{Found, Rule, handler, deviceForInterface, deviceOf, seatOf, version, versionOr1, checkUtf8, checkName, checkOptional, checkCapabilities, onFound, sendNext, pendAfter, ifHeld, handle, handleTimed, handleHandshake, handleSync, handleSeat, handleDevice, handleFrame, handleRelease, nextOf, nameEvents, capabilityEvents, interfaceEvents, seatAdded, addSeat, deviceAdded, addDevice, destroyed, objectsOf, seatObjects, seatsObjects, sendDestroyed, removeDevice, removeSeat, removeSeats, farewell, disconnected, explanationText, explained, notify, negotiated, versionAnswer, decidePlain, decide}
 use Rattle.model.specs.Step.{refuses}
 use Rattle.model.specs.Demand3.{wantsHeld, ignoredOn, ignored}
 
@@ -48,36 +48,6 @@ pub data Touched (held : List ℕ) (touch : ℕ) : List Amend → Type 0 where
   down : length held < 16 → Touched held touch (Amend.touchDown touch ∷ [])
   up : Touched held touch (Amend.touchUp touch ∷ [])
 
-abbrev pub seatPlan : View → Option (List ℕ) → (capabilities : ℕ) → Plan
-seatPlan v name caps =
-    let c = v .connection in
-    let id = c .nextId in
-    record {
-      outcome = Outcome.seat id;
-      events = on (c .id) (Event.Seat id (versionOr1 (version c eiSeat))) ∷ nameEvents id name ++ (capabilityEvents c id (bitsOf caps) ++ (on id Event.Done ∷ []));
-      edits = Edit.addSeat caps ∷ [];
-    }
-
-abbrev pub devicePlan : View → (seat : ℕ) → Option (List ℕ) → (type both : ℕ) → Plan
-devicePlan v seat name type both =
-    let c = v .connection in
-    let id = c .nextId in
-    record {
-      outcome = Outcome.device id;
-      events =
-          on seat (Event.Device id (versionOr1 (version c eiDevice)))
-          ∷ nameEvents id name
-          ++ (on id (Event.DeviceType type) ∷ interfaceEvents c id (newInterfaces id both) ++ (on id Event.Done ∷ []));
-      edits = Edit.addDevice seat both ∷ [];
-    }
-
-abbrev pub farewell : View → (reason : ℕ) → Option (List ℕ) → List Sent
-farewell v reason explanation =
-    let c = v .connection in
-    let gone = seatsObjects (c .seats) (v .devices) in
-    destroyed (c .lastSerial) gone
-    ++ (record { object = c .id; event = Event.Disconnected (raised (length gone) (c .lastSerial)) reason (explained explanation); text = explanationText explanation } ∷ [])
-
 pub data Leaf (v : View) (now : ℕ) : Call Sight → Plan → Type 0 where
   -- a timed request: refused; "accepted and does nothing"; pended on the device that was found
   turned : {i ver : ℕ} {x : Sight} (o : Outcome) → refuses o ≡ true → modest o ≡ true → Leaf v now (Call.timed i ver x) (answer o)
@@ -100,8 +70,8 @@ pub data Leaf (v : View) (now : ℕ) : Call Sight → Plan → Type 0 where
       Leaf v now (Call.plain c) (edit (Edit.frame (f .slot) (v .connection .lastSerial) now ∷ Edit.queue u ∷ []))
   closed : {c : Plain} (id serial time : ℕ) (f : Found) → deviceOf id v ≡ some f → Leaf v now (Call.plain c) (edit (Edit.frame (f .slot) serial time ∷ []))
   handed : {c : Plain} → Leaf v now (Call.plain c) (record { outcome = Outcome.given; events = []; edits = Edit.deliver ∷ [] })
-  newSeat : {c : Plain} (name : Option (List ℕ)) (caps : ℕ) → Leaf v now (Call.plain c) (seatPlan v name caps)
-  newDevice : {c : Plain} (seat : ℕ) (name : Option (List ℕ)) (type both : ℕ) → Leaf v now (Call.plain c) (devicePlan v seat name type both)
+  newSeat : {c : Plain} (name : Option (List ℕ)) (caps : ℕ) → Leaf v now (Call.plain c) (seatAdded v name caps)
+  newDevice : {c : Plain} (seat : ℕ) (name : Option (List ℕ)) (type both : ℕ) → Leaf v now (Call.plain c) (deviceAdded v seat name type both)
 
 -- ---- the formers of plans
 

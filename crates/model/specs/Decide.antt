@@ -235,18 +235,22 @@ capabilityEvents c seat (b ∷ bs) =
     cond (isSome (version c (interfaceOfBit b))) (on seat (Event.Capability (2 ^ b) (interfaceOfBit b)) ∷ []) []
     ++ capabilityEvents c seat bs
 
+-- a new seat: itself on the connection, then on it its name, the negotiated capabilities, done
+abbrev pub seatEvents : Connection → (id version : ℕ) → Option (List ℕ) → (capabilities : ℕ) → List Sent
+seatEvents c id version name caps =
+    on (c .id) (Event.Seat id version) ∷ nameEvents id name ++ (capabilityEvents c id (bitsOf caps) ++ (on id Event.Done ∷ []))
+
+abbrev pub seatPlan : (id capabilities : ℕ) → List Sent → Plan
+seatPlan id caps events = record { outcome = Outcome.seat id; events = events; edits = Edit.addSeat caps ∷ [] }
+
+abbrev pub seatAdded : View → Option (List ℕ) → (capabilities : ℕ) → Plan
+seatAdded v name caps =
+    let c = v .connection in
+    seatPlan (c .nextId) caps (seatEvents c (c .nextId) (versionOr1 (version c eiSeat)) name caps)
+
 unfoldable pub addSeat : View → Option (List ℕ) → (capabilities : ℕ) → Plan
 unfolding checkOptional checkCapabilities nameEvents capabilityEvents bitsOf versionOr1 version
-addSeat v name caps =
-    let c = v .connection in
-    let id = c .nextId in
-    checkOptional name
-    (checkCapabilities caps
-    (record {
-      outcome = Outcome.seat id;
-      events = on (c .id) (Event.Seat id (versionOr1 (version c eiSeat))) ∷ nameEvents id name ++ (capabilityEvents c id (bitsOf caps) ++ (on id Event.Done ∷ []));
-      edits = Edit.addSeat caps ∷ [];
-    }))
+addSeat v name caps = checkOptional name (checkCapabilities caps (seatAdded v name caps))
 
 unfoldable pub interfaceEvents : Connection → (device : ℕ) → List Interface → List Sent
 unfolding versionOr1 version interfaceOfBit
@@ -255,24 +259,27 @@ interfaceEvents c device (i ∷ is) =
     on device (Event.Interface (i .id) (interfaceOfBit (i .capability)) (versionOr1 (version c (interfaceOfBit (i .capability)))))
     ∷ interfaceEvents c device is
 
+-- a new device: itself on its seat, then on it its name, its type, its interfaces, done
+abbrev pub deviceEvents : Connection → (seat id version : ℕ) → Option (List ℕ) → (type capabilities : ℕ) → List Sent
+deviceEvents c seat id version name type caps =
+    on seat (Event.Device id version)
+    ∷ nameEvents id name
+    ++ (on id (Event.DeviceType type) ∷ interfaceEvents c id (newInterfaces id caps) ++ (on id Event.Done ∷ []))
+
+abbrev pub devicePlan : (id seat capabilities : ℕ) → List Sent → Plan
+devicePlan id seat caps events = record { outcome = Outcome.device id; events = events; edits = Edit.addDevice seat caps ∷ [] }
+
+abbrev pub deviceAdded : View → (seat : ℕ) → Option (List ℕ) → (type capabilities : ℕ) → Plan
+deviceAdded v seat name type caps =
+    let c = v .connection in
+    devicePlan (c .nextId) seat caps (deviceEvents c seat (c .nextId) (versionOr1 (version c eiDevice)) name type caps)
+
 -- "Capabilities that were not advertised on the seat will be ignored." (`Seat::add_device`)
 unfoldable pub addDevice : View → (seat : ℕ) → Option (List ℕ) → (type capabilities : ℕ) → Plan
 unfolding checkOptional checkCapabilities onFound seatOf refuse common nameEvents interfaceEvents newInterfaces versionOr1 version
 addDevice v seat name type caps =
-    let c = v .connection in
-    let id = c .nextId in
     checkOptional name
-    (checkCapabilities caps
-    (onFound (seatOf seat v) (refuse 12) λ s.
-    let both = common caps (s .capabilities) in
-    record {
-      outcome = Outcome.device id;
-      events =
-          on seat (Event.Device id (versionOr1 (version c eiDevice)))
-          ∷ nameEvents id name
-          ++ (on id (Event.DeviceType type) ∷ interfaceEvents c id (newInterfaces id both) ++ (on id Event.Done ∷ []));
-      edits = Edit.addDevice seat both ∷ [];
-    }))
+    (checkCapabilities caps (onFound (seatOf seat v) (refuse 12) λ s. deviceAdded v seat name type (common caps (s .capabilities))))
 
 -- destroyed for each object in turn, with the serials that follow the last one
 unfoldable pub destroyed : (lastSerial : ℕ) → List ℕ → List Sent
@@ -327,16 +334,20 @@ explained none = false
 explained (some text) = true
 
 -- every seat goes, then disconnected: "`disconnected` uses the last serial unraised"
+abbrev pub farewell : View → (reason : ℕ) → Option (List ℕ) → List Sent
+farewell v reason explanation =
+    let c = v .connection in
+    let gone = seatsObjects (c .seats) (v .devices) in
+    let last = raised (length gone) (c .lastSerial) in
+    destroyed (c .lastSerial) gone
+    ++ (record { object = c .id; event = Event.Disconnected last reason (explained explanation); text = explanationText explanation } ∷ [])
+
 unfoldable pub disconnected : View → (reason : ℕ) → Option (List ℕ) → Plan
 unfolding checkOptional send destroyed seatsObjects raised explained explanationText removeSeats
 disconnected v reason explanation =
     let c = v .connection in
-    let gone = seatsObjects (c .seats) (v .devices) in
-    let last = raised (length gone) (c .lastSerial) in
     checkOptional explanation
-    (send
-    (destroyed (c .lastSerial) gone ++ (record { object = c .id; event = Event.Disconnected last reason (explained explanation); text = explanationText explanation } ∷ []))
-    (Edit.raise (length gone) ∷ removeSeats (c .seats)))
+    (send (farewell v reason explanation) (Edit.raise (length (seatsObjects (c .seats) (v .devices))) ∷ removeSeats (c .seats)))
 
 -- one event on a known device, with the next serial
 unfoldable pub notify : View → (device : ℕ) → (ℕ → Event) → (ℕ → List Edit) → Plan

@@ -14,7 +14,7 @@ use Rattle.model.specs.Call.{Kind, Sight, Split}
 use Rattle.model.specs.Session.{Untimed, Request, Device, Session, view}
 use Rattle.model.specs.Edit.{Amend, Edit, enact, enactAll}
 use Rattle.model.specs.Plan.{Sent, records, Outcome, Plan, answer, edit, send}
-use Rattle.model.specs.Decide.{Found, Rule, handler, pendAfter, decide}
+use Rattle.model.specs.Decide.{Found, Rule, handler, pendAfter, seatPlan, devicePlan, decide}
 use Rattle.model.specs.Step.{Step, gaveAll, carriedOut, textsBy, texts, textBytes, Counts, counts, over, anyOver, limits, refuses, unchanged, settled, bytesNeeded, limited, step}
 use Rattle.model.proofs.All.{All, none, more}
 use Rattle.model.proofs.Within.{settled-refused, settled-accepted}
@@ -153,12 +153,6 @@ module _ {P : Type 0} where
   all-waiting l (d ∷ ds) h = more (h 0 (omega arith)) (all-waiting l ds (λ k i. h (suc k) (suc-le-suc i)))
 
 -- ---- a step by its plan
-
-abbrev pub seatPlan : (id caps : ℕ) → List Sent → Plan
-seatPlan id caps events = record { outcome = Outcome.seat id; events = events; edits = Edit.addSeat caps ∷ [] }
-
-abbrev pub devicePlan : (id seat caps : ℕ) → List Sent → Plan
-devicePlan id seat caps events = record { outcome = Outcome.device id; events = events; edits = Edit.addDevice seat caps ∷ [] }
 
 abbrev pub deliverPlan : Plan
 deliverPlan = record { outcome = Outcome.given; events = []; edits = Edit.deliver ∷ [] }

@@ -17,16 +17,15 @@ use Rattle.model.specs.Call.{Load, Plain, Call, Split, mapCall, split}
 use Rattle.model.specs.Session.{Seat, Connection, View, view}
 use Rattle.model.specs.Edit.{Edit}
 use Rattle.model.specs.Plan.{Sent, records, refusal, refuse}
-use Rattle.model.specs.Decide.{onFound, seatOf, version, versionOr1, checkCapabilities, addDevice, decidePlain, decide}
+use Rattle.model.specs.Decide.{onFound, seatOf, version, versionOr1, checkCapabilities, deviceEvents, devicePlan, addDevice, decidePlain, decide}
 use Rattle.model.specs.Step.{refuses, step}
-use Rattle.model_steps.proofs.Steps.{devicePlan, step-device-full, step-device-spent, step-device-short, step-device}
+use Rattle.model_steps.proofs.Steps.{step-device-full, step-device-spent, step-device-short, step-device}
 use Rattle.control.specs.Table.{first}
 use Rattle.control.specs.Control.{deviceCount, seatAt, connectionOf}
 use Rattle.session.specs.View.{Store, store, session, Whole}
 use Rattle.session.specs.Enact.{EnactedControl}
 use Rattle.session.proofs.Views.{connection-is, view-connection, devices-length, found-seat, no-seat}
 use Rattle.events.specs.Events.{Sends}
-use Rattle.events.specs.Announce.{deviceEvents}
 use Rattle.answers.specs.declared.Checked.{Checked}
 use Rattle.answers.specs.declared.Error.{Error}
 use Rattle.answers.specs.declared.Outcome.{Outcome}

@@ -10,12 +10,11 @@ use Rattle.eiproto.specs.Enum.{deviceTypeNumber}
 use Rattle.eiproto.specs.Interface.{eiDevice}
 use Rattle.wire.proofs.Ids.{ids-left, ids-spent}
 use Rattle.model.specs.Plan.{records}
-use Rattle.model.specs.Decide.{version, versionOr1}
+use Rattle.model.specs.Decide.{version, versionOr1, deviceEvents}
 use Rattle.control.specs.Control.{deviceCount, seatAt, connectionOf}
 use Rattle.session.specs.View.{store}
 use Rattle.session.specs.Slices.{optional}
 use Rattle.session.proofs.Views.{seat-bound}
-use Rattle.events.specs.Announce.{deviceEvents}
 use Rattle.seat.proofs.Added.{common-small, added-full, added-spent, added-short, added-done}
 use Rattle.seat.proofs.add_device_at.Statement.{statement}
 use Rattle.seat.proofs.add_device_at.Tie as tie
