@@ -4,9 +4,6 @@ ghost use Rattle.session.specs.Slices.{optional};
 ghost use Rattle.answers.specs.Answer.{numberOf};
 ghost use Rattle.answers.specs.Check.{Checks};
 
-// The bytes of a name or an explanation, at most.
-pub const NAME_LIMIT: usize = 254;
-
 // The most bytes of a name or an explanation; a longer one is `NameLong`.
 pub const NAME_LENGTH_LIMIT: usize = 254;
 
@@ -134,7 +131,7 @@ pub fn check_optional(given: bool, text: &[u8]) -> Checked
     if !utf8::valid(text) {
         return Checked::Refused(Error::BadUtf8);
     }
-    if NAME_LIMIT < text.len() {
+    if NAME_LENGTH_LIMIT < text.len() {
         return Checked::Refused(Error::NameLong);
     }
     Checked::Fine

@@ -1,5 +1,5 @@
 -- Stores into the control words, as changes of what they mean. Assumes nothing.
-use Prim.Native.Nat.{ℕ, _+_, _*_, _%_, _^_, _≤_, _<_}
+use Prim.Native.Nat.{ℕ, _+_, _%_, _^_, _≤_, _<_}
 use mathlib.Core.Path.{_≡_, refl, ap, sym, _∙_}
 use mathlib.Core.Bool.{false, cond}
 use mathlib.Core.List.{List, [], _∷_, _++_, map}
@@ -10,8 +10,9 @@ use lib.Seq.{getD-set-same, getD-set-other}
 use Rattle.eiproto.specs.Bits.{bit}
 use Rattle.model.specs.Session.{Interface}
 use Rattle.model.specs.Edit.{connectionWith}
+use Rattle.touches.specs.Touches.{touchesLimit}
 use Rattle.control.specs.Table.{tab}
-use Rattle.control.specs.Control.{seatCount, deviceCount, deviceWord, capabilitiesAt, linkedAt, seatAt, connectionOf, interfacesOn, coreAt}
+use Rattle.control.specs.Control.{seatsLimit, devicesLimit, pendingLimit, queueLimit, seatWords, versionPlace, seatPlace, devicePlace, seatCount, deviceCount, deviceWord, capabilitiesAt, linkedAt, seatAt, connectionOf, interfacesOn, coreAt}
 use Rattle.control.specs.Sound.{Sound}
 use Rattle.control.proofs.Tables.{case-eq, tab-ext, tab-push}
 use Rattle.control.specs.Change.{Reconnected, Amended, Appended, Requeued, newCore, withPending, withInterfaces, unlinkedBit, withSeats, withSerial, withNextId}
@@ -57,7 +58,7 @@ module _ (c : List ℕ) (ok : Sound c) where
     word-set s n not is at =
         reconnected c (set c p v) (connectionWith (connectionOf c .seats) s n (connectionOf c)) ok (length-set c p v ∙ ok .long)
         (omega (arith, ok .seats, rest 3 (λ z. omega arith))) (λ j a b. rest j (λ z. omega arith)) (λ j a. rest j (λ z. omega arith))
-        (connection-with c (set c p v) (connectionOf c .seats) s n (rest 0 (λ z. not (omega arith))) (λ i l. rest (8 + i) (λ z. omega arith)) seats-same is at)
+        (connection-with c (set c p v) (connectionOf c .seats) s n (rest 0 (λ z. not (omega arith))) (λ i l. rest (versionPlace i) (λ z. omega arith)) seats-same is at)
 
   pub serial-set : (serial v : ℕ) → serial < 2 ^ 32 → v ≡ serial → Reconnected c (set c 1 v) (withSerial serial (connectionOf c))
   unfolding connectionOf
@@ -71,7 +72,7 @@ module _ (c : List ℕ) (ok : Sound c) where
       word-set 2 id (omega arith) (connectionOf c .lastSerial) id (λ z. omega arith)
       (ap (λ (x : ℕ). x % 2 ^ 32) (rest 2 id (omega arith) 1 (λ z. omega arith))) (getD-set-same c 2 id 0 (omega (arith, ok .long)))
 
-  pub queue-set : (head queued : ℕ) → head < 256 → queued ≤ 256 → Requeued c (set (set c 5 head) 6 queued) head queued
+  pub queue-set : (head queued : ℕ) → head < queueLimit → queued ≤ queueLimit → Requeued c (set (set c 5 head) 6 queued) head queued
   queue-set head queued h q =
       let v : ℕ → ℕ = λ f. getD (head ∷ queued ∷ []) f 0 in
       let w = wrote-one {v = v} 6 queued refl refl (omega (arith, ok .long)) (wrote-one 5 head refl refl (omega (arith, ok .long)) (wrote-none c 5 v)) in
@@ -79,23 +80,23 @@ module _ (c : List ℕ) (ok : Sound c) where
       (w .here 1 (omega arith))
 
 -- d has a seat's words behind the last seat
-module _ (c d : List ℕ) (ok : Sound c) (id caps : ℕ) (room : seatCount c < 4) (w : Wrote c d (20 + 2 * seatCount c) 2 (λ f. getD (id ∷ caps ∷ []) f 0)) where
+module _ (c d : List ℕ) (ok : Sound c) (id caps : ℕ) (room : seatCount c < seatsLimit) (w : Wrote c d (seatPlace (seatCount c)) seatWords (λ f. getD (id ∷ caps ∷ []) f 0)) where
   abbrev seated : List ℕ
   seated = set d 3 (seatCount c + 1)
 
-  seat-off : (j : ℕ) → (j ≡ 3 → ⊥) → (20 + 2 * seatCount c ≤ j → j < 20 + 2 * seatCount c + 2 → ⊥) → getD seated j 0 ≡ getD c j 0
+  seat-off : (j : ℕ) → (j ≡ 3 → ⊥) → (seatPlace (seatCount c) ≤ j → j < seatPlace (seatCount c) + seatWords → ⊥) → getD seated j 0 ≡ getD c j 0
   seat-off j n h = getD-set-other d 3 j (seatCount c + 1) 0 n ∙ w .other j h
 
   seat-count : seatCount seated ≡ seatCount c + 1
   seat-count = getD-set-same d 3 (seatCount c + 1) 0 (omega (arith, w .long, ok .long))
 
-  seat-word : (f : ℕ) → f < 2 → getD seated (20 + 2 * seatCount c + f) 0 ≡ getD (id ∷ caps ∷ []) f 0
-  seat-word f l = getD-set-other d 3 (20 + 2 * seatCount c + f) (seatCount c + 1) 0 (λ z. omega arith) ∙ w .here f l
+  seat-word : (f : ℕ) → f < seatWords → getD seated (seatPlace (seatCount c) + f) 0 ≡ getD (id ∷ caps ∷ []) f 0
+  seat-word f l = getD-set-other d 3 (seatPlace (seatCount c) + f) (seatCount c + 1) 0 (λ z. omega arith) ∙ w .here f l
 
   seat-here : seatAt seated (seatCount c) ≡ record { id = id; capabilities = caps % 128 }
   unfolding seatAt
   seat-here =
-      let z : 20 + 2 * seatCount c ≡ 20 + 2 * seatCount c + 0 = omega arith in
+      let z : seatPlace (seatCount c) ≡ seatPlace (seatCount c) + 0 = omega arith in
       let a = ap (λ (x : ℕ). getD seated x 0) z ∙ seat-word 0 (omega arith) in
       λ t. record { id = a t; capabilities = seat-word 1 (omega arith) t % 128 }
 
@@ -107,9 +108,9 @@ module _ (c d : List ℕ) (ok : Sound c) (id caps : ℕ) (room : seatCount c < 4
       (λ j a b. seat-off j (λ z. omega arith) (λ p q. omega arith))
       (λ j a. seat-off j (λ z. omega arith) (λ p q. omega arith))
       (connection-with c seated (tab (seatCount c) (seatAt c) ++ (record { id = id; capabilities = caps % 128 } ∷ [])) (getD c 1 0 % 2 ^ 32) (getD c 2 0)
-      (seat-off 0 (λ z. omega arith) (λ p q. omega arith)) (λ i l. seat-off (8 + i) (λ z. omega arith) (λ p q. omega arith))
+      (seat-off 0 (λ z. omega arith) (λ p q. omega arith)) (λ i l. seat-off (versionPlace i) (λ z. omega arith) (λ p q. omega arith))
       (tab-push (seatCount c) (seatCount seated) (seatAt c) (seatAt seated) (record { id = id; capabilities = caps % 128 }) seat-count seat-here
-      (λ j l. seat-ext c seated j j (λ f q. seat-off (20 + 2 * j + f) (λ z. omega arith) (λ p r. omega arith))))
+      (λ j l. seat-ext c seated j j (λ f q. seat-off (seatPlace j + f) (λ z. omega arith) (λ p r. omega arith))))
       (ap (λ (x : ℕ). x % 2 ^ 32) (seat-off 1 (λ z. omega arith) (λ p q. omega arith))) (seat-off 2 (λ z. omega arith) (λ p q. omega arith)))
 
 -- the first six words of a new device's row
@@ -117,13 +118,13 @@ abbrev pub newWords : (id seat mask : ℕ) → ℕ → ℕ
 newWords id seat mask f = getD (id ∷ seat ∷ mask ∷ mask ∷ 0 ∷ 0 ∷ []) f 0
 
 -- d has them behind the last device
-module _ (c d : List ℕ) (ok : Sound c) (id seat mask : ℕ) (small : mask < 128) (room : deviceCount c < 8)
-    (w : Wrote c d (32 + 24 * deviceCount c) 6 (newWords id seat mask)) where
+module _ (c d : List ℕ) (ok : Sound c) (id seat mask : ℕ) (small : mask < 128) (room : deviceCount c < devicesLimit)
+    (w : Wrote c d (devicePlace (deviceCount c)) 6 (newWords id seat mask)) where
   abbrev more : List ℕ
   more = set d 4 (deviceCount c + 1)
 
   new-word : (f : ℕ) → f < 6 → deviceWord more (deviceCount c) f ≡ newWords id seat mask f
-  new-word f l = getD-set-other d 4 (32 + 24 * deviceCount c + f) (deviceCount c + 1) 0 (λ z. omega arith) ∙ w .here f l
+  new-word f l = getD-set-other d 4 (devicePlace (deviceCount c) + f) (deviceCount c + 1) 0 (λ z. omega arith) ∙ w .here f l
 
   new-here : coreAt more (deviceCount c) ≡ newCore id seat mask
   unfolding coreAt newCore
@@ -133,7 +134,7 @@ module _ (c d : List ℕ) (ok : Sound c) (id seat mask : ℕ) (small : mask < 12
         id = new-word 0 (omega arith) t;
         seat = new-word 1 (omega arith) t;
         interfaces = interfacesOn (new-word 0 (omega arith) t) (known t) (new-word 3 (omega arith) t);
-        downTouchIds = take (new-word 5 (omega arith) t) (tab 16 (λ j. deviceWord more (deviceCount c) (6 + j) % 2 ^ 32));
+        downTouchIds = take (new-word 5 (omega arith) t) (tab touchesLimit (λ j. deviceWord more (deviceCount c) (6 + j) % 2 ^ 32));
         pending = new-word 4 (omega arith) t;
       }
 
@@ -146,14 +147,14 @@ module _ (c d : List ℕ) (ok : Sound c) (id seat mask : ℕ) (small : mask < 12
 
 -- one word of a row set
 module _ (c : List ℕ) (ok : Sound c) (k : ℕ) (in-table : k < deviceCount c) where
-  pub pending-set : (n : ℕ) → n ≤ 64 → Amended c (set c (32 + 24 * k + 4) n) k (withPending n (coreAt c k))
+  pub pending-set : (n : ℕ) → n ≤ pendingLimit → Amended c (set c (devicePlace k + 4) n) k (withPending n (coreAt c k))
   unfolding coreAt
   pending-set n few =
-      let e = set c (32 + 24 * k + 4) n in
-      let off : (j : ℕ) → (j ≡ 32 + 24 * k + 4 → ⊥) → getD e j 0 ≡ getD c j 0 = λ j h. getD-set-other c (32 + 24 * k + 4) j n 0 h in
-      let here : getD e (32 + 24 * k + 4) 0 ≡ n = getD-set-same c (32 + 24 * k + 4) n 0 (omega (arith, ok .long, ok .devices)) in
-      let word : (f : ℕ) → (f ≡ 4 → ⊥) → deviceWord e k f ≡ deviceWord c k f = λ f h. off (32 + 24 * k + f) (λ z. h (omega arith)) in
-      amended c e k (withPending n (coreAt c k)) ok (length-set c (32 + 24 * k + 4) n ∙ ok .long) (λ j h. off j (λ z. h (omega arith) (omega arith)))
+      let e = set c (devicePlace k + 4) n in
+      let off : (j : ℕ) → (j ≡ devicePlace k + 4 → ⊥) → getD e j 0 ≡ getD c j 0 = λ j h. getD-set-other c (devicePlace k + 4) j n 0 h in
+      let here : getD e (devicePlace k + 4) 0 ≡ n = getD-set-same c (devicePlace k + 4) n 0 (omega (arith, ok .long, ok .devices)) in
+      let word : (f : ℕ) → (f ≡ 4 → ⊥) → deviceWord e k f ≡ deviceWord c k f = λ f h. off (devicePlace k + f) (λ z. h (omega arith)) in
+      amended c e k (withPending n (coreAt c k)) ok (length-set c (devicePlace k + 4) n ∙ ok .long) (λ j h. off j (λ z. h (omega arith) (omega arith)))
       (omega arith) (omega (arith, ok .held k in-table, word 5 (λ z. omega arith)))
       (λ t. record {
         id = word 0 (λ z. omega arith) t;
@@ -161,22 +162,22 @@ module _ (c : List ℕ) (ok : Sound c) (k : ℕ) (in-table : k < deviceCount c) 
         interfaces = interfacesOn (word 0 (λ z. omega arith) t) (word 2 (λ z. omega arith) t % 128) (word 3 (λ z. omega arith) t);
         downTouchIds =
             take (word 5 (λ z. omega arith) t)
-            (tab-ext 16 (λ j. deviceWord e k (6 + j) % 2 ^ 32) (λ j. deviceWord c k (6 + j) % 2 ^ 32)
+            (tab-ext touchesLimit (λ j. deviceWord e k (6 + j) % 2 ^ 32) (λ j. deviceWord c k (6 + j) % 2 ^ 32)
             (λ j l. ap (λ (x : ℕ). x % 2 ^ 32) (word (6 + j) (λ z. omega arith))) t);
         pending = here t;
       })
 
   pub linked-set : (b after : ℕ) → ((x : ℕ) → bit x after ≡ cond (eqb x b) false (bit x (linkedAt c k)))
-      → Amended c (set c (32 + 24 * k + 3) after) k (withInterfaces (map (unlinkedBit b) (coreAt c k .interfaces)) (coreAt c k))
+      → Amended c (set c (devicePlace k + 3) after) k (withInterfaces (map (unlinkedBit b) (coreAt c k .interfaces)) (coreAt c k))
   unfolding coreAt
   linked-set b after h =
-      let e = set c (32 + 24 * k + 3) after in
-      let off : (j : ℕ) → (j ≡ 32 + 24 * k + 3 → ⊥) → getD e j 0 ≡ getD c j 0 = λ j h. getD-set-other c (32 + 24 * k + 3) j after 0 h in
-      let here : getD e (32 + 24 * k + 3) 0 ≡ after = getD-set-same c (32 + 24 * k + 3) after 0 (omega (arith, ok .long, ok .devices)) in
-      let word : (f : ℕ) → (f ≡ 3 → ⊥) → deviceWord e k f ≡ deviceWord c k f = λ f h. off (32 + 24 * k + f) (λ z. h (omega arith)) in
+      let e = set c (devicePlace k + 3) after in
+      let off : (j : ℕ) → (j ≡ devicePlace k + 3 → ⊥) → getD e j 0 ≡ getD c j 0 = λ j h. getD-set-other c (devicePlace k + 3) j after 0 h in
+      let here : getD e (devicePlace k + 3) 0 ≡ after = getD-set-same c (devicePlace k + 3) after 0 (omega (arith, ok .long, ok .devices)) in
+      let word : (f : ℕ) → (f ≡ 3 → ⊥) → deviceWord e k f ≡ deviceWord c k f = λ f h. off (devicePlace k + f) (λ z. h (omega arith)) in
       let w0 = word 0 (λ z. omega arith) in
       let w2 = word 2 (λ z. omega arith) in
-      amended c e k (withInterfaces (map (unlinkedBit b) (coreAt c k .interfaces)) (coreAt c k)) ok (length-set c (32 + 24 * k + 3) after ∙ ok .long)
+      amended c e k (withInterfaces (map (unlinkedBit b) (coreAt c k .interfaces)) (coreAt c k)) ok (length-set c (devicePlace k + 3) after ∙ ok .long)
       (λ j h. off j (λ z. h (omega arith) (omega arith))) (omega (arith, ok .pending k in-table, word 4 (λ z. omega arith)))
       (omega (arith, ok .held k in-table, word 5 (λ z. omega arith)))
       (λ t. record {
@@ -187,7 +188,7 @@ module _ (c : List ℕ) (ok : Sound c) (k : ℕ) (in-table : k < deviceCount c) 
             ∙ unlinked-bit (deviceWord c k 0) (capabilitiesAt c k) (linkedAt c k) b after h) t;
         downTouchIds =
             take (word 5 (λ z. omega arith) t)
-            (tab-ext 16 (λ j. deviceWord e k (6 + j) % 2 ^ 32) (λ j. deviceWord c k (6 + j) % 2 ^ 32)
+            (tab-ext touchesLimit (λ j. deviceWord e k (6 + j) % 2 ^ 32) (λ j. deviceWord c k (6 + j) % 2 ^ 32)
             (λ j l. ap (λ (x : ℕ). x % 2 ^ 32) (word (6 + j) (λ z. omega arith))) t);
         pending = word 4 (λ z. omega arith) t;
       })

@@ -1,5 +1,5 @@
 -- Words worked out by hand from the layout, and what they say. Assumes nothing.
-use Prim.Native.Nat.{ℕ}
+use Prim.Native.Nat.{ℕ, _+_, _-_}
 use mathlib.Core.Path.{_≡_, refl}
 use mathlib.Core.Bool.{true, false}
 use mathlib.Core.List.{List, [], _∷_, _++_, map}
@@ -8,7 +8,7 @@ use lib.ListN.{set, replicate}
 use Rattle.eiproto.specs.Bits.{bitsOf, bitsBelow}
 use Rattle.model.specs.Decide.{version, linksIn}
 use Rattle.control.specs.Table.{tab, first, mapOption}
-use Rattle.control.specs.Control.{versionIn, seatAt, versionsOf, connectionOf, interfaceId, interfaceOn, interfacesOn, coreAt, coresOf}
+use Rattle.control.specs.Control.{controlLength, devicePlace, versionIn, seatAt, versionsOf, connectionOf, interfaceId, interfaceOn, interfacesOn, coreAt, coresOf}
 use Rattle.control.specs.Sound.{rowSound, rowsSound, isSound}
 
 -- Connection 5, last serial 7, next id 100, one seat, one device, nothing queued; version 2 of the first interface, version 0 of the third, no other;
@@ -18,7 +18,7 @@ words : List ℕ
 words =
     (5 ∷ 7 ∷ 100 ∷ 1 ∷ 1 ∷ 0 ∷ 0 ∷ 0 ∷ [])
     ++ ((3 ∷ 0 ∷ 1 ∷ 0 ∷ 0 ∷ 0 ∷ 0 ∷ 0 ∷ 0 ∷ 0 ∷ 0 ∷ 0 ∷ [])
-    ++ ((8 ∷ 127 ∷ 0 ∷ 0 ∷ 0 ∷ 0 ∷ 0 ∷ 0 ∷ 0 ∷ 0 ∷ 0 ∷ 0 ∷ []) ++ ((20 ∷ 8 ∷ 69 ∷ 65 ∷ 3 ∷ 2 ∷ 9 ∷ 0 ∷ 4 ∷ []) ++ replicate 183 0)))
+    ++ ((8 ∷ 127 ∷ 0 ∷ 0 ∷ 0 ∷ 0 ∷ 0 ∷ 0 ∷ 0 ∷ 0 ∷ 0 ∷ 0 ∷ []) ++ ((20 ∷ 8 ∷ 69 ∷ 65 ∷ 3 ∷ 2 ∷ 9 ∷ 0 ∷ 4 ∷ []) ++ replicate (controlLength - 41) 0)))
 
 sound-words : isSound words ≡ true
 unfolding isSound rowsSound rowSound words
@@ -30,11 +30,11 @@ unfolding isSound words
 long-words = refl
 
 -- 65 pending on the device is above the limit; behind the last device it is no count
-full-words : isSound (set words 36 65) ≡ false
+full-words : isSound (set words (devicePlace 0 + 4) 65) ≡ false
 unfolding isSound rowsSound rowSound words
 full-words = refl
 
-spare-words : isSound (set words 60 65) ≡ true
+spare-words : isSound (set words (devicePlace 1 + 4) 65) ≡ true
 unfolding isSound rowsSound rowSound words
 spare-words = refl
 

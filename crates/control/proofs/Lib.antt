@@ -7,6 +7,7 @@ pub mod Examples
 pub mod Views
 pub mod LinkBits
 pub mod Changes
+pub mod Shifts
 pub mod Rows
 pub mod Lists
 pub mod Touches

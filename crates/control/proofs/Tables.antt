@@ -2,7 +2,7 @@
 use Prim.Native.Nat.{ℕ, zero, suc, _+_, _≤_, _<_}
 use mathlib.Core.Path.{_≡_, refl, ap, ap₂, _∙_}
 use mathlib.Core.Bool.{Bool, true, false}
-use mathlib.Core.List.{List, [], _∷_, _++_}
+use mathlib.Core.List.{List, [], _∷_, _++_, map}
 use mathlib.Core.Logic.{dite}
 use mathlib.Core.Option.{none, some}
 use native.Mathlib.Decide.{decLt}
@@ -81,3 +81,8 @@ module _ {A : Type 0} where
   tab-first-none t zero f h = refl
   tab-first-none t (suc n) f h =
       rw (h 0 (omega arith)) (ap (mapOption (λ j. suc j)) (tab-first-none t n (λ j. f (suc j)) (λ j q. h (suc j) (omega arith))))
+
+pub tab-map : {A B : Type 0} (h : A → B) (n : ℕ) (f : ℕ → A) → map h (tab n f) ≡ tab n (λ k. h (f k))
+unfolding tab
+tab-map h zero f = refl
+tab-map {A} {B} h (suc n) f = ap (λ (xs : List B). h (f 0) ∷ xs) (tab-map h n (λ k. f (suc k)))

@@ -1,5 +1,5 @@
 -- A row's held touches, read and written. Assumes nothing.
-use Prim.Native.Nat.{ℕ, _+_, _*_, _%_, _^_, _≤_, _<_}
+use Prim.Native.Nat.{ℕ, _+_, _%_, _^_, _≤_, _<_}
 use mathlib.Core.Path.{_≡_, ap, sym, _∙_}
 use mathlib.Core.List.{List}
 use native.Mathlib.Nat.{mod-eq-of-lt}
@@ -7,10 +7,10 @@ use native.Mathlib.Omega.{arith}
 use lib.ListN.{length, getD, set, take, length-set}
 use lib.Seq.{ext-getD, length-take-le, getD-take, getD-set-same, getD-set-other}
 use Rattle.touches.specs.declared.DownTouchIds.{DownTouchIds}
-use Rattle.touches.specs.Touches.{held}
+use Rattle.touches.specs.Touches.{touchesLimit, held}
 use Rattle.touches.specs.Changes.{Holds}
 use Rattle.control.specs.Table.{tab}
-use Rattle.control.specs.Control.{deviceCount, deviceWord, heldAt, interfacesOn, coreAt}
+use Rattle.control.specs.Control.{devicePlace, deviceCount, deviceWord, heldAt, interfacesOn, coreAt}
 use Rattle.control.specs.Sound.{Sound}
 use Rattle.control.proofs.Tables.{tab-at, tab-length}
 use Rattle.control.specs.Change.{Amended, withTouches}
@@ -18,51 +18,51 @@ use Rattle.control.proofs.Views.{amended}
 use Rattle.control.proofs.Changes.{Wrote}
 
 -- the first n of sixteen values, where they are those of a table
-held-is : (xs : List ℕ) (n : ℕ) (f : ℕ → ℕ) → n ≤ 16 → length xs ≡ 16 → ((i : ℕ) → i < n → getD xs i 0 ≡ f i) → take n (tab 16 f) ≡ take n xs
+held-is : (xs : List ℕ) (n : ℕ) (f : ℕ → ℕ) → n ≤ touchesLimit → length xs ≡ touchesLimit → ((i : ℕ) → i < n → getD xs i 0 ≡ f i) → take n (tab touchesLimit f) ≡ take n xs
 held-is xs n f few l h =
-    let long : length (take n (tab 16 f)) ≡ n = length-take-le n (tab 16 f) (omega (arith, tab-length 16 f)) in
-    ext-getD 0 (take n (tab 16 f)) (take n xs) (long ∙ sym (length-take-le n xs (omega arith)))
+    let long : length (take n (tab touchesLimit f)) ≡ n = length-take-le n (tab touchesLimit f) (omega (arith, tab-length touchesLimit f)) in
+    ext-getD 0 (take n (tab touchesLimit f)) (take n xs) (long ∙ sym (length-take-le n xs (omega arith)))
     (λ i q.
     let below : i < n = omega (arith, long) in
-    getD-take n (tab 16 f) i 0 below ∙ tab-at 16 f i 0 (omega arith) ∙ sym (getD-take n xs i 0 below ∙ h i below))
+    getD-take n (tab touchesLimit f) i 0 below ∙ tab-at touchesLimit f i 0 (omega arith) ∙ sym (getD-take n xs i 0 below ∙ h i below))
 
 module _ (c : List ℕ) (ok : Sound c) (k : ℕ) (in-table : k < deviceCount c) where
-  pub touches-read : (ids : List ℕ) → length ids ≡ 16 → ((i : ℕ) → i < heldAt c k → getD ids i 0 ≡ deviceWord c k (6 + i) % 2 ^ 32)
+  pub touches-read : (ids : List ℕ) → length ids ≡ touchesLimit → ((i : ℕ) → i < heldAt c k → getD ids i 0 ≡ deviceWord c k (6 + i) % 2 ^ 32)
       → Holds (coreAt c k .downTouchIds) (record { ids = ids; count = heldAt c k })
   unfolding coreAt
   touches-read ids l h =
-      let few : heldAt c k ≤ 16 = ok .held k in-table in
+      let few : heldAt c k ≤ touchesLimit = ok .held k in-table in
       let e = held-is ids (heldAt c k) (λ i. deviceWord c k (6 + i) % 2 ^ 32) few l h in
       record { ids-are = sym e; counted = sym (ap length e ∙ length-take-le (heldAt c k) ids (omega arith)); within = few }
 
-  module _ (e : List ℕ) (t : DownTouchIds) (few : t .count ≤ 16) (l : length (t .ids) ≡ 16) (small : (i : ℕ) → i < t .count → getD (t .ids) i 0 < 2 ^ 32)
-      (w : Wrote (set c (32 + 24 * k + 5) (t .count)) e (32 + 24 * k + 6) (t .count) (λ i. getD (t .ids) i 0)) where
-    off : (j : ℕ) → (32 + 24 * k + 5 ≤ j → j < 32 + 24 * k + 22 → ⊥) → getD e j 0 ≡ getD c j 0
-    off j h = w .other j (λ a b. h (omega arith) (omega arith)) ∙ getD-set-other c (32 + 24 * k + 5) j (t .count) 0 (λ z. h (omega arith) (omega arith))
+  module _ (e : List ℕ) (t : DownTouchIds) (few : t .count ≤ touchesLimit) (l : length (t .ids) ≡ touchesLimit) (small : (i : ℕ) → i < t .count → getD (t .ids) i 0 < 2 ^ 32)
+      (w : Wrote (set c (devicePlace k + 5) (t .count)) e (devicePlace k + 6) (t .count) (λ i. getD (t .ids) i 0)) where
+    off : (j : ℕ) → (devicePlace k + 5 ≤ j → j < devicePlace k + (6 + touchesLimit) → ⊥) → getD e j 0 ≡ getD c j 0
+    off j h = w .other j (λ a b. h (omega arith) (omega arith)) ∙ getD-set-other c (devicePlace k + 5) j (t .count) 0 (λ z. h (omega arith) (omega arith))
 
     word : (f : ℕ) → f < 5 → deviceWord e k f ≡ deviceWord c k f
-    word f q = off (32 + 24 * k + f) (λ a b. omega arith)
+    word f q = off (devicePlace k + f) (λ a b. omega arith)
 
     count : deviceWord e k 5 ≡ t .count
-    count = w .other (32 + 24 * k + 5) (λ a b. omega arith) ∙ getD-set-same c (32 + 24 * k + 5) (t .count) 0 (omega (arith, ok .long, ok .devices))
+    count = w .other (devicePlace k + 5) (λ a b. omega arith) ∙ getD-set-same c (devicePlace k + 5) (t .count) 0 (omega (arith, ok .long, ok .devices))
 
     id-at : (i : ℕ) → i < t .count → getD (t .ids) i 0 ≡ deviceWord e k (6 + i) % 2 ^ 32
     id-at i q =
-        let z : 32 + 24 * k + 6 + i ≡ 32 + 24 * k + (6 + i) = omega arith in
+        let z : devicePlace k + 6 + i ≡ devicePlace k + (6 + i) = omega arith in
         let y : deviceWord e k (6 + i) ≡ getD (t .ids) i 0 = ap (λ (x : ℕ). getD e x 0) (sym z) ∙ w .here i q in
         sym (ap (λ (x : ℕ). x % 2 ^ 32) y ∙ mod-eq-of-lt (small i q))
 
     pub touches-set : Amended c e k (withTouches (held t) (coreAt c k))
     unfolding coreAt
     touches-set =
-        amended c e k (withTouches (held t) (coreAt c k)) ok (w .long ∙ length-set c (32 + 24 * k + 5) (t .count) ∙ ok .long)
+        amended c e k (withTouches (held t) (coreAt c k)) ok (w .long ∙ length-set c (devicePlace k + 5) (t .count) ∙ ok .long)
         (λ j h. off j (λ a b. h (omega arith) (omega arith))) (omega (arith, ok .pending k in-table, word 4 (omega arith))) (omega (arith, count))
         (λ s. record {
           id = word 0 (omega arith) s;
           seat = word 1 (omega arith) s;
           interfaces = interfacesOn (word 0 (omega arith) s) (word 2 (omega arith) s % 128) (word 3 (omega arith) s);
           downTouchIds =
-              (ap (λ (n : ℕ). take n (tab 16 (λ i. deviceWord e k (6 + i) % 2 ^ 32))) count
+              (ap (λ (n : ℕ). take n (tab touchesLimit (λ i. deviceWord e k (6 + i) % 2 ^ 32))) count
               ∙ held-is (t .ids) (t .count) (λ i. deviceWord e k (6 + i) % 2 ^ 32) few l id-at) s;
           pending = word 4 (omega arith) s;
         })

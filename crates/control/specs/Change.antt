@@ -35,6 +35,13 @@ pub record Amended (c e : List ℕ) (k : ℕ) (to : Core) : Type 0 where
   pub queue : SameQueue c e
   pub sound : Sound e
 
+-- the same by what the change makes of the connection, and of the device in slot k
+abbrev pub Reconnects : (c e : List ℕ) → (Connection → Connection) → Type 0
+Reconnects c e change = Reconnected c e (change (connectionOf c))
+
+abbrev pub Amends : (c e : List ℕ) (k : ℕ) → (Core → Core) → Type 0
+Amends c e k change = Amended c e k (change (coreAt c k))
+
 -- the device `new` comes last, and no more changed
 pub record Appended (c e : List ℕ) (new : Core) : Type 0 where
   pub connection : connectionOf e ≡ connectionOf c

@@ -6,24 +6,45 @@ use mathlib.Core.Option.{Option, none, some}
 use lib.Dec.{eqb}
 use lib.ListN.{getD, take}
 use Rattle.eiproto.specs.Bits.{bit, bitsOf, bitsBelow}
+use Rattle.touches.specs.Touches.{touchesLimit}
 use Rattle.model.specs.Session.{Interface, Seat, Connection}
 use Rattle.control.specs.Table.{tab}
 
--- ---- the layout: 224 words
+-- ---- the limits: of all seats and devices, of each device's pending requests, and of the queue. That of a device's held touches is `touchesLimit`
+
+abbrev pub seatsLimit : ℕ
+seatsLimit = 4
+
+abbrev pub devicesLimit : ℕ
+devicesLimit = 8
+
+abbrev pub pendingLimit : ℕ
+pendingLimit = 64
+
+abbrev pub queueLimit : ℕ
+queueLimit = 256
+
+-- ---- the layout
 
 -- 0 the connection's id, 1 the last serial, 2 the next id, 3 the seats that stand, 4 the devices, 5 the place of the oldest queued request, 6 the queued requests,
--- 8 to 19 the versions, from 20 the seats, 2 words each, from 32 the devices, 24 words each
-abbrev pub controlLength : ℕ
-controlLength = 224
+-- 8 to 19 the versions, from 20 the rows of the seats, from 32 the rows of the devices. The words between are free
+abbrev pub seatWords : ℕ
+seatWords = 2
+
+abbrev pub deviceWords : ℕ
+deviceWords = 24
 
 abbrev pub versionPlace : ℕ → ℕ
 versionPlace i = 8 + i
 
 abbrev pub seatPlace : ℕ → ℕ
-seatPlace k = 20 + 2 * k
+seatPlace k = 20 + seatWords * k
 
 abbrev pub devicePlace : ℕ → ℕ
-devicePlace k = 32 + 24 * k
+devicePlace k = 32 + deviceWords * k
+
+abbrev pub controlLength : ℕ
+controlLength = devicePlace devicesLimit
 
 abbrev pub seatCount : List ℕ → ℕ
 seatCount c = getD c 3 0
@@ -38,7 +59,7 @@ abbrev pub queueLength : List ℕ → ℕ
 queueLength c = getD c 6 0
 
 -- word f of a device's row: 0 its id, 1 its seat, 2 the capabilities that it was made with, 3 those still linked, 4 how many requests are pending,
--- 5 how many touches are held, and from 6 on the ids of sixteen touches
+-- 5 how many touches are held, from 6 on the ids of sixteen touches; the words behind them are free
 abbrev pub deviceWord : List ℕ → (k f : ℕ) → ℕ
 deviceWord c k f = getD c (devicePlace k + f) 0
 
@@ -109,9 +130,12 @@ coreAt c k =
       id = deviceWord c k 0;
       seat = deviceWord c k 1;
       interfaces = interfacesOn (deviceWord c k 0) (capabilitiesAt c k) (linkedAt c k);
-      downTouchIds = take (heldAt c k) (tab 16 (λ j. deviceWord c k (6 + j) % 2 ^ 32));
+      downTouchIds = take (heldAt c k) (tab touchesLimit (λ j. deviceWord c k (6 + j) % 2 ^ 32));
       pending = pendingAt c k;
     }
+
+abbrev pub touchesAt : List ℕ → ℕ → List ℕ
+touchesAt c k = coreAt c k .downTouchIds
 
 unfoldable pub coresOf : List ℕ → List Core
 unfolding tab coreAt

@@ -1,8 +1,10 @@
-// The control words of a session, read where they are: `control` has 224 words (specs/Control). Each function but `sound` asks that they
-// are sound, or only that there are 224.
+// The control words of a session, read where they are (specs/Control says what each means). Each function but `sound` asks that they
+// are sound, or only that there are `CONTROL_LENGTH`.
 pub mod edits;
+mod layout;
 
 use eiproto::event::DeviceCapability;
+use touches::TOUCHES_LIMIT;
 ghost use mathlib.Core.Path.{_≡_};
 ghost use Prim.Native.Nat.{ℕ, _≤_, _<_};
 ghost use mathlib.Core.Bool.{true};
@@ -12,28 +14,21 @@ ghost use lib.ListN.{length, getD};
 ghost use Rattle.eiproto.specs.Bits.{bit};
 ghost use Rattle.model.specs.Decide.{version, versionOr1, linksIn, lists};
 ghost use Rattle.control.specs.Table.{first};
-ghost use Rattle.control.specs.Control.{controlLength, seatCount, deviceCount, queueHead, queueLength, capabilitiesAt, linkedAt};
+ghost use Rattle.control.specs.Control.{seatsLimit, devicesLimit, controlLength, seatCount, deviceCount, queueHead, queueLength, capabilitiesAt, linkedAt};
 ghost use Rattle.control.specs.Control.{connectionOf, seatAt, interfaceId, coreAt, coresOf};
 ghost use Rattle.control.specs.Sound.{rowSound, rowsSound, isSound, Sound};
 ghost use Rattle.control.specs.Answer.{slotTold, versionTold};
 
-pub const CONTROL_LENGTH: usize = 224;
-
-// Where the tables begin, and how many words a row has.
-pub const VERSIONS: usize = 8;
-
-pub const SEATS: usize = 20;
-
-pub const SEAT_WORDS: usize = 2;
-
-pub const DEVICES: usize = 32;
-
-pub const DEVICE_WORDS: usize = 24;
-
-// How many seats and devices a session has at most.
+// The most seats and devices, pending requests of a device, and queued requests.
 pub const SEATS_LIMIT: usize = 4;
 
 pub const DEVICES_LIMIT: usize = 8;
+
+pub const PENDING_LIMIT: usize = 64;
+
+pub const QUEUE_LIMIT: usize = 256;
+
+pub const CONTROL_LENGTH: usize = layout::DEVICES + layout::DEVICE_WORDS * DEVICES_LIMIT;
 
 // A place in a table.
 pub enum Slot {
@@ -49,33 +44,35 @@ pub enum Negotiated {
 
 // Whether the pending requests and the held touches of a row are within their limits.
 fn row_sound(control: &[u64], k: usize) -> bool
-    requires { ⌜ (length (now control) ≡ controlLength) × (k < 8) ⌝ }
+    requires { ⌜ (length (now control) ≡ controlLength) × (k < devicesLimit) ⌝ }
     ensures { λ r. ⌜ r ≡ rowSound (now (control .entry)) k ⌝ }
 {
-    let at = DEVICES + DEVICE_WORDS * k;
-    control[at + 4] <= 64 && control[at + 5] <= 16
+    let at = layout::DEVICES + layout::DEVICE_WORDS * k;
+    control[at + layout::PENDING] <= PENDING_LIMIT as u64
+        && control[at + layout::HELD] <= TOUCHES_LIMIT as u64
 }
 
-// Whether the counts of the first n rows are far enough below their limits that their bits together show it: a pass with no branch for a row. `false` says nothing.
+// Whether the counts of the first n rows are so far below their limits, which are powers of two, that their bits together show it: a pass
+// with no branch for a row. `false` says nothing.
 fn rows_low(control: &[u64], n: usize) -> bool
-    requires { ⌜ (length (now control) ≡ controlLength) × (n ≤ 8) ⌝ }
+    requires { ⌜ (length (now control) ≡ controlLength) × (n ≤ devicesLimit) ⌝ }
     ensures { λ r. ⌜ (r ≡ true → (k : ℕ) → k < n → rowSound (now (control .entry)) k ≡ true) ⌝ }
 {
     let mut pending: u64 = 0;
     let mut held: u64 = 0;
     let mut k: usize = 0;
     while k < n {
-        let at = DEVICES + DEVICE_WORDS * k;
-        pending = pending | control[at + 4];
-        held = held | control[at + 5];
+        let at = layout::DEVICES + layout::DEVICE_WORDS * k;
+        pending = pending | control[at + layout::PENDING];
+        held = held | control[at + layout::HELD];
         k += 1;
     }
-    pending < 64 && held < 16
+    pending < PENDING_LIMIT as u64 && held < TOUCHES_LIMIT as u64
 }
 
 // Whether the counts of the first n rows are within their limits.
 fn rows_sound(control: &[u64], n: usize) -> bool
-    requires { ⌜ (length (now control) ≡ controlLength) × (n ≤ 8) ⌝ }
+    requires { ⌜ (length (now control) ≡ controlLength) × (n ≤ devicesLimit) ⌝ }
     ensures { λ r. ⌜ r ≡ rowsSound (now (control .entry)) n ⌝ }
 {
     let mut k: usize = 0;
@@ -95,19 +92,19 @@ pub fn sound(control: &[u64]) -> bool
     if control.len() != CONTROL_LENGTH {
         return false;
     }
-    if (SEATS_LIMIT as u64) < control[3] {
-        return false;
-    }
-    if (DEVICES_LIMIT as u64) < control[4] {
-        return false;
-    }
-    if 256 <= control[5] {
-        return false;
-    }
-    if 256 < control[6] {
+    if SEATS_LIMIT < seat_count(control) {
         return false;
     }
     let n = device_count(control);
+    if DEVICES_LIMIT < n {
+        return false;
+    }
+    if QUEUE_LIMIT <= queue_head(control) {
+        return false;
+    }
+    if QUEUE_LIMIT < queue_length(control) {
+        return false;
+    }
     if rows_low(control, n) {
         return true;
     }
@@ -120,21 +117,21 @@ pub fn connection_id(control: &[u64]) -> u64
     requires { ⌜ length (now control) ≡ controlLength ⌝ }
     ensures { λ r. ⌜ r ≡ connectionOf (now (control .entry)) .id ⌝ }
 {
-    control[0]
+    control[layout::CONNECTION_ID]
 }
 
 pub fn last_serial(control: &[u64]) -> u32
     requires { ⌜ length (now control) ≡ controlLength ⌝ }
     ensures { λ r. ⌜ r ≡ connectionOf (now (control .entry)) .lastSerial ⌝ }
 {
-    (control[1] % 4294967296) as u32
+    (control[layout::LAST_SERIAL] % 4294967296) as u32
 }
 
 pub fn next_id(control: &[u64]) -> u64
     requires { ⌜ length (now control) ≡ controlLength ⌝ }
     ensures { λ r. ⌜ r ≡ connectionOf (now (control .entry)) .nextId ⌝ }
 {
-    control[2]
+    control[layout::NEXT_ID]
 }
 
 // The version at a place among the twelve.
@@ -142,7 +139,7 @@ fn version_at(control: &[u64], place: usize) -> Negotiated
     requires { ⌜ (length (now control) ≡ controlLength) × (place < 12) ⌝ }
     ensures { λ r. ⌜ versionTold r ≡ getD (connectionOf (now (control .entry)) .versions) place none ⌝ }
 {
-    let word = control[VERSIONS + place];
+    let word = control[layout::VERSIONS + place];
     if word == 0 {
         return Negotiated::Nothing;
     }
@@ -180,14 +177,14 @@ pub fn queue_head(control: &[u64]) -> usize
     requires { ⌜ length (now control) ≡ controlLength ⌝ }
     ensures { λ r. ⌜ r ≡ queueHead (now (control .entry)) ⌝ }
 {
-    control[5] as usize
+    control[layout::QUEUE_HEAD] as usize
 }
 
 pub fn queue_length(control: &[u64]) -> usize
     requires { ⌜ length (now control) ≡ controlLength ⌝ }
     ensures { λ r. ⌜ r ≡ queueLength (now (control .entry)) ⌝ }
 {
-    control[6] as usize
+    control[layout::QUEUE_LENGTH] as usize
 }
 
 // ---- seats
@@ -196,35 +193,35 @@ pub fn seat_count(control: &[u64]) -> usize
     requires { ⌜ length (now control) ≡ controlLength ⌝ }
     ensures { λ r. ⌜ r ≡ seatCount (now (control .entry)) ⌝ }
 {
-    control[3] as usize
+    control[layout::SEAT_COUNT] as usize
 }
 
 pub fn seat_id(control: &[u64], k: usize) -> u64
-    requires { ⌜ (length (now control) ≡ controlLength) × (k < 4) ⌝ }
+    requires { ⌜ (length (now control) ≡ controlLength) × (k < seatsLimit) ⌝ }
     ensures { λ r. ⌜ r ≡ seatAt (now (control .entry)) k .id ⌝ }
 {
-    control[SEATS + SEAT_WORDS * k]
+    control[layout::SEATS + layout::SEAT_WORDS * k]
 }
 
 pub fn seat_capabilities(control: &[u64], k: usize) -> u64
-    requires { ⌜ (length (now control) ≡ controlLength) × (k < 4) ⌝ }
+    requires { ⌜ (length (now control) ≡ controlLength) × (k < seatsLimit) ⌝ }
     ensures { λ r. ⌜ r ≡ seatAt (now (control .entry)) k .capabilities ⌝ }
 {
-    control[SEATS + SEAT_WORDS * k + 1] % 128
+    control[layout::SEATS + layout::SEAT_WORDS * k + layout::SEAT_CAPABILITIES] % 128
 }
 
-// The place of the first seat with the id.
+// The slot of the first seat with the id.
 pub fn find_seat(control: &[u64], id: u64) -> Slot
     requires { ⌜ Sound (now control) ⌝ }
     ensures { λ r. ⌜ slotTold r ≡ first (λ s. eqb (s .id) id) (connectionOf (now (control .entry)) .seats) ⌝ }
 {
-    let n = seat_count(control);
-    let mut place: usize = 0;
-    while place < n {
-        if seat_id(control, place) == id {
-            return Slot::At(place);
+    let seats = seat_count(control);
+    let mut slot: usize = 0;
+    while slot < seats {
+        if seat_id(control, slot) == id {
+            return Slot::At(slot);
         }
-        place += 1;
+        slot += 1;
     }
     Slot::Unknown
 }
@@ -235,44 +232,44 @@ pub fn device_count(control: &[u64]) -> usize
     requires { ⌜ length (now control) ≡ controlLength ⌝ }
     ensures { λ r. ⌜ r ≡ deviceCount (now (control .entry)) ⌝ }
 {
-    control[4] as usize
+    control[layout::DEVICE_COUNT] as usize
 }
 
 pub fn device_id(control: &[u64], k: usize) -> u64
-    requires { ⌜ (length (now control) ≡ controlLength) × (k < 8) ⌝ }
+    requires { ⌜ (length (now control) ≡ controlLength) × (k < devicesLimit) ⌝ }
     ensures { λ r. ⌜ r ≡ coreAt (now (control .entry)) k .id ⌝ }
 {
-    control[DEVICES + DEVICE_WORDS * k]
+    control[layout::DEVICES + layout::DEVICE_WORDS * k]
 }
 
 pub fn device_seat(control: &[u64], k: usize) -> u64
-    requires { ⌜ (length (now control) ≡ controlLength) × (k < 8) ⌝ }
+    requires { ⌜ (length (now control) ≡ controlLength) × (k < devicesLimit) ⌝ }
     ensures { λ r. ⌜ r ≡ coreAt (now (control .entry)) k .seat ⌝ }
 {
-    control[DEVICES + DEVICE_WORDS * k + 1]
+    control[layout::DEVICES + layout::DEVICE_WORDS * k + layout::SEAT]
 }
 
 // The capabilities that a device was made with: it lists an interface for each.
 pub fn device_capabilities(control: &[u64], k: usize) -> u64
-    requires { ⌜ (length (now control) ≡ controlLength) × (k < 8) ⌝ }
+    requires { ⌜ (length (now control) ≡ controlLength) × (k < devicesLimit) ⌝ }
     ensures { λ r. ⌜ r ≡ capabilitiesAt (now (control .entry)) k ⌝ }
 {
-    control[DEVICES + DEVICE_WORDS * k + 2] % 128
+    control[layout::DEVICES + layout::DEVICE_WORDS * k + layout::CAPABILITIES] % 128
 }
 
 // Those of which the interface is still linked.
 pub fn device_linked(control: &[u64], k: usize) -> u64
-    requires { ⌜ (length (now control) ≡ controlLength) × (k < 8) ⌝ }
+    requires { ⌜ (length (now control) ≡ controlLength) × (k < devicesLimit) ⌝ }
     ensures { λ r. ⌜ r ≡ linkedAt (now (control .entry)) k ⌝ }
 {
-    control[DEVICES + DEVICE_WORDS * k + 3]
+    control[layout::DEVICES + layout::DEVICE_WORDS * k + layout::LINKED]
 }
 
 pub fn pending_count(control: &[u64], k: usize) -> usize
-    requires { ⌜ (length (now control) ≡ controlLength) × (k < 8) ⌝ }
+    requires { ⌜ (length (now control) ≡ controlLength) × (k < devicesLimit) ⌝ }
     ensures { λ r. ⌜ r ≡ coreAt (now (control .entry)) k .pending ⌝ }
 {
-    control[DEVICES + DEVICE_WORDS * k + 4] as usize
+    control[layout::DEVICES + layout::DEVICE_WORDS * k + layout::PENDING] as usize
 }
 
 // The id of the interface of a bit, on a device that was made with the capabilities.
@@ -294,7 +291,7 @@ pub fn has_bit(mask: u64, place: u32) -> bool
 }
 
 pub fn has_capability(control: &[u64], k: usize, bit: u32) -> bool
-    requires { ⌜ (length (now control) ≡ controlLength) × (k < 8) ⌝ }
+    requires { ⌜ (length (now control) ≡ controlLength) × (k < devicesLimit) ⌝ }
     ensures { λ r. ⌜ r ≡ lists bit (coreAt (now (control .entry)) k .interfaces) ⌝ }
 {
     has_bit(device_capabilities(control, k), bit)
@@ -302,7 +299,7 @@ pub fn has_capability(control: &[u64], k: usize, bit: u32) -> bool
 
 // Whether a device's interface for the bit has the id and is linked.
 pub fn links(control: &[u64], k: usize, bit: u32, id: u64) -> bool
-    requires { ⌜ (length (now control) ≡ controlLength) × (k < 8) ⌝ }
+    requires { ⌜ (length (now control) ≡ controlLength) × (k < devicesLimit) ⌝ }
     ensures { λ r. ⌜ r ≡ linksIn bit id (coreAt (now (control .entry)) k .interfaces) ⌝ }
 {
     let capabilities = device_capabilities(control, k);

@@ -2,18 +2,17 @@
 use Prim.Native.Nat.{ℕ, suc, _+_, _-_, _*_, _%_, _≤_, _<_}
 use mathlib.Core.Path.{_≡_, refl, sym, ap, ap₂, _∙_}
 use mathlib.Core.Bool.{true, false, cond, false≢true}
+use mathlib.Core.Option.{Option, none, some}
 use mathlib.Core.List.{List, [], _∷_, append-nil, map}
-use native.Mathlib.Nat.{add-zero}
 use native.Mathlib.Omega.{arith}
 use lib.Ieee.{Float}
 use lib.ListN.{length, take, drop, length-drop}
 use lib.Seq.{length-take-le, take-at}
 use Rattle.wire.specs.Bits.{splice}
 use Rattle.wire.proofs.Splices.{splice-none}
-use Rattle.requests.specs.Request.{Form, form, textForm, lengthForm, textLength}
-use Rattle.requests.specs.Row.{Row, entry, rowOf, rowAt, requestOf, cellAt}
+use Rattle.requests.specs.Request.{form, given, orNone, textLength}
+use Rattle.requests.specs.Row.{textsLimit, noSlot, Row, entry, rowOf, rowAt, requestOf, cellAt}
 use Rattle.requests.specs.declared.request.EisRequest.{EisRequest}
-use Rattle.requests.specs.declared.request.EisRequest.the-variants.{Disconnect, Bind, DeviceClosed, RequestDevice, Frame, Ready, DeviceStartEmulating, DeviceStopEmulating, PointerMotion, PointerMotionAbsolute, Button, ScrollDelta, ScrollStop, ScrollCancel, ScrollDiscrete, KeyboardKey, TouchDown, TouchUp, TouchMotion, TouchCancel, TextKeysym, TextUtf8}
 use Rattle.model.specs.Call.{sight, Load, loadOf, Plain, Call, mapCall, split}
 use Rattle.model.specs.Session.{Request, mapRequest, mapSession, blank, view}
 use Rattle.model.specs.Edit.{Edit}
@@ -24,8 +23,9 @@ use Rattle.model.specs.Step.{Step, textBytes, carriedOut, refuses, unchanged, s
 use Rattle.model_steps.proofs.Steps.{deliverPlan, step-answer, step-deliver, step-deliver-short, deliver-gave}
 use Rattle.control.specs.Table.{tab}
 use Rattle.control.specs.Control.{queueHead, queueLength}
-use Rattle.session.specs.View.{Store, queueRow, requestIn, textOf, requestAt, queueIn, session, isWhole, Whole}
+use Rattle.session.specs.View.{Store, slotLength, textsLength, queueRow, textIn, requestIn, textOf, requestAt, queueIn, session, isWhole, Whole}
 use Rattle.session.specs.Enact.{Enacted}
+use Rattle.session.proofs.Shapes.{carried, shape}
 use Rattle.session.proofs.Views.{requests-are}
 use Rattle.answers.specs.Meets.{turn}
 use Rattle.answers.specs.declared.Error.{Error}
@@ -34,68 +34,20 @@ use Rattle.converter.specs.declared.request.NextRequest.{NextRequest}
 
 -- ---- a request's text
 
--- the bytes that the model counts are the request's
-size-is : (q : EisRequest) (text : List ℕ) → textBytes (requestIn q text ∷ []) ≡ textLength q
-unfolding requestIn textBytes
-size-is Disconnect text = refl
-size-is (Bind s m) text = refl
-size-is (DeviceClosed d) text = refl
-size-is (RequestDevice s m) text = refl
-size-is (Frame d n t) text = refl
-size-is (Ready d) text = refl
-size-is (DeviceStartEmulating d n q) text = refl
-size-is (DeviceStopEmulating d n) text = refl
-size-is (PointerMotion d t x y) text = refl
-size-is (PointerMotionAbsolute d t x y) text = refl
-size-is (Button d t b s) text = refl
-size-is (ScrollDelta d t x y) text = refl
-size-is (ScrollStop d t x y) text = refl
-size-is (ScrollCancel d t x y) text = refl
-size-is (ScrollDiscrete d t x y) text = refl
-size-is (KeyboardKey d t k s) text = refl
-size-is (TouchDown d t i x y) text = refl
-size-is (TouchUp d t i) text = refl
-size-is (TouchMotion d t i x y) text = refl
-size-is (TouchCancel d t i) text = refl
-size-is (TextKeysym d t k s) text = refl
-size-is (TextUtf8 d t n) text = add-zero n
-
--- only a text has any
-text-is : (q : EisRequest) (bytes : List ℕ) → givenText (requestIn q (take (textLength q) bytes) ∷ []) ≡ take (textLength q) bytes
-unfolding requestIn givenText
-text-is Disconnect bytes = refl
-text-is (Bind s m) bytes = refl
-text-is (DeviceClosed d) bytes = refl
-text-is (RequestDevice s m) bytes = refl
-text-is (Frame d n t) bytes = refl
-text-is (Ready d) bytes = refl
-text-is (DeviceStartEmulating d n q) bytes = refl
-text-is (DeviceStopEmulating d n) bytes = refl
-text-is (PointerMotion d t x y) bytes = refl
-text-is (PointerMotionAbsolute d t x y) bytes = refl
-text-is (Button d t b s) bytes = refl
-text-is (ScrollDelta d t x y) bytes = refl
-text-is (ScrollStop d t x y) bytes = refl
-text-is (ScrollCancel d t x y) bytes = refl
-text-is (ScrollDiscrete d t x y) bytes = refl
-text-is (KeyboardKey d t k s) bytes = refl
-text-is (TouchDown d t i x y) bytes = refl
-text-is (TouchUp d t i) bytes = refl
-text-is (TouchMotion d t i x y) bytes = refl
-text-is (TouchCancel d t i) bytes = refl
-text-is (TextKeysym d t k s) bytes = refl
-text-is (TextUtf8 d t n) bytes = append-nil (take n bytes)
+given-text : (q : Request Load) → givenText (q ∷ []) ≡ carried q
+unfolding givenText
+given-text (Request.timed d t i) = append-nil (textIn (i .load))
+given-text (Request.untimed r) = refl
 
 -- a row's text lies within its slot, and so within the texts
-slot-room : (f : Form) (s n : ℕ) → n ≡ lengthForm f → n < 256 → 256 * cond (textForm f) (s % 32) 32 + n ≤ 8192
-slot-room Form.apart s n e l = omega arith
-slot-room (Form.still d) s n e l = omega arith
-slot-room (Form.timed d at) s n e l = omega arith
-slot-room (Form.text d m at) s n e l = omega arith
+slot-room : (o : Option ℕ) (s n : ℕ) → n ≡ orNone o → n < slotLength → slotLength * cond (given o) (s % textsLimit) noSlot + n ≤ textsLength
+slot-room none s n e l = omega arith
+slot-room (some m) s n e l = omega arith
 
-pub text-room : (w : List ℕ) (r : List Float) (i n : ℕ) → n ≡ textLength (rowAt w r i .request) → n < 256 → 256 * rowAt w r i .slot + n ≤ 8192
+pub text-room : (w : List ℕ) (r : List Float) (i n : ℕ) → n ≡ textLength (rowAt w r i .request) → n < slotLength
+    → slotLength * rowAt w r i .slot + n ≤ textsLength
 unfolding rowAt rowOf entry
-text-room w r i n e l = slot-room (form (requestOf (cellAt w r i))) (cellAt w r i .flag) n e l
+text-room w r i n e l = slot-room (form (requestOf (cellAt w r i)) .text) (cellAt w r i .flag) n e l
 
 -- ---- the oldest request
 
@@ -150,7 +102,7 @@ module _ (s : Store) where
     module _ (l : 0 < queueLength (s .control)) {q : EisRequest} {n : ℕ} (is : q ≡ head .request) (size : n ≡ textLength q) where
       needed : textBytes (row 0 ∷ []) ≡ n
       unfolding requestAt
-      needed = size-is (head .request) (textOf (s .texts) head) ∙ sym (size ∙ ap textLength is)
+      needed = shape (head .request) .bytes (textOf (s .texts) head) ∙ sym (size ∙ ap textLength is)
 
       pub given-short : Whole s → length buffer < n → Gives s s buffer buffer nextStep (NextRequest.Refused Error.ShortOut)
       unfolding split
@@ -158,19 +110,19 @@ module _ (s : Store) where
           gives-unchanged (NextRequest.Refused Error.ShortOut) w refl
           (step-deliver-short (split (turn (Call.plain Plain.nextRequest) clock buffer)) (session s) (some-queued l) (next-some clock (some-queued l)) (rw needed h))
 
-      module _ {slot : ℕ} {later : List ℕ} (at : slot ≡ head .slot) (room : 256 * slot + n ≤ length (s .texts)) (fits : n ≤ length buffer)
-          (copied : later ≡ splice buffer 0 (take n (drop (256 * slot) (s .texts)))) where
+      module _ {slot : ℕ} {later : List ℕ} (at : slot ≡ head .slot) (room : slotLength * slot + n ≤ length (s .texts)) (fits : n ≤ length buffer)
+          (copied : later ≡ splice buffer 0 (take n (drop (slotLength * slot) (s .texts)))) where
         abbrev text : List ℕ
-        text = take n (drop (256 * slot) (s .texts))
+        text = take n (drop (slotLength * slot) (s .texts))
 
         text-long : length text ≡ n
-        text-long = length-take-le n (drop (256 * slot) (s .texts)) (omega (arith, length-drop (256 * slot) (s .texts)))
+        text-long = length-take-le n (drop (slotLength * slot) (s .texts)) (omega (arith, length-drop (slotLength * slot) (s .texts)))
 
         -- the row's text
         text-at : textOf (s .texts) head ≡ text
         unfolding textOf
         text-at =
-            ap₂ (λ (k j : ℕ). take k (drop (256 * j) (s .texts))) (sym (size ∙ ap textLength is)) (sym at)
+            ap₂ (λ (k j : ℕ). take k (drop (slotLength * j) (s .texts))) (sym (size ∙ ap textLength is)) (sym at)
 
         front : take (textLength q) later ≡ text
         unfolding splice
@@ -182,7 +134,7 @@ module _ (s : Store) where
 
         held : givenText (row 0 ∷ []) ≡ text
         unfolding requestAt textOf
-        held = text-is (head .request) (drop (256 * head .slot) (s .texts)) ∙ text-at
+        held = given-text (row 0) ∙ shape (head .request) .text (drop (slotLength * head .slot) (s .texts)) ∙ text-at
 
         taken : nextStep ≡ carriedOut deliverPlan Load.None (session s)
         unfolding split loadOf

@@ -11,7 +11,7 @@ use Rattle.model.specs.Session.{Request, fresh}
 use Rattle.model.specs.Plan as plan
 use Rattle.model.specs.Step.{Step, refuses, step}
 use Rattle.requests.specs.Request.{textLength}
-use Rattle.session.specs.View.{Store, store, session, requestIn, wordsLength, realsLength, textsLength, isWhole, Whole}
+use Rattle.session.specs.View.{Store, store, session, requestIn, textIn, wordsLength, realsLength, textsLength, isWhole, Whole}
 use Rattle.session.specs.Slices.{Numbers, Reals, before, after}
 use Rattle.control.specs.Control.{controlLength}
 use Rattle.handshake.specs.View.{versionsOf}
@@ -33,15 +33,6 @@ abbrev pub givenIn : NextRequest → (buffer : List ℕ) → List (Request Load)
 givenIn (NextRequest.Given r) buffer = requestIn r (take (textLength r) buffer) ∷ []
 givenIn NextRequest.None buffer = []
 givenIn (NextRequest.Refused e) buffer = []
-
-abbrev pub textIn : Load → List ℕ
-textIn (Load.Text text) = text
-textIn Load.None = []
-textIn (Load.Point x y) = []
-textIn (Load.ButtonPress b s) = []
-textIn (Load.KeyPress k s) = []
-textIn (Load.Discrete x y) = []
-textIn (Load.Axes x y) = []
 
 -- the text of what is given
 unfoldable pub givenText : List (Request Load) → List ℕ

@@ -122,32 +122,6 @@ impl DeviceCapability {
         }
     }
 
-    // The capability that has the interface.
-    pub fn from_interface(interface: u8) -> DeviceCapabilityOf
-        ensures { λ r. ⌜ r ≡ capabilityBy capabilityInterface interface ⌝ }
-    {
-        match interface {
-            DeviceCapability::POINTER_INTERFACE => DeviceCapabilityOf::Case(
-                DeviceCapability::Pointer,
-            ),
-            DeviceCapability::POINTER_ABSOLUTE_INTERFACE => DeviceCapabilityOf::Case(
-                DeviceCapability::PointerAbsolute,
-            ),
-            DeviceCapability::KEYBOARD_INTERFACE => DeviceCapabilityOf::Case(
-                DeviceCapability::Keyboard,
-            ),
-            DeviceCapability::TOUCH_INTERFACE => DeviceCapabilityOf::Case(DeviceCapability::Touch),
-            DeviceCapability::SCROLL_INTERFACE => DeviceCapabilityOf::Case(
-                DeviceCapability::Scroll,
-            ),
-            DeviceCapability::BUTTON_INTERFACE => DeviceCapabilityOf::Case(
-                DeviceCapability::Button,
-            ),
-            DeviceCapability::TEXT_INTERFACE => DeviceCapabilityOf::Case(DeviceCapability::Text),
-            _ => DeviceCapabilityOf::Unknown,
-        }
-    }
-
     // The number of the interface of a bit; 0 where the bit is no capability's.
     pub fn interface_of_bit(bit: u32) -> u8
         ensures { λ r. ⌜ r ≡ interfaceOfBit bit ⌝ }

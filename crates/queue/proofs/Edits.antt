@@ -9,13 +9,13 @@ use Rattle.model.specs.Call.{Sight, Load}
 use Rattle.model.specs.Session.{Item, Untimed, Request}
 use Rattle.model.specs.Edit.{Edit, deviceWith, item, pended, emptied, framed, framedAt, rest, at, withRequests, enact, enactAll}
 use Rattle.control.specs.Table.{tab}
-use Rattle.control.specs.Control.{deviceCount, queueHead, queueLength, pendingAt, Core, coreAt}
+use Rattle.control.specs.Control.{devicesLimit, pendingLimit, queueLimit, deviceCount, queueHead, queueLength, pendingAt, Core, coreAt}
 use Rattle.control.specs.Sound.{Sound}
 use Rattle.control.proofs.Sounds.{pending-bound}
 use Rattle.control.proofs.Tables.{case-eq, tab-ext, tab-same, tab-push}
 use Rattle.control.proofs.Models.{at-slot}
 use Rattle.control.specs.Change.{SameDevices, Amended, Requeued, withPending}
-use Rattle.session.specs.View.{store, pendingRow, queueRow, requestAt, itemAt, deviceIn, queueIn, sessionIn, session}
+use Rattle.session.specs.View.{queueStart, store, pendingRow, queueRow, requestAt, itemAt, deviceIn, queueIn, sessionIn, session}
 use Rattle.session.specs.Enact.{Enacted}
 use Rattle.session.proofs.Views.{session-of, device-ext, queue-ext}
 use Rattle.session.proofs.Edits.{amended-session}
@@ -39,7 +39,7 @@ pub copied-none : (rows : ℕ → Row) (k head queued device time : ℕ) → Cop
 copied-none rows k head queued device time = record { here = λ j l. absurd (omega arith); other = λ i h. refl }
 
 pub copied-step : {rows mid later : ℕ → Row} {k n head queued device time : ℕ} (from to : ℕ) → Copied rows mid k n head queued device time
-    → Put mid later to (framedRow device time (mid from)) → k < 8 → n < 64 → queued + n < 256 → from ≡ pendingRow k n → to ≡ queueRow head (queued + n)
+    → Put mid later to (framedRow device time (mid from)) → k < devicesLimit → n < pendingLimit → queued + n < queueLimit → from ≡ pendingRow k n → to ≡ queueRow head (queued + n)
     → Copied rows later k (n + 1) head queued device time
 copied-step {rows} {mid} {later} {k} {n} {head} {queued} {device} {time} from to m p low short room f t =
     record {
@@ -61,7 +61,7 @@ unfolding queueIn
 queue-is c rows texts h q = ap₂ (λ (x n : ℕ). tab n (λ j. requestAt texts (rows (queueRow x j)))) h q
 
 -- a row more behind the queue
-row-push : (texts : List ℕ) {rows later : ℕ → Row} (head n : ℕ) {place : ℕ} {new : Row} → n < 256 → place ≡ queueRow head n → Put rows later place new
+row-push : (texts : List ℕ) {rows later : ℕ → Row} (head n : ℕ) {place : ℕ} {new : Row} → n < queueLimit → place ≡ queueRow head n → Put rows later place new
     → tab (n + 1) (λ j. requestAt texts (later (queueRow head j))) ≡ tab n (λ j. requestAt texts (rows (queueRow head j))) ++ (requestAt texts new ∷ [])
 row-push texts {rows} {later} head n {place} {new} l at p =
     tab-push n (n + 1) (λ j. requestAt texts (rows (queueRow head j))) (λ j. requestAt texts (later (queueRow head j))) (requestAt texts new) refl
@@ -69,7 +69,7 @@ row-push texts {rows} {later} head n {place} {new} l at p =
 
 -- ---- the devices, where no row of theirs changed
 
-module _ {c : List ℕ} (e : List ℕ) {rows later : ℕ → Row} (texts : List ℕ) (ok : Sound c) (low : (i : ℕ) → i < 512 → later i ≡ rows i) where
+module _ {c : List ℕ} (e : List ℕ) {rows later : ℕ → Row} (texts : List ℕ) (ok : Sound c) (low : (i : ℕ) → i < queueStart → later i ≡ rows i) where
   device-kept : (k : ℕ) → k < deviceCount c → coreAt e k ≡ coreAt c k → deviceIn e later texts k ≡ deviceIn c rows texts k
   device-kept k l q =
       device-ext c e rows later texts texts k k q (λ m r. ap (itemAt texts) (low (pendingRow k m) (omega (arith, ok .devices, pending-bound ok k l))))
@@ -80,7 +80,7 @@ module _ {c : List ℕ} (e : List ℕ) {rows later : ℕ → Row} (texts : List 
 
 -- ---- the oldest taken out
 
-module _ {c e : List ℕ} {head queued : ℕ} (ok : Sound c) (q : Requeued c e head queued) (h : head ≡ (queueHead c + 1) % 256) (n : queueLength c ≡ queued + 1)
+module _ {c e : List ℕ} {head queued : ℕ} (ok : Sound c) (q : Requeued c e head queued) (h : head ≡ (queueHead c + 1) % queueLimit) (n : queueLength c ≡ queued + 1)
     (rows : ℕ → Row) (texts : List ℕ) where
   popped-queue : queueIn e rows texts ≡ rest (queueIn c rows texts)
   popped-queue =
@@ -98,7 +98,7 @@ module _ {c e : List ℕ} {head queued : ℕ} (ok : Sound c) (q : Requeued c e h
 -- ---- an untimed request more
 
 module _ {c e : List ℕ} {rows later : ℕ → Row} {head queued more place : ℕ} {new : Row} (ok : Sound c) (p : Put rows later place new) (q : Requeued c e head more)
-    (h : head ≡ queueHead c) (n : queued ≡ queueLength c) (room : queued < 256) (at : place ≡ queueRow head queued) (one : more ≡ queued + 1) (texts : List ℕ) where
+    (h : head ≡ queueHead c) (n : queued ≡ queueLength c) (room : queued < queueLimit) (at : place ≡ queueRow head queued) (one : more ≡ queued + 1) (texts : List ℕ) where
   pushed-queue : queueIn e later texts ≡ queueIn c rows texts ++ (requestAt texts new ∷ [])
   pushed-queue =
       queue-is e later texts (q .head-is) (q .queued-is ∙ one)
@@ -114,7 +114,7 @@ module _ {c e : List ℕ} {rows later : ℕ → Row} {head queued more place : �
 -- ---- a request more that is pending
 
 module _ {c e : List ℕ} {rows later : ℕ → Row} {k n more place : ℕ} {new : Row} (ok : Sound c) (p : Put rows later place new) (a : Amended c e k (withPending more (coreAt c k)))
-    (l : k < deviceCount c) (is : n ≡ coreAt c k .pending) (room : n < 64) (here : place ≡ pendingRow k n) (one : more ≡ n + 1) (texts : List ℕ) where
+    (l : k < deviceCount c) (is : n ≡ coreAt c k .pending) (room : n < pendingLimit) (here : place ≡ pendingRow k n) (one : more ≡ n + 1) (texts : List ℕ) where
   pended-device : (i : Item Load) → i ≡ itemAt texts new → deviceIn e later texts k ≡ pended i (deviceIn c rows texts k)
   unfolding deviceIn pended deviceWith
   pended-device i what =
@@ -174,9 +174,9 @@ module _ (c : List ℕ) (rows : ℕ → Row) (texts : List ℕ) (k serial time :
 module _ {c m e : List ℕ} {rows mid later : ℕ → Row} {k n head queued device time place more left : ℕ} {new : Row} (ok : Sound c)
     (copied : Copied rows mid k n head queued device time) (p : Put mid later place new) (q : Requeued c m head more)
     (a : Amended m e k (withPending left (coreAt m k))) (l : k < deviceCount c) (is : n ≡ coreAt c k .pending) (some : 0 < n) (h : head ≡ queueHead c)
-    (len : queued ≡ queueLength c) (room : queued + n + 1 ≤ 256) (owner : device ≡ coreAt c k .id) (last : place ≡ queueRow head (queued + n))
+    (len : queued ≡ queueLength c) (room : queued + n + 1 ≤ queueLimit) (owner : device ≡ coreAt c k .id) (last : place ≡ queueRow head (queued + n))
     (longer : more ≡ queued + n + 1) (none : left ≡ 0) (texts : List ℕ) where
-  pending-kept : (i : ℕ) → i < 512 → later i ≡ rows i
+  pending-kept : (i : ℕ) → i < queueStart → later i ≡ rows i
   pending-kept i b = p .other i (λ z. omega arith) ∙ copied .other i (λ j d z. omega arith)
 
   emptied-device : deviceIn e later texts k ≡ emptied (deviceIn c rows texts k)

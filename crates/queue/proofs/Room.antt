@@ -4,12 +4,12 @@ use native.Mathlib.Omega.{arith}
 use mathlib.Core.Path.{_≡_, refl, ap}
 use mathlib.Core.List.{List}
 use lib.Dec.{leb}
-use Rattle.control.specs.Control.{queueLength, pendingAt, coreAt}
+use Rattle.control.specs.Control.{queueLimit, queueLength, pendingAt, coreAt}
 use Rattle.queue.specs.Queue.{frameEntries, hasRoom}
 
-pub room : (c : List ℕ) (n queued : ℕ) → queued ≡ queueLength c → leb (queued + n) 256 ≡ hasRoom c n
+pub room : (c : List ℕ) (n queued : ℕ) → queued ≡ queueLength c → leb (queued + n) queueLimit ≡ hasRoom c n
 unfolding hasRoom
-room c n queued e = ap (λ (q : ℕ). leb (q + n) 256) e
+room c n queued e = ap (λ (q : ℕ). leb (q + n) queueLimit) e
 
 pub entries-none : (n : ℕ) → n ≡ 0 → frameEntries n ≡ 0
 unfolding frameEntries
@@ -22,7 +22,7 @@ entries-some zero l = absurd (omega arith)
 entries-some (suc n) l = refl
 
 -- where something is pending
-pub frame-room : (c : List ℕ) (k : ℕ) {n queued : ℕ} → n ≡ coreAt c k .pending → 0 < n → queued ≡ queueLength c → queueLength c + frameEntries (pendingAt c k) ≤ 256
-    → queued + n + 1 ≤ 256
+pub frame-room : (c : List ℕ) (k : ℕ) {n queued : ℕ} → n ≡ coreAt c k .pending → 0 < n → queued ≡ queueLength c → queueLength c + frameEntries (pendingAt c k) ≤ queueLimit
+    → queued + n + 1 ≤ queueLimit
 unfolding coreAt
 frame-room c k is some len fits = omega (arith, entries-some (pendingAt c k) (omega arith))

@@ -1,13 +1,13 @@
--- Lists read off a table in two parts, mapped, and without their first; what a frame queues of a table of devices. Assumes nothing.
+-- Lists read off a table in two parts, and without their first; what a frame queues of a table of devices. Assumes nothing.
 use Prim.Native.Nat.{ℕ, zero, suc, _+_, _<_}
 use native.Mathlib.Nat.{zero-add, suc-add}
 use native.Mathlib.Omega.{arith}
 use mathlib.Core.Path.{_≡_, refl, ap, _∙_}
-use mathlib.Core.List.{List, [], _∷_, _++_, map}
+use mathlib.Core.List.{List, [], _∷_, _++_}
 use Rattle.model.specs.Session.{Item, Untimed, Request, Device}
 use Rattle.model.specs.Edit.{framed, framedAt, rest}
 use Rattle.control.specs.Table.{tab}
-use Rattle.control.proofs.Tables.{tab-ext}
+use Rattle.control.proofs.Tables.{tab-ext, tab-map}
 
 pub tab-add : {A : Type 0} (n m : ℕ) (f : ℕ → A) → tab (n + m) f ≡ tab n f ++ tab m (λ j. f (n + j))
 unfolding tab
@@ -17,11 +17,6 @@ tab-add {A} (suc n) m f =
     (ap (λ (xs : List A). f 0 ∷ xs)
     (tab-add n m (λ j. f (suc j))
     ∙ ap (λ (xs : List A). tab n (λ j. f (suc j)) ++ xs) (tab-ext m (λ j. f (suc (n + j))) (λ j. f (suc n + j)) (λ j l. ap f (omega arith)))))
-
-tab-map : {A B : Type 0} (h : A → B) (n : ℕ) (f : ℕ → A) → map h (tab n f) ≡ tab n (λ j. h (f j))
-unfolding tab
-tab-map h zero f = refl
-tab-map {A} {B} h (suc n) f = ap (λ (xs : List B). h (f 0) ∷ xs) (tab-map h n (λ j. f (suc j)))
 
 module _ {P : Type 0} where
   pub tab-rest : (n m : ℕ) (f : ℕ → Request P) → n ≡ m + 1 → rest (tab n f) ≡ tab m (λ j. f (suc j))

@@ -1,42 +1,36 @@
-// The pending lists of the devices and the queue, in place: 64 rows for each of 8 devices, then a ring of 256. Which rows these are is known
-// here and in specs alone.
+// The pending lists of the devices and the queue, in place (`session::QUEUE_START` and specs/View of session have their rows).
+pub use control::PENDING_LIMIT;
+pub use control::QUEUE_LIMIT;
 use requests::cell;
 use requests::cell::Cell;
 use requests::request::EisRequest;
 use requests::row;
+use requests::row::NO_SLOT;
+use session::QUEUE_START;
 ghost use mathlib.Core.Path.{_≡_};
-ghost use mathlib.Core.List.{List, [], _∷_};
-ghost use Prim.Native.Nat.{ℕ, _+_, _≤_, _<_};
+ghost use mathlib.Core.List.{[], _∷_};
+ghost use Prim.Native.Nat.{_+_, _≤_, _<_};
 ghost use Rattle.requests.specs.Row.{rowAt, rowOf};
-ghost use Rattle.model.specs.Call.{Load, Sight};
 ghost use Rattle.model.specs.Session.{Untimed, Request};
-ghost use Rattle.model.specs.Edit.{Edit, item};
-ghost use Rattle.control.specs.Control.{deviceCount, queueHead, queueLength, coreAt, pendingAt};
+ghost use Rattle.model.specs.Edit.{Edit};
+ghost use Rattle.control.specs.Control.{pendingLimit, queueLimit, deviceCount, queueHead, queueLength, coreAt, pendingAt};
 ghost use Rattle.control.specs.Sound.{Sound};
-ghost use lib.ListN.{length};
-ghost use Rattle.session.specs.View.{store, Lent, wordsLength, realsLength, requestIn, itemAt, queueRow};
-ghost use Rattle.session.specs.Enact.{Enacted, Enacts, EnactsRows};
-ghost use Rattle.queue.specs.Queue.{Copied, frameEntries, hasRoom};
-
-// Where the ring begins, behind the pending lists.
-const QUEUE: usize = 512;
-
-const PENDING: usize = 64;
-
-const QUEUED: usize = 256;
+ghost use Rattle.session.specs.View.{rowCount, Lent, requestIn, queueRow};
+ghost use Rattle.session.specs.Enact.{EnactsControl, EnactsRows};
+ghost use Rattle.queue.specs.Queue.{Pends, Copyable, Copied, frameEntries, hasRoom};
 
 // Whether the queue has room for n entries more.
 pub fn has_room(control: &[u64], n: usize) -> bool
-    requires { ⌜ Sound (now control) × (n ≤ 256) ⌝ }
+    requires { ⌜ Sound (now control) × (n ≤ queueLimit) ⌝ }
     ensures { λ r. ⌜ r ≡ hasRoom (now (control .entry)) n ⌝ }
 {
-    control::queue_length(control) + n <= QUEUED
+    control::queue_length(control) + n <= QUEUE_LIMIT
 }
 
 // The entries that a frame of the device in slot k needs.
 pub fn frame_entries(control: &[u64], k: usize) -> usize
     requires { ⌜ Sound (now control) × (k < deviceCount (now control)) ⌝ }
-    ensures { λ r. ⌜ (r ≡ frameEntries (coreAt (now (control .entry)) k .pending)) × (r ≤ 65) ⌝ }
+    ensures { λ r. ⌜ (r ≡ frameEntries (coreAt (now (control .entry)) k .pending)) × (r ≤ pendingLimit + 1) ⌝ }
 {
     let n = control::pending_count(control, k);
     if n == 0 { 0 } else { n + 1 }
@@ -44,30 +38,30 @@ pub fn frame_entries(control: &[u64], k: usize) -> usize
 
 // The row of entry j of the queue.
 fn queue_row(head: usize, j: usize) -> usize
-    requires { ⌜ (head < 256) × (j ≤ 256) ⌝ }
-    ensures { λ r. ⌜ (r ≡ queueRow head j) × (r < 768) ⌝ }
+    requires { ⌜ (head < queueLimit) × (j ≤ queueLimit) ⌝ }
+    ensures { λ r. ⌜ (r ≡ queueRow head j) × (r < rowCount) ⌝ }
 {
-    QUEUE + (head + j) % QUEUED
+    QUEUE_START + (head + j) % QUEUE_LIMIT
 }
 
 // A request more in the pending list of the device in slot k.
 pub fn pend(control: &mut [u64], words: &mut [u64], reals: &mut [f32], k: usize, request: Cell)
-    requires { ⌜ Lent (now control) (now words) (now reals) × ((k < deviceCount (now control)) × (pendingAt (now control) k < 64)) ⌝ }
-    ensures { λ _. ⌜ ((texts : List ℕ) (sight : Sight) (load : Load) → item sight load ≡ itemAt texts (rowOf request) → Enacted (rowsBefore control words reals texts) (rowsAfter control words reals texts) (Edit.pend k sight ∷ []) load) ⌝ }
+    requires { ⌜ Lent (now control) (now words) (now reals) × ((k < deviceCount (now control)) × (pendingAt (now control) k < pendingLimit)) ⌝ }
+    ensures { λ _. ⌜ Pends control words reals k (rowOf request) ⌝ }
 {
     let n = control::pending_count(control, k);
-    row::put_cell(words, reals, PENDING * k + n, request);
+    row::put_cell(words, reals, PENDING_LIMIT * k + n, request);
     control::edits::set_pending(control, k, n + 1);
 }
 
 // An untimed request more in the queue.
 pub fn push(control: &mut [u64], words: &mut [u64], reals: &mut [f32], request: EisRequest)
-    requires { ⌜ Lent (now control) (now words) (now reals) × (queueLength (now control) < 256) ⌝ }
+    requires { ⌜ Lent (now control) (now words) (now reals) × (queueLength (now control) < queueLimit) ⌝ }
     ensures { λ _. ⌜ ((r : Untimed) → requestIn request [] ≡ Request.untimed r → EnactsRows control words reals (Edit.queue r ∷ [])) ⌝ }
 {
     let head = control::queue_head(control);
     let queued = control::queue_length(control);
-    row::put(words, reals, queue_row(head, queued), request, 32);
+    row::put(words, reals, queue_row(head, queued), request, NO_SLOT);
     control::edits::set_queue(control, head, queued + 1);
 }
 
@@ -82,7 +76,7 @@ fn copy_pending(
     device: u64,
     time: u64,
 )
-    requires { ⌜ (length (now words) ≡ wordsLength) × ((length (now reals) ≡ realsLength) × ((k < 8) × ((n ≤ 64) × ((head < 256) × (queued + n ≤ 256))))) ⌝ }
+    requires { ⌜ Copyable (now words) (now reals) k n head queued ⌝ }
     ensures { λ _. ⌜ Copied (rowAt (now (words .entry)) (now (reals .entry))) (rowAt (now (words .exit)) (now (reals .exit))) k n head queued device time ⌝ }
 {
     let mut j: usize = 0;
@@ -90,7 +84,7 @@ fn copy_pending(
         row::copy_framed(
             words,
             reals,
-            PENDING * k + j,
+            PENDING_LIMIT * k + j,
             queue_row(head, queued + j),
             device,
             time,
@@ -108,7 +102,7 @@ pub fn frame(
     serial: u32,
     time: u64,
 )
-    requires { ⌜ Lent (now control) (now words) (now reals) × ((k < deviceCount (now control)) × (queueLength (now control) + frameEntries (pendingAt (now control) k) ≤ 256)) ⌝ }
+    requires { ⌜ Lent (now control) (now words) (now reals) × ((k < deviceCount (now control)) × (queueLength (now control) + frameEntries (pendingAt (now control) k) ≤ queueLimit)) ⌝ }
     ensures { λ _. ⌜ EnactsRows control words reals (Edit.frame k serial time ∷ []) ⌝ }
 {
     let n = control::pending_count(control, k);
@@ -137,7 +131,7 @@ pub fn oldest(control: &[u64], words: &[u64], reals: &[f32]) -> EisRequest
     row::load(words, reals, queue_row(control::queue_head(control), 0))
 }
 
-// The slot of its text, below 32; 32 where it has none.
+// The slot of its text; `NO_SLOT` where it has none.
 pub fn oldest_slot(control: &[u64], words: &[u64], reals: &[f32]) -> usize
     requires { ⌜ Lent (now control) (now words) (now reals) × (0 < queueLength (now control)) ⌝ }
     ensures { λ r. ⌜ r ≡ rowAt (now (words .entry)) (now (reals .entry)) (queueRow (queueHead (now (control .entry))) 0) .slot ⌝ }
@@ -152,5 +146,5 @@ pub fn pop(control: &mut [u64])
 {
     let head = control::queue_head(control);
     let queued = control::queue_length(control);
-    control::edits::set_queue(control, (head + 1) % QUEUED, queued - 1);
+    control::edits::set_queue(control, (head + 1) % QUEUE_LIMIT, queued - 1);
 }

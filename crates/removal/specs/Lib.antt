@@ -1,2 +1,1 @@
-pub mod Shift
 pub mod Retire

@@ -1,41 +1,31 @@
 // Devices and seats that go: the client is told, and they are taken out of the session in place, where whole rows of control words and of pending
 // requests move down.
+use control::PENDING_LIMIT;
 use events::Mark;
-ghost use mathlib.Core.Path.{_≡_};
+use requests::row::ROW_REALS;
+use requests::row::ROW_WORDS;
 ghost use mathlib.Core.List.{[], _∷_};
 ghost use Prim.Native.Nat.{_+_, _*_, _≤_, _<_};
 ghost use lib.Ieee.{nan};
-ghost use lib.ListN.{length, getD};
+ghost use lib.ListN.{length};
 ghost use Rattle.model.specs.Edit.{Edit};
 ghost use Rattle.model.specs.Decide.{objectsOf, seatObjects, removeSeats};
+ghost use Rattle.control.specs.Shift.{valueAt, Shifted};
 ghost use Rattle.control.specs.Control.{deviceCount, connectionOf, coreAt};
 ghost use Rattle.session.specs.View.{Lent};
 ghost use Rattle.session.specs.Enact.{EnactsRows};
 ghost use Rattle.events.specs.Events.{bare, bareDevices};
-ghost use Rattle.removal.specs.Shift.{Shifted};
 ghost use Rattle.removal.specs.Retire.{Retires};
 
-// The words and the reals of a device's 64 pending rows.
-const SLOT_WORDS: usize = 320;
+// The words and the reals of a device's pending rows.
+const PENDING_WORDS: usize = ROW_WORDS * PENDING_LIMIT;
 
-const SLOT_REALS: usize = 128;
+const PENDING_REALS: usize = ROW_REALS * PENDING_LIMIT;
 
-// n words from `from` on, moved down to `to`.
-fn shift_words(a: &mut [u64], to: usize, from: usize, n: usize)
-    requires { ⌜ (to ≤ from) × (from + n ≤ length (now a)) ⌝ }
-    ensures { λ _. ⌜ Shifted (λ x. getD (now (a .entry)) x 0) (λ x. getD (now (a .exit)) x 0) to from n ⌝ }
-{
-    let mut i: usize = 0;
-    while i < n {
-        a[to + i] = a[from + i];
-        i += 1;
-    }
-}
-
-// The same of reals.
+// n reals from `from` on, moved down to `to`, as `control::edits::shift` moves words.
 fn shift_reals(a: &mut [f32], to: usize, from: usize, n: usize)
     requires { ⌜ (to ≤ from) × (from + n ≤ length (now a)) ⌝ }
-    ensures { λ _. ⌜ Shifted (λ x. getD (now (a .entry)) x nan) (λ x. getD (now (a .exit)) x nan) to from n ⌝ }
+    ensures { λ _. ⌜ Shifted (valueAt nan (now (a .entry))) (valueAt nan (now (a .exit))) to from n ⌝ }
 {
     let mut i: usize = 0;
     while i < n {
@@ -50,17 +40,17 @@ fn remove_device(control: &mut [u64], words: &mut [u64], reals: &mut [f32], k: u
     ensures { λ _. ⌜ EnactsRows control words reals (Edit.removeDevice k ∷ []) ⌝ }
 {
     let behind = control::device_count(control) - 1 - k;
-    shift_words(
+    control::edits::shift(
         words,
-        SLOT_WORDS * k,
-        SLOT_WORDS * (k + 1),
-        SLOT_WORDS * behind,
+        PENDING_WORDS * k,
+        PENDING_WORDS * (k + 1),
+        PENDING_WORDS * behind,
     );
     shift_reals(
         reals,
-        SLOT_REALS * k,
-        SLOT_REALS * (k + 1),
-        SLOT_REALS * behind,
+        PENDING_REALS * k,
+        PENDING_REALS * (k + 1),
+        PENDING_REALS * behind,
     );
     control::edits::remove_device_row(control, k);
 }

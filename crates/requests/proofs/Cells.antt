@@ -1,11 +1,12 @@
 -- What a cell means: numbers within their fields are kept, and the kind tells whether it is a text and whether it is timed. Assumes nothing.
 use Prim.Native.Nat.{ℕ, zero, suc, _+_, _-_, _≤_, _<_, _%_}
 use mathlib.Core.Path.{_≡_, refl, sym, ap, _∙_}
-use mathlib.Core.Bool.{Bool, true, false, cond}
+use mathlib.Core.Bool.{Bool, true, false, cond, false≢true}
 use mathlib.Core.List.{List, [], _∷_, _++_, map}
-use mathlib.Core.Logic.{_⊎_, inl, inr, ⊎-elim}
+use mathlib.Core.Logic.{_⊎_, inl, inr, ⊎-elim, dite}
 use native.Mathlib.Omega.{arith}
-use borrow.Author.Tests.{lt-ltb, ne-eqb}
+use native.Mathlib.Decide.{decLt}
+use borrow.Author.Tests.{lt-ltb, le-leb, lt-leb, leb-true, ne-eqb}
 use lib.Dec.{eqb, ltb, eqb·zero-suc, eqb·suc-zero, eqb·suc-suc}
 use lib.Ieee.{Float}
 use lib.ListN.{getD, drop, replicate, getD-replicate, List·getD-append, List·getD-eq-default, List·getD-map}
@@ -17,7 +18,7 @@ use Rattle.requests.specs.declared.cell.Cell.{Cell}
 use Rattle.requests.specs.declared.request.EisRequest.{EisRequest}
 use Rattle.requests.specs.declared.request.EisRequest.the-variants.{Disconnect, ScrollStop}
 use Rattle.requests.specs.Request.{framedRequest, isText}
-use Rattle.requests.specs.Row.{low, keyState, buttonState, cellOf, meanings, requestOf, rowOf, entry, framedRow, cellAt, rowAt}
+use Rattle.requests.specs.Row.{firstTimed, textKind, timedKind, textsLimit, noSlot, low, keyState, buttonState, cellOf, meanings, requestOf, rowOf, entry, framedRow, cellAt, rowAt}
 
 -- a number within its field is not cut
 pub low-is : (n : ℕ) → n < 4294967296 → low n ≡ n
@@ -41,19 +42,32 @@ only-last zero (suc k) = sym (eqb·suc-zero k)
 only-last (suc n) zero = sym (eqb·zero-suc n)
 only-last (suc n) (suc k) = only-last n k ∙ sym (eqb·suc-suc k n)
 
--- the texts are the cells of kind 21
-pub kind-text : (c : Cell) → isText (requestOf c) ≡ eqb (c .kind) 21
+-- the texts are the cells of their kind
+pub kind-text : (c : Cell) → isText (requestOf c) ≡ eqb (c .kind) textKind
 unfolding requestOf
-kind-text c = sym (List·getD-map isText (meanings c) (c .kind) Disconnect) ∙ only-last 21 (c .kind)
+kind-text c = sym (List·getD-map isText (meanings c) (c .kind) Disconnect) ∙ only-last textKind (c .kind)
 
-chosen : (b : Bool) (s : ℕ) → b ≡ ltb (cond b (s % 32) 32) 32
-chosen true s = sym (lt-ltb (s % 32) 32 (omega arith))
+chosen : (b : Bool) (s : ℕ) → b ≡ ltb (cond b (s % textsLimit) noSlot) textsLimit
+chosen true s = sym (lt-ltb (s % textsLimit) textsLimit (omega arith))
 chosen false s = refl
 
 -- a row's slot tells whether it has a text
-pub slot-text : (words : List ℕ) (reals : List Float) (i : ℕ) → isText (rowAt words reals i .request) ≡ ltb (rowAt words reals i .slot) 32
+pub slot-text : (words : List ℕ) (reals : List Float) (i : ℕ) → isText (rowAt words reals i .request) ≡ ltb (rowAt words reals i .slot) textsLimit
 unfolding rowAt rowOf entry
 slot-text words reals i = let c = cellAt words reals i in chosen (isText (requestOf c)) (c .flag)
+
+-- what the test of the timed kinds tells
+timed-within : (k : ℕ) → timedKind k ≡ true → (firstTimed ≤ k) × (k ≤ textKind)
+timed-within k e =
+    dite (decLt k firstTimed) (λ l. absurd (false≢true (sym (rw (lt-leb firstTimed k l)) ∙ e)))
+    (λ n. let h : firstTimed ≤ k = omega arith in (h, leb-true k textKind (sym (rw (le-leb firstTimed k h)) ∙ e)))
+
+untimed-outside : (k : ℕ) → timedKind k ≡ false → (k < firstTimed) ⊎ (textKind < k)
+untimed-outside k e =
+    dite (decLt k firstTimed) (λ l. inl l)
+    (λ n.
+    dite (decLt textKind k) (λ l. inr l)
+    (λ m. let h : firstTimed ≤ k = omega arith in let i : k ≤ textKind = omega arith in absurd (false≢true (sym e ∙ rw (le-leb firstTimed k h, le-leb k textKind i)))))
 
 module _ (c : Cell) (d t : ℕ) where
   -- the cell on the device d at the time t
@@ -67,33 +81,35 @@ module _ (c : Cell) (d t : ℕ) where
   unfolding requestOf
   framed-is = sym (List·getD-map (framedRequest d t) (meanings c) (c .kind) Disconnect)
 
-  -- the kinds from 8 to 21 are timed; among them the default does not count
-  late : 8 ≤ c .kind → c .kind ≤ 21 → requestOf at ≡ framedRequest d t (requestOf c)
+  -- among the timed kinds the default does not count
+  late : firstTimed ≤ c .kind → c .kind ≤ textKind → requestOf at ≡ framedRequest d t (requestOf c)
   unfolding requestOf
   late h k =
-      let j : ℕ = c .kind - 8 in
-      let e : 8 + j ≡ c .kind = omega arith in
-      let l : List EisRequest = drop 8 (meanings at) in
+      let j : ℕ = c .kind - firstTimed in
+      let e : firstTimed + j ≡ c .kind = omega arith in
+      let l : List EisRequest = drop firstTimed (meanings at) in
       ap (λ (i : ℕ). getD (meanings at) i Disconnect) (sym e)
-      ∙ sym (getD-drop 8 (meanings at) j Disconnect)
+      ∙ sym (getD-drop firstTimed (meanings at) j Disconnect)
       ∙ sym (getD-set-same l j (getD l j Disconnect) stop (omega arith))
       ∙ ap (λ (m : List EisRequest). getD m j stop) (set-getD l j Disconnect)
-      ∙ getD-drop 8 (map (framedRequest d t) (meanings c)) j stop
+      ∙ getD-drop firstTimed (map (framedRequest d t) (meanings c)) j stop
       ∙ ap (λ (i : ℕ). getD (map (framedRequest d t) (meanings c)) i stop) e
       ∙ sym framed-is
 
   -- the others are not
-  lost : (c .kind < 8) ⊎ (21 < c .kind) → framedRequest d t (requestOf c) ≡ stop
-  lost (inl h) = framed-is ∙ List·getD-append (replicate 8 stop) (drop 8 (meanings at)) stop (c .kind) h ∙ getD-replicate 8 (c .kind) stop stop h
+  lost : (c .kind < firstTimed) ⊎ (textKind < c .kind) → framedRequest d t (requestOf c) ≡ stop
+  lost (inl h) = framed-is ∙ List·getD-append (replicate firstTimed stop) (drop firstTimed (meanings at)) stop (c .kind) h ∙ getD-replicate firstTimed (c .kind) stop stop h
   lost (inr h) = framed-is ∙ List·getD-eq-default (map (framedRequest d t) (meanings c)) stop h
 
-  pub framed-row : 8 ≤ c .kind → c .kind ≤ 21 → rowOf at ≡ framedRow d t (rowOf c)
+  pub framed-row : timedKind (c .kind) ≡ true → rowOf at ≡ framedRow d t (rowOf c)
   unfolding rowOf entry framedRow
-  framed-row h k i = record { request = late h k i; slot = cond ((kind-text at ∙ sym (kind-text c)) i) (c .flag % 32) 32 }
+  framed-row h i = record { request = late (timed-within (c .kind) h .0) (timed-within (c .kind) h .1) i; slot = cond ((kind-text at ∙ sym (kind-text c)) i) (c .flag % textsLimit) noSlot }
 
-  no-text : (c .kind < 8) ⊎ (21 < c .kind) → isText (requestOf c) ≡ false
-  no-text o = kind-text c ∙ ne-eqb (c .kind) 21 (λ e. ⊎-elim (λ h. omega arith) (λ h. omega arith) o)
+  no-text : (c .kind < firstTimed) ⊎ (textKind < c .kind) → isText (requestOf c) ≡ false
+  no-text o = kind-text c ∙ ne-eqb (c .kind) textKind (λ e. ⊎-elim (λ h. omega arith) (λ h. omega arith) o)
 
-  pub lost-row : (c .kind < 8) ⊎ (21 < c .kind) → entry stop 32 ≡ framedRow d t (rowOf c)
+  pub lost-row : timedKind (c .kind) ≡ false → entry stop noSlot ≡ framedRow d t (rowOf c)
   unfolding rowOf entry framedRow
-  lost-row o i = record { request = sym (lost o) i; slot = cond (sym (no-text o) i) (c .flag % 32) 32 }
+  lost-row h i =
+      let o = untimed-outside (c .kind) h in
+      record { request = sym (lost o) i; slot = cond (sym (no-text o) i) (c .flag % textsLimit) noSlot }

@@ -1,18 +1,19 @@
 -- The definitions at work. Assumes nothing.
 use mathlib.Core.Path.{_≡_, refl}
+use mathlib.Core.Bool.{false}
 use lib.Ieee.{nan}
 use lib.IntN.{negsuc}
 use Rattle.eiproto.specs.declared.eiproto_enum.KeyState.{KeyState}
-use Rattle.requests.specs.declared.request.EisRequest.the-variants.{Disconnect, Frame, KeyboardKey, TextUtf8}
-use Rattle.requests.specs.Request.{setTime}
+use Rattle.requests.specs.declared.request.EisRequest.the-variants.{Disconnect, Frame, ScrollStop, KeyboardKey, TextUtf8}
+use Rattle.requests.specs.Request.{framedRequest}
 use Rattle.requests.specs.Row.{amountOf, cellOf, requestOf, rowOf, entry}
 
--- a key gets the time of its frame; the frame keeps its own
-key-timed : setTime 500 (KeyboardKey 7 3 30 KeyState.Press) ≡ KeyboardKey 7 500 30 KeyState.Press
-key-timed = refl
+-- a key gets the device and the time of its frame; a frame, which none but damage leaves pending, is lost
+key-framed : framedRequest 7 500 (KeyboardKey 0 3 30 KeyState.Press) ≡ KeyboardKey 7 500 30 KeyState.Press
+key-framed = refl
 
-frame-kept : setTime 500 (Frame 7 2 3) ≡ Frame 7 2 3
-frame-kept = refl
+frame-lost : framedRequest 7 500 (Frame 7 2 3) ≡ ScrollStop 7 500 false false
+frame-lost = refl
 
 -- 32 ones are minus 1
 all-ones : amountOf 4294967295 ≡ negsuc 0

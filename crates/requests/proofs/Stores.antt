@@ -9,7 +9,7 @@ use lib.Ieee.{Float, nan}
 use lib.ListN.{length, getD, set, length-set}
 use lib.Seq.{getD-set-same, getD-set-other}
 use Rattle.requests.specs.declared.cell.Cell.{Cell}
-use Rattle.requests.specs.Row.{Put, Within, cellAt}
+use Rattle.requests.specs.Row.{rowWords, rowReals, Put, Within, cellAt}
 
 module _ {A : Type 0} (l : List A) (b : ℕ) (v : ℕ → A) where
   -- the list after stores of v 0 to v n at b to b + n
@@ -40,7 +40,7 @@ module _ {A : Type 0} (l : List A) (b : ℕ) (v : ℕ → A) where
       let ek : k ≡ b + suc n = omega arith in
       rw (ej, ek) (getD-set-same (stored n) (b + suc n) (v (suc n)) d (omega (arith, long n))))
 
--- a row's stores of five words and two reals
+-- a row's stores of its words and reals
 module _ (words : List ℕ) (reals : List Float) (i : ℕ) (c : Cell) (h : Within words reals i) where
   abbrev pub wordOf : ℕ → ℕ
   wordOf k = getD (c .kind ∷ c .object ∷ c .time ∷ c .extra ∷ c .flag ∷ []) k 0
@@ -48,33 +48,33 @@ module _ (words : List ℕ) (reals : List Float) (i : ℕ) (c : Cell) (h : Withi
   abbrev pub realOf : ℕ → Float
   realOf k = getD (c .x ∷ c .y ∷ []) k nan
 
-  word : (j k : ℕ) → j ≤ 4 → k ≡ i * 5 + j → getD (stored words (i * 5) wordOf 4) k 0 ≡ wordOf j
-  word j k = near words (i * 5) wordOf 4 j k 0 (omega arith)
+  word : (j k : ℕ) → j ≤ 4 → k ≡ i * rowWords + j → getD (stored words (i * rowWords) wordOf 4) k 0 ≡ wordOf j
+  word j k = near words (i * rowWords) wordOf 4 j k 0 (omega arith)
 
-  real : (j k : ℕ) → j ≤ 1 → k ≡ i * 2 + j → getD (stored reals (i * 2) realOf 1) k nan ≡ realOf j
-  real j k = near reals (i * 2) realOf 1 j k nan (omega arith)
+  real : (j k : ℕ) → j ≤ 1 → k ≡ i * rowReals + j → getD (stored reals (i * rowReals) realOf 1) k nan ≡ realOf j
+  real j k = near reals (i * rowReals) realOf 1 j k nan (omega arith)
 
-  pub written : Put (cellAt words reals) (cellAt (stored words (i * 5) wordOf 4) (stored reals (i * 2) realOf 1)) i c
+  pub written : Put (cellAt words reals) (cellAt (stored words (i * rowWords) wordOf 4) (stored reals (i * rowReals) realOf 1)) i c
   unfolding cellAt
   written =
       record {
         here = λ t. record {
-          kind = word 0 (i * 5) (omega arith) (omega arith) t;
-          object = word 1 (i * 5 + 1) (omega arith) refl t;
-          time = word 2 (i * 5 + 2) (omega arith) refl t;
-          extra = word 3 (i * 5 + 3) (omega arith) refl t;
-          flag = word 4 (i * 5 + 4) (omega arith) refl t;
-          x = real 0 (i * 2) (omega arith) (omega arith) t;
-          y = real 1 (i * 2 + 1) (omega arith) refl t;
+          kind = word 0 (i * rowWords) (omega arith) (omega arith) t;
+          object = word 1 (i * rowWords + 1) (omega arith) refl t;
+          time = word 2 (i * rowWords + 2) (omega arith) refl t;
+          extra = word 3 (i * rowWords + 3) (omega arith) refl t;
+          flag = word 4 (i * rowWords + 4) (omega arith) refl t;
+          x = real 0 (i * rowReals) (omega arith) (omega arith) t;
+          y = real 1 (i * rowReals + 1) (omega arith) refl t;
         };
         other = λ m n t. record {
-          kind = far words (i * 5) wordOf 4 (m * 5) 0 (λ j l e. n (omega arith)) t;
-          object = far words (i * 5) wordOf 4 (m * 5 + 1) 0 (λ j l e. n (omega arith)) t;
-          time = far words (i * 5) wordOf 4 (m * 5 + 2) 0 (λ j l e. n (omega arith)) t;
-          extra = far words (i * 5) wordOf 4 (m * 5 + 3) 0 (λ j l e. n (omega arith)) t;
-          flag = far words (i * 5) wordOf 4 (m * 5 + 4) 0 (λ j l e. n (omega arith)) t;
-          x = far reals (i * 2) realOf 1 (m * 2) nan (λ j l e. n (omega arith)) t;
-          y = far reals (i * 2) realOf 1 (m * 2 + 1) nan (λ j l e. n (omega arith)) t;
+          kind = far words (i * rowWords) wordOf 4 (m * rowWords) 0 (λ j l e. n (omega arith)) t;
+          object = far words (i * rowWords) wordOf 4 (m * rowWords + 1) 0 (λ j l e. n (omega arith)) t;
+          time = far words (i * rowWords) wordOf 4 (m * rowWords + 2) 0 (λ j l e. n (omega arith)) t;
+          extra = far words (i * rowWords) wordOf 4 (m * rowWords + 3) 0 (λ j l e. n (omega arith)) t;
+          flag = far words (i * rowWords) wordOf 4 (m * rowWords + 4) 0 (λ j l e. n (omega arith)) t;
+          x = far reals (i * rowReals) realOf 1 (m * rowReals) nan (λ j l e. n (omega arith)) t;
+          y = far reals (i * rowReals) realOf 1 (m * rowReals + 1) nan (λ j l e. n (omega arith)) t;
         };
       }
 

@@ -1,9 +1,9 @@
--- A request as a row of the store: five words and two reals. Every row of numbers means some request. Assumes nothing.
+-- A request as a row of the store: some words and reals. Every row of numbers means some request. Assumes nothing.
 use Prim.Native.Nat.{ℕ, _+_, _*_, _≤_, _%_}
 use mathlib.Core.Path.{_≡_}
-use mathlib.Core.Bool.{cond}
+use mathlib.Core.Bool.{Bool, cond, _&&_}
 use mathlib.Core.List.{List, [], _∷_}
-use lib.Dec.{eqb}
+use lib.Dec.{eqb, leb}
 use lib.Ieee.{Float, nan}
 use lib.IntN.{ℤ}
 use lib.ListN.{getD, length}
@@ -60,17 +60,35 @@ meanings c =
     TextUtf8 (c .object) (c .time) (c .extra % 256) ∷
     []
 
+-- the timed requests ("the variants for which `time_mut` answers") come last, and of them the text
+abbrev pub firstTimed : ℕ
+firstTimed = 8
+
+abbrev pub textKind : ℕ
+textKind = 21
+
+abbrev pub timedKind : ℕ → Bool
+timedKind k = leb firstTimed k && leb k textKind
+
 -- the meaning at the cell's kind; a kind past the last means `Disconnect`
 unfoldable pub requestOf : Cell → EisRequest
 requestOf c = getD (meanings c) (c .kind) Disconnect
 
--- a request, with the slot that its text lies in: below 32 ("32 texts stand"), and 32 where it has no text
+-- "32 texts stand": the slots that texts lie in are those below
+abbrev pub textsLimit : ℕ
+textsLimit = 32
+
+-- that of no text
+abbrev pub noSlot : ℕ
+noSlot = textsLimit
+
+-- a request, with the slot that its text lies in
 pub record Row : Type 0 where
   pub request : EisRequest
   pub slot : ℕ
 
 unfoldable pub entry : EisRequest → ℕ → Row
-entry r s = record { request = r; slot = cond (isText r) (s % 32) 32 }
+entry r s = record { request = r; slot = cond (isText r) (s % textsLimit) noSlot }
 
 unfoldable pub rowOf : Cell → Row
 rowOf c = entry (requestOf c) (c .flag)
@@ -79,26 +97,36 @@ rowOf c = entry (requestOf c) (c .flag)
 unfoldable pub framedRow : (device time : ℕ) → Row → Row
 framedRow d t w = record { request = framedRequest d t (w .request); slot = w .slot }
 
--- row i is words 5 i to 5 i + 4 and reals 2 i and 2 i + 1
+-- the words and the reals of a row
+abbrev pub rowWords : ℕ
+rowWords = 5
+
+abbrev pub rowReals : ℕ
+rowReals = 2
+
 unfoldable pub cellAt : List ℕ → List Float → ℕ → Cell
 cellAt words reals i =
     cellOf
-    (getD words (i * 5) 0)
-    (getD words (i * 5 + 1) 0)
-    (getD words (i * 5 + 2) 0)
-    (getD words (i * 5 + 3) 0)
-    (getD words (i * 5 + 4) 0)
-    (getD reals (i * 2) nan)
-    (getD reals (i * 2 + 1) nan)
+    (getD words (i * rowWords) 0)
+    (getD words (i * rowWords + 1) 0)
+    (getD words (i * rowWords + 2) 0)
+    (getD words (i * rowWords + 3) 0)
+    (getD words (i * rowWords + 4) 0)
+    (getD reals (i * rowReals) nan)
+    (getD reals (i * rowReals + 1) nan)
 
 unfoldable pub rowAt : List ℕ → List Float → ℕ → Row
 rowAt words reals i = rowOf (cellAt words reals i)
 
 -- row i lies within the words and the reals
 abbrev pub Within : List ℕ → List Float → ℕ → Type 0
-Within words reals i = (i * 5 + 5 ≤ length words) × (i * 2 + 2 ≤ length reals)
+Within words reals i = (i * rowWords + rowWords ≤ length words) × (i * rowReals + rowReals ≤ length reals)
 
 -- a table after a was put at place i: there it stands, and every other place is as it was
 pub record Put {A : Type 0} (before after : ℕ → A) (i : ℕ) (a : A) : Type 0 where
   pub here : after i ≡ a
   pub other : (j : ℕ) → (j ≡ i → ⊥) → after j ≡ before j
+
+-- a pending row was put over another as the frame of its device queues it
+abbrev pub PutFramed : (before after : ℕ → Row) (from to device time : ℕ) → Type 0
+PutFramed before after from to d t = Put before after to (framedRow d t (before from))

@@ -1,10 +1,11 @@
 // A request as numbers. The requests that come most often are made here without the enum, which would go through memory on its way to a row.
+use crate::kinds;
 use crate::request::EisRequest;
 use eiproto::eiproto_enum::ButtonState;
 use eiproto::eiproto_enum::KeyState;
 ghost use mathlib.Core.Path.{_≡_};
 ghost use lib.Dec.{eqb};
-ghost use Rattle.requests.specs.Row.{amountOf, cellOf, requestOf, rowOf, entry};
+ghost use Rattle.requests.specs.Row.{noSlot, amountOf, cellOf, requestOf, rowOf, entry};
 
 // A request's numbers, by value.
 pub struct Cell {
@@ -54,30 +55,30 @@ fn amount_bits(x: i32) -> u64
     }
 }
 
-// The cells of a frame and of the timed requests, each named after its variant. A slot counts for a text alone; 32 is that of no text.
+// The cells of a frame and of the timed requests, each named after its variant. A slot counts for a text alone.
 pub fn frame(device: u64, serial: u32, time: u64) -> Cell
-    ensures { λ c. ⌜ rowOf c ≡ entry (EisRequest.Frame device serial time) 32 ⌝ }
+    ensures { λ c. ⌜ rowOf c ≡ entry (EisRequest.Frame device serial time) noSlot ⌝ }
 {
-    cell_of(4, device, time, serial as u64, 0, 0.0, 0.0)
+    cell_of(kinds::FRAME, device, time, serial as u64, 0, 0.0, 0.0)
 }
 
 pub fn pointer_motion(device: u64, time: u64, dx: f32, dy: f32) -> Cell
-    ensures { λ c. ⌜ rowOf c ≡ entry (EisRequest.PointerMotion device time dx dy) 32 ⌝ }
+    ensures { λ c. ⌜ rowOf c ≡ entry (EisRequest.PointerMotion device time dx dy) noSlot ⌝ }
 {
-    cell_of(8, device, time, 0, 0, dx, dy)
+    cell_of(kinds::POINTER_MOTION, device, time, 0, 0, dx, dy)
 }
 
 pub fn pointer_motion_absolute(device: u64, time: u64, dx: f32, dy: f32) -> Cell
-    ensures { λ c. ⌜ rowOf c ≡ entry (EisRequest.PointerMotionAbsolute device time dx dy) 32 ⌝ }
+    ensures { λ c. ⌜ rowOf c ≡ entry (EisRequest.PointerMotionAbsolute device time dx dy) noSlot ⌝ }
 {
-    cell_of(9, device, time, 0, 0, dx, dy)
+    cell_of(kinds::POINTER_MOTION_ABSOLUTE, device, time, 0, 0, dx, dy)
 }
 
 pub fn button(device: u64, time: u64, button: u32, state: ButtonState) -> Cell
-    ensures { λ c. ⌜ rowOf c ≡ entry (EisRequest.Button device time button state) 32 ⌝ }
+    ensures { λ c. ⌜ rowOf c ≡ entry (EisRequest.Button device time button state) noSlot ⌝ }
 {
     cell_of(
-        10,
+        kinds::BUTTON,
         device,
         time,
         button as u64,
@@ -88,34 +89,42 @@ pub fn button(device: u64, time: u64, button: u32, state: ButtonState) -> Cell
 }
 
 pub fn scroll_delta(device: u64, time: u64, dx: f32, dy: f32) -> Cell
-    ensures { λ c. ⌜ rowOf c ≡ entry (EisRequest.ScrollDelta device time dx dy) 32 ⌝ }
+    ensures { λ c. ⌜ rowOf c ≡ entry (EisRequest.ScrollDelta device time dx dy) noSlot ⌝ }
 {
-    cell_of(11, device, time, 0, 0, dx, dy)
+    cell_of(kinds::SCROLL_DELTA, device, time, 0, 0, dx, dy)
 }
 
 pub fn scroll_stop(device: u64, time: u64, x: bool, y: bool) -> Cell
-    ensures { λ c. ⌜ rowOf c ≡ entry (EisRequest.ScrollStop device time x y) 32 ⌝ }
+    ensures { λ c. ⌜ rowOf c ≡ entry (EisRequest.ScrollStop device time x y) noSlot ⌝ }
 {
-    cell_of(12, device, time, bit(x), bit(y), 0.0, 0.0)
+    cell_of(kinds::SCROLL_STOP, device, time, bit(x), bit(y), 0.0, 0.0)
 }
 
 pub fn scroll_cancel(device: u64, time: u64, x: bool, y: bool) -> Cell
-    ensures { λ c. ⌜ rowOf c ≡ entry (EisRequest.ScrollCancel device time x y) 32 ⌝ }
+    ensures { λ c. ⌜ rowOf c ≡ entry (EisRequest.ScrollCancel device time x y) noSlot ⌝ }
 {
-    cell_of(13, device, time, bit(x), bit(y), 0.0, 0.0)
+    cell_of(kinds::SCROLL_CANCEL, device, time, bit(x), bit(y), 0.0, 0.0)
 }
 
 pub fn scroll_discrete(device: u64, time: u64, dx: i32, dy: i32) -> Cell
-    ensures { λ c. ⌜ rowOf c ≡ entry (EisRequest.ScrollDiscrete device time dx dy) 32 ⌝ }
+    ensures { λ c. ⌜ rowOf c ≡ entry (EisRequest.ScrollDiscrete device time dx dy) noSlot ⌝ }
 {
-    cell_of(14, device, time, amount_bits(dx), amount_bits(dy), 0.0, 0.0)
+    cell_of(
+        kinds::SCROLL_DISCRETE,
+        device,
+        time,
+        amount_bits(dx),
+        amount_bits(dy),
+        0.0,
+        0.0,
+    )
 }
 
 pub fn keyboard_key(device: u64, time: u64, key: u32, state: KeyState) -> Cell
-    ensures { λ c. ⌜ rowOf c ≡ entry (EisRequest.KeyboardKey device time key state) 32 ⌝ }
+    ensures { λ c. ⌜ rowOf c ≡ entry (EisRequest.KeyboardKey device time key state) noSlot ⌝ }
 {
     cell_of(
-        15,
+        kinds::KEYBOARD_KEY,
         device,
         time,
         key as u64,
@@ -126,34 +135,34 @@ pub fn keyboard_key(device: u64, time: u64, key: u32, state: KeyState) -> Cell
 }
 
 pub fn touch_down(device: u64, time: u64, touch: u32, x: f32, y: f32) -> Cell
-    ensures { λ c. ⌜ rowOf c ≡ entry (EisRequest.TouchDown device time touch x y) 32 ⌝ }
+    ensures { λ c. ⌜ rowOf c ≡ entry (EisRequest.TouchDown device time touch x y) noSlot ⌝ }
 {
-    cell_of(16, device, time, touch as u64, 0, x, y)
+    cell_of(kinds::TOUCH_DOWN, device, time, touch as u64, 0, x, y)
 }
 
 pub fn touch_up(device: u64, time: u64, touch: u32) -> Cell
-    ensures { λ c. ⌜ rowOf c ≡ entry (EisRequest.TouchUp device time touch) 32 ⌝ }
+    ensures { λ c. ⌜ rowOf c ≡ entry (EisRequest.TouchUp device time touch) noSlot ⌝ }
 {
-    cell_of(17, device, time, touch as u64, 0, 0.0, 0.0)
+    cell_of(kinds::TOUCH_UP, device, time, touch as u64, 0, 0.0, 0.0)
 }
 
 pub fn touch_motion(device: u64, time: u64, touch: u32, x: f32, y: f32) -> Cell
-    ensures { λ c. ⌜ rowOf c ≡ entry (EisRequest.TouchMotion device time touch x y) 32 ⌝ }
+    ensures { λ c. ⌜ rowOf c ≡ entry (EisRequest.TouchMotion device time touch x y) noSlot ⌝ }
 {
-    cell_of(18, device, time, touch as u64, 0, x, y)
+    cell_of(kinds::TOUCH_MOTION, device, time, touch as u64, 0, x, y)
 }
 
 pub fn touch_cancel(device: u64, time: u64, touch: u32) -> Cell
-    ensures { λ c. ⌜ rowOf c ≡ entry (EisRequest.TouchCancel device time touch) 32 ⌝ }
+    ensures { λ c. ⌜ rowOf c ≡ entry (EisRequest.TouchCancel device time touch) noSlot ⌝ }
 {
-    cell_of(19, device, time, touch as u64, 0, 0.0, 0.0)
+    cell_of(kinds::TOUCH_CANCEL, device, time, touch as u64, 0, 0.0, 0.0)
 }
 
 pub fn text_keysym(device: u64, time: u64, keysym: u32, state: KeyState) -> Cell
-    ensures { λ c. ⌜ rowOf c ≡ entry (EisRequest.TextKeysym device time keysym state) 32 ⌝ }
+    ensures { λ c. ⌜ rowOf c ≡ entry (EisRequest.TextKeysym device time keysym state) noSlot ⌝ }
 {
     cell_of(
-        20,
+        kinds::TEXT_KEYSYM,
         device,
         time,
         keysym as u64,
@@ -166,5 +175,13 @@ pub fn text_keysym(device: u64, time: u64, keysym: u32, state: KeyState) -> Cell
 pub fn text_utf8(device: u64, time: u64, length: u8, slot: usize) -> Cell
     ensures { λ c. ⌜ rowOf c ≡ entry (EisRequest.TextUtf8 device time length) slot ⌝ }
 {
-    cell_of(21, device, time, length as u64, slot as u64, 0.0, 0.0)
+    cell_of(
+        kinds::TEXT_UTF8,
+        device,
+        time,
+        length as u64,
+        slot as u64,
+        0.0,
+        0.0,
+    )
 }

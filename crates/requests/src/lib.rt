@@ -1,4 +1,5 @@
 pub mod cell;
 pub mod eis;
+mod kinds;
 pub mod request;
 pub mod row;

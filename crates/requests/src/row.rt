@@ -1,12 +1,23 @@
-// A request as a row of lent slices: five words and two reals, with no two fields in one word.
+// A request as a row of lent slices: some words and reals, with no two fields in one word.
 // Any numbers mean some request, so what is read needs no test. Rows are named by their number; where they lie is known here alone.
 use crate::cell;
 use crate::cell::Cell;
+use crate::kinds;
 use crate::request::EisRequest;
 use eiproto::eiproto_enum::ButtonState;
 use eiproto::eiproto_enum::KeyState;
 ghost use mathlib.Core.Path.{_≡_};
-ghost use Rattle.requests.specs.Row.{low, amountOf, keyState, buttonState, requestOf, rowOf, entry, framedRow, cellAt, rowAt, Within, Put};
+ghost use Rattle.requests.specs.Row.{low, amountOf, keyState, buttonState, requestOf, rowOf, entry, framedRow, cellAt, rowAt, Within, Put, PutFramed};
+
+pub const ROW_WORDS: usize = 5;
+
+pub const ROW_REALS: usize = 2;
+
+// "32 texts stand": the slots that texts lie in are those below.
+pub const TEXTS_LIMIT: usize = 32;
+
+// That of no text.
+pub const NO_SLOT: usize = TEXTS_LIMIT;
 
 // The low 32 bits.
 fn low(n: u64) -> u32
@@ -52,9 +63,9 @@ pub fn encode(r: EisRequest, slot: usize) -> Cell
     ensures { λ c. ⌜ rowOf c ≡ entry r slot ⌝ }
 {
     match r {
-        EisRequest::Disconnect => cell::cell_of(0, 0, 0, 0, 0, 0.0, 0.0),
+        EisRequest::Disconnect => cell::cell_of(kinds::DISCONNECT, 0, 0, 0, 0, 0.0, 0.0),
         EisRequest::Bind { seat, capabilities } => cell::cell_of(
-            1,
+            kinds::BIND,
             seat,
             capabilities,
             0,
@@ -62,9 +73,17 @@ pub fn encode(r: EisRequest, slot: usize) -> Cell
             0.0,
             0.0,
         ),
-        EisRequest::DeviceClosed { device } => cell::cell_of(2, device, 0, 0, 0, 0.0, 0.0),
+        EisRequest::DeviceClosed { device } => cell::cell_of(
+            kinds::DEVICE_CLOSED,
+            device,
+            0,
+            0,
+            0,
+            0.0,
+            0.0,
+        ),
         EisRequest::RequestDevice { seat, capabilities } => cell::cell_of(
-            3,
+            kinds::REQUEST_DEVICE,
             seat,
             capabilities,
             0,
@@ -77,16 +96,32 @@ pub fn encode(r: EisRequest, slot: usize) -> Cell
             last_serial,
             time,
         } => cell::frame(device, last_serial, time),
-        EisRequest::Ready { device } => cell::cell_of(5, device, 0, 0, 0, 0.0, 0.0),
+        EisRequest::Ready { device } => cell::cell_of(kinds::READY, device, 0, 0, 0, 0.0, 0.0),
         EisRequest::DeviceStartEmulating {
             device,
             last_serial,
             sequence,
-        } => cell::cell_of(6, device, 0, last_serial as u64, sequence as u64, 0.0, 0.0),
+        } => cell::cell_of(
+            kinds::DEVICE_START_EMULATING,
+            device,
+            0,
+            last_serial as u64,
+            sequence as u64,
+            0.0,
+            0.0,
+        ),
         EisRequest::DeviceStopEmulating {
             device,
             last_serial,
-        } => cell::cell_of(7, device, 0, last_serial as u64, 0, 0.0, 0.0),
+        } => cell::cell_of(
+            kinds::DEVICE_STOP_EMULATING,
+            device,
+            0,
+            last_serial as u64,
+            0,
+            0.0,
+            0.0,
+        ),
         EisRequest::PointerMotion {
             device,
             time,
@@ -176,110 +211,110 @@ pub fn decode(c: Cell) -> EisRequest
     let flag = low(c.flag);
     let extra = low(c.extra);
     match kind {
-        0 => EisRequest::Disconnect,
-        1 => EisRequest::Bind {
+        kinds::DISCONNECT => EisRequest::Disconnect,
+        kinds::BIND => EisRequest::Bind {
             seat: c.object,
             capabilities: c.time,
         },
-        2 => EisRequest::DeviceClosed { device: c.object },
-        3 => EisRequest::RequestDevice {
+        kinds::DEVICE_CLOSED => EisRequest::DeviceClosed { device: c.object },
+        kinds::REQUEST_DEVICE => EisRequest::RequestDevice {
             seat: c.object,
             capabilities: c.time,
         },
-        4 => EisRequest::Frame {
+        kinds::FRAME => EisRequest::Frame {
             device: c.object,
             last_serial: extra,
             time: c.time,
         },
-        5 => EisRequest::Ready { device: c.object },
-        6 => EisRequest::DeviceStartEmulating {
+        kinds::READY => EisRequest::Ready { device: c.object },
+        kinds::DEVICE_START_EMULATING => EisRequest::DeviceStartEmulating {
             device: c.object,
             last_serial: extra,
             sequence: flag,
         },
-        7 => EisRequest::DeviceStopEmulating {
+        kinds::DEVICE_STOP_EMULATING => EisRequest::DeviceStopEmulating {
             device: c.object,
             last_serial: extra,
         },
-        8 => EisRequest::PointerMotion {
+        kinds::POINTER_MOTION => EisRequest::PointerMotion {
             device: c.object,
             time: c.time,
             dx: c.x,
             dy: c.y,
         },
-        9 => EisRequest::PointerMotionAbsolute {
+        kinds::POINTER_MOTION_ABSOLUTE => EisRequest::PointerMotionAbsolute {
             device: c.object,
             time: c.time,
             dx_absolute: c.x,
             dy_absolute: c.y,
         },
-        10 => EisRequest::Button {
+        kinds::BUTTON => EisRequest::Button {
             device: c.object,
             time: c.time,
             button: extra,
             state: button,
         },
-        11 => EisRequest::ScrollDelta {
+        kinds::SCROLL_DELTA => EisRequest::ScrollDelta {
             device: c.object,
             time: c.time,
             dx: c.x,
             dy: c.y,
         },
-        12 => EisRequest::ScrollStop {
+        kinds::SCROLL_STOP => EisRequest::ScrollStop {
             device: c.object,
             time: c.time,
             x: c.extra == 1,
             y: c.flag == 1,
         },
-        13 => EisRequest::ScrollCancel {
+        kinds::SCROLL_CANCEL => EisRequest::ScrollCancel {
             device: c.object,
             time: c.time,
             x: c.extra == 1,
             y: c.flag == 1,
         },
-        14 => EisRequest::ScrollDiscrete {
+        kinds::SCROLL_DISCRETE => EisRequest::ScrollDiscrete {
             device: c.object,
             time: c.time,
             discrete_dx: dx,
             discrete_dy: dy,
         },
-        15 => EisRequest::KeyboardKey {
+        kinds::KEYBOARD_KEY => EisRequest::KeyboardKey {
             device: c.object,
             time: c.time,
             key: extra,
             state: key,
         },
-        16 => EisRequest::TouchDown {
+        kinds::TOUCH_DOWN => EisRequest::TouchDown {
             device: c.object,
             time: c.time,
             touch_id: extra,
             x: c.x,
             y: c.y,
         },
-        17 => EisRequest::TouchUp {
+        kinds::TOUCH_UP => EisRequest::TouchUp {
             device: c.object,
             time: c.time,
             touch_id: extra,
         },
-        18 => EisRequest::TouchMotion {
+        kinds::TOUCH_MOTION => EisRequest::TouchMotion {
             device: c.object,
             time: c.time,
             touch_id: extra,
             x: c.x,
             y: c.y,
         },
-        19 => EisRequest::TouchCancel {
+        kinds::TOUCH_CANCEL => EisRequest::TouchCancel {
             device: c.object,
             time: c.time,
             touch_id: extra,
         },
-        20 => EisRequest::TextKeysym {
+        kinds::TEXT_KEYSYM => EisRequest::TextKeysym {
             device: c.object,
             time: c.time,
             keysym: extra,
             state: key,
         },
-        21 => EisRequest::TextUtf8 {
+        kinds::TEXT_UTF8 => EisRequest::TextUtf8 {
             device: c.object,
             time: c.time,
             length: (c.extra % 256) as u8,
@@ -288,22 +323,22 @@ pub fn decode(c: Cell) -> EisRequest
     }
 }
 
-// The slot of the text, below 32; 32 where there is no text.
+// The slot of the text; `NO_SLOT` where there is no text.
 pub fn slot_of(c: Cell) -> usize
     ensures { λ s. ⌜ s ≡ rowOf c .slot ⌝ }
 {
-    if c.kind == 21 {
-        (c.flag % 32) as usize
+    if c.kind == kinds::TEXT_UTF8 {
+        (c.flag % TEXTS_LIMIT as u64) as usize
     } else {
-        32
+        NO_SLOT
     }
 }
 
-// A pending cell as the frame of its device queues it. The timed kinds are those from 8 on, so a frame moves cells and decodes none.
+// A pending cell as the frame of its device queues it. The kind tells whether it is timed, so a frame moves cells and decodes none.
 fn framed(c: Cell, device: u64, time: u64) -> Cell
     ensures { λ r. ⌜ rowOf r ≡ framedRow device time (rowOf c) ⌝ }
 {
-    if c.kind < 8 || 21 < c.kind {
+    if !kinds::is_timed(c.kind) {
         return cell::scroll_stop(device, time, false, false);
     }
     let mut r = c;
@@ -316,8 +351,8 @@ fn read_cell(words: &[u64], reals: &[f32], row: usize) -> Cell
     requires { ⌜ Within (now words) (now reals) row ⌝ }
     ensures { λ c. ⌜ c ≡ cellAt (now (words .entry)) (now (reals .entry)) row ⌝ }
 {
-    let w = row * 5;
-    let r = row * 2;
+    let w = row * ROW_WORDS;
+    let r = row * ROW_REALS;
     Cell {
         kind: words[w],
         object: words[w + 1],
@@ -333,8 +368,8 @@ fn write_cell(words: &mut [u64], reals: &mut [f32], row: usize, c: Cell)
     requires { ⌜ Within (now words) (now reals) row ⌝ }
     ensures { λ _. ⌜ Put (cellAt (now (words .entry)) (now (reals .entry))) (cellAt (now (words .exit)) (now (reals .exit))) row c ⌝ }
 {
-    let w = row * 5;
-    let r = row * 2;
+    let w = row * ROW_WORDS;
+    let r = row * ROW_REALS;
     words[w] = c.kind;
     words[w + 1] = c.object;
     words[w + 2] = c.time;
@@ -352,7 +387,7 @@ pub fn load(words: &[u64], reals: &[f32], row: usize) -> EisRequest
     decode(read_cell(words, reals, row))
 }
 
-// The slot of a row's text, below 32; 32 where the row has no text.
+// The slot of a row's text; `NO_SLOT` where the row has no text.
 pub fn load_slot(words: &[u64], reals: &[f32], row: usize) -> usize
     requires { ⌜ Within (now words) (now reals) row ⌝ }
     ensures { λ s. ⌜ s ≡ rowAt (now (words .entry)) (now (reals .entry)) row .slot ⌝ }
@@ -386,7 +421,7 @@ pub fn copy_framed(
     time: u64,
 )
     requires { ⌜ Within (now words) (now reals) from × Within (now words) (now reals) to ⌝ }
-    ensures { λ _. ⌜ Put (rowAt (now (words .entry)) (now (reals .entry))) (rowAt (now (words .exit)) (now (reals .exit))) to (framedRow device time (rowAt (now (words .entry)) (now (reals .entry)) from)) ⌝ }
+    ensures { λ _. ⌜ PutFramed (rowAt (now (words .entry)) (now (reals .entry))) (rowAt (now (words .exit)) (now (reals .exit))) from to device time ⌝ }
 {
     let c = read_cell(words, reals, from);
     write_cell(words, reals, to, framed(c, device, time));

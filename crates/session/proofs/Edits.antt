@@ -13,7 +13,7 @@ use Rattle.eiproto.specs.Bits.{bitsOf}
 use Rattle.requests.specs.Row.{Row, rowAt}
 use Rattle.touches.specs.declared.DownTouchIds.{DownTouchIds}
 use Rattle.touches.specs.declared.DownAnswer.{DownAnswer}
-use Rattle.touches.specs.Touches.{held, member, without, downRefusal}
+use Rattle.touches.specs.Touches.{touchesLimit, held, member, without, downRefusal}
 use Rattle.touches.specs.Changes.{Holds, Inserts, Removes}
 use Rattle.model.specs.Call.{Load}
 use Rattle.model.specs.Session.{Item, Interface, Seat, Device, Connection, Session}
@@ -27,7 +27,7 @@ use Rattle.control.proofs.Interfaces.{new-length}
 use Rattle.control.proofs.Models.{seats-without}
 use Rattle.control.specs.Change.{SameQueue, Reconnected, Amended, Appended, newCore, withTouches, withInterfaces, unlinkedBit, withSeats, withSerial, withNextId}
 use Rattle.control.proofs.Lists.{amended-devices, reconnected-twice, new-core, unlinked-core}
-use Rattle.session.specs.View.{pendingRow, itemAt, deviceIn, queueIn, sessionIn, session}
+use Rattle.session.specs.View.{lastId, pendingRow, itemAt, deviceIn, queueIn, sessionIn, session}
 use Rattle.session.specs.Enact.{EnactedControl}
 use Rattle.session.proofs.Views.{session-of, device-ext, queue-ext}
 
@@ -188,11 +188,11 @@ module _ {c e : List ℕ} where
 
 -- ---- the touches themselves
 
-pub inserts : {ids : List ℕ} {d f : DownTouchIds} {answer : DownAnswer} {t : ℕ} → Holds ids d → Inserts t d f answer → length ids < 16 → member t ids ≡ false
+pub inserts : {ids : List ℕ} {d f : DownTouchIds} {answer : DownAnswer} {t : ℕ} → Holds ids d → Inserts t d f answer → length ids < touchesLimit → member t ids ≡ false
     → Holds (ids ++ (t ∷ [])) f
 unfolding downRefusal
 inserts {ids} {d} {f} {answer} {t} h i few new =
-    let z : downRefusal t ids ≡ 0 = rw (lt-leb 16 (length ids) few, new) in
+    let z : downRefusal t ids ≡ 0 = rw (lt-leb touchesLimit (length ids) few, new) in
     subst (λ (xs : List ℕ). Holds (xs ++ (t ∷ [])) f) (h .ids-are) (i .inserted (ap (downRefusal t) (h .ids-are) ∙ z))
 
 without-unheld : (t : ℕ) (ids : List ℕ) → member t ids ≡ false → without t ids ≡ ids
@@ -215,7 +215,7 @@ removes {ids} {d} {f} {answer} {t} h r = go (member t ids) refl
 
 -- ---- a device more
 
-new-device : (id seat caps : ℕ) → caps < 128 → id + 1 + length (bitsOf caps) ≤ 18446744073709551615 → deviceOn (newCore id seat (caps % 128)) [] ≡ newDevice id seat caps
+new-device : (id seat caps : ℕ) → caps < 128 → id + 1 + length (bitsOf caps) ≤ lastId → deviceOn (newCore id seat (caps % 128)) [] ≡ newDevice id seat caps
 unfolding newCore newDevice
 new-device id seat caps small room =
     ap (λ (n : ℕ). deviceOn (newCore id seat n) []) (mod-eq-of-lt small)
@@ -237,7 +237,7 @@ enact-device s load id seat caps to is will =
     is
 
 pub device-added : {c m e : List ℕ} {n : ℕ} (id seat caps : ℕ) → id ≡ connectionOf c .nextId → n ≡ length (bitsOf caps) → caps < 128
-    → connectionOf c .nextId + 1 + length (bitsOf caps) ≤ 18446744073709551615 → Appended c m (newCore id seat (caps % 128))
+    → connectionOf c .nextId + 1 + length (bitsOf caps) ≤ lastId → Appended c m (newCore id seat (caps % 128))
     → Reconnected m e (withNextId (id + 1 + n) (connectionOf m)) → EnactedControl c e (Edit.addDevice seat caps ∷ [])
 unfolding session sessionIn enactAll newCore tab
 device-added {c} {m} {e} {n} id seat caps is counted small room a b words reals texts load =

@@ -1,5 +1,5 @@
 -- Slices worked out by hand from the layout, and the session that they hold. Assumes nothing.
-use Prim.Native.Nat.{ℕ}
+use Prim.Native.Nat.{ℕ, _-_, _*_}
 use mathlib.Core.Path.{_≡_, refl}
 use mathlib.Core.Bool.{true, false}
 use mathlib.Core.List.{List, [], _∷_, _++_}
@@ -8,13 +8,13 @@ use lib.Ieee.{Float, nan}
 use lib.ListN.{replicate}
 use Rattle.eiproto.specs.declared.eiproto_enum.KeyState.{KeyState}
 use Rattle.eiproto.specs.Bits.{bitsOf, bitsBelow}
-use Rattle.requests.specs.Row.{requestOf, entry, rowOf, cellAt, rowAt}
+use Rattle.requests.specs.Row.{rowWords, requestOf, entry, rowOf, cellAt, rowAt}
 use Rattle.model.specs.Call.{Kind, Load}
 use Rattle.model.specs.Session.{Untimed, Request}
 use Rattle.control.specs.Table.{tab}
-use Rattle.control.specs.Control.{versionIn, seatAt, versionsOf, connectionOf, interfaceId, interfaceOn, interfacesOn, coreAt}
+use Rattle.control.specs.Control.{queueLimit, controlLength, versionIn, seatAt, versionsOf, connectionOf, interfaceId, interfaceOn, interfacesOn, coreAt}
 use Rattle.control.specs.Sound.{rowSound, rowsSound, isSound}
-use Rattle.session.specs.View.{store, itemOf, requestIn, itemIn, textOf, requestAt, itemAt, deviceIn, queueIn, sessionIn, session, isWhole}
+use Rattle.session.specs.View.{queueStart, realsLength, slotLength, textsLength, store, itemOf, requestIn, itemIn, textOf, requestAt, itemAt, deviceIn, queueIn, sessionIn, session, isWhole}
 
 -- Connection 5, last serial 7, next id 100; version 2 of the first interface, no other; seat 8 has all capabilities. Device 20 on it has pointer and
 -- keyboard (bits 0 and 2), pointer is unlinked, touch 9 is held, and one request is pending. Two are queued, the oldest at the last place of the ring.
@@ -22,17 +22,17 @@ control : List ℕ
 control =
     (5 ∷ 7 ∷ 100 ∷ 1 ∷ 1 ∷ 255 ∷ 2 ∷ 0 ∷ [])
     ++ ((3 ∷ 0 ∷ 0 ∷ 0 ∷ 0 ∷ 0 ∷ 0 ∷ 0 ∷ 0 ∷ 0 ∷ 0 ∷ 0 ∷ [])
-    ++ ((8 ∷ 127 ∷ 0 ∷ 0 ∷ 0 ∷ 0 ∷ 0 ∷ 0 ∷ 0 ∷ 0 ∷ 0 ∷ 0 ∷ []) ++ ((20 ∷ 8 ∷ 5 ∷ 4 ∷ 1 ∷ 1 ∷ 9 ∷ []) ++ replicate 185 0)))
+    ++ ((8 ∷ 127 ∷ 0 ∷ 0 ∷ 0 ∷ 0 ∷ 0 ∷ 0 ∷ 0 ∷ 0 ∷ 0 ∷ 0 ∷ []) ++ ((20 ∷ 8 ∷ 5 ∷ 4 ∷ 1 ∷ 1 ∷ 9 ∷ []) ++ replicate (controlLength - 39) 0)))
 
--- row 0 is a key, row 512 a Ready, row 767 a text of two bytes in slot 1
+-- the first row is a key, the first of the ring a Ready, the last of the ring a text of two bytes in slot 1
 words : List ℕ
-words = (15 ∷ 20 ∷ 0 ∷ 30 ∷ 1 ∷ []) ++ (replicate 2555 0 ++ ((5 ∷ 20 ∷ 0 ∷ 0 ∷ 0 ∷ []) ++ (replicate 1270 0 ++ (21 ∷ 20 ∷ 1000 ∷ 2 ∷ 1 ∷ []))))
+words = (15 ∷ 20 ∷ 0 ∷ 30 ∷ 1 ∷ []) ++ (replicate (rowWords * (queueStart - 1)) 0 ++ ((5 ∷ 20 ∷ 0 ∷ 0 ∷ 0 ∷ []) ++ (replicate (rowWords * (queueLimit - 2)) 0 ++ (21 ∷ 20 ∷ 1000 ∷ 2 ∷ 1 ∷ []))))
 
 reals : List Float
-reals = replicate 1536 nan
+reals = replicate realsLength nan
 
 texts : List ℕ
-texts = replicate 256 0 ++ ((104 ∷ 105 ∷ 33 ∷ []) ++ replicate 7933 0)
+texts = replicate slotLength 0 ++ ((104 ∷ 105 ∷ 33 ∷ []) ++ replicate (textsLength - slotLength - 3) 0)
 
 whole : isWhole (store control words reals texts) ≡ true
 unfolding isWhole isSound rowsSound rowSound control words reals texts

@@ -1,3 +1,4 @@
+pub mod Shapes
 pub mod Views
 pub mod Edits
 pub mod Examples

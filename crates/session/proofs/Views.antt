@@ -1,5 +1,5 @@
 -- What the slices of a session show: its tables' lengths, what is found in them, and when two stores show the same. Assumes nothing.
-use Prim.Native.Nat.{ℕ, zero, suc, _≤_, _<_}
+use Prim.Native.Nat.{ℕ, _≤_, _<_}
 use mathlib.Core.Path.{_≡_, refl, sym, ap, _∙_}
 use mathlib.Core.Bool.{Bool, true, false, _&&_, false≢true}
 use mathlib.Core.List.{List, [], _∷_, _++_, map}
@@ -16,9 +16,9 @@ use Rattle.model.specs.Edit.{Edit, enactAll}
 use Rattle.model.specs.Decide.{find, deviceOf, linksIn, deviceForInterface, seatIn, seatOf}
 use Rattle.model.specs.Step.{counts}
 use Rattle.control.specs.Table.{tab, mapOption, first}
-use Rattle.control.specs.Control.{seatCount, deviceCount, queueHead, queueLength, seatAt, connectionOf, Core, coreAt, coresOf}
+use Rattle.control.specs.Control.{pendingLimit, seatCount, deviceCount, queueHead, queueLength, seatAt, connectionOf, Core, coreAt, coresOf}
 use Rattle.control.specs.Sound.{Sound, isSound}
-use Rattle.control.proofs.Tables.{tab-same, tab-length, tab-at}
+use Rattle.control.proofs.Tables.{tab-same, tab-length, tab-at, tab-map}
 use Rattle.control.proofs.Models as models
 use Rattle.control.proofs.Sounds.{sound-bounds, bounds-sound, pending-bound}
 use Rattle.session.specs.View.{Store, wordsLength, realsLength, textsLength, pendingRow, queueRow, requestAt, itemAt, deviceIn, queueIn, sessionIn, session, isLent, isWhole, Lent, Whole, Lending, isIntact}
@@ -152,15 +152,10 @@ module _ (s : Store) where
   unfolding queueIn
   requests-length = ap length requests-are ∙ tab-length (queueLength (s .control)) _
 
-map-tab : {A B : Type 0} (h : A → B) (n : ℕ) (f : ℕ → A) → map h (tab n f) ≡ tab n (λ k. h (f k))
-unfolding tab
-map-tab h zero f = refl
-map-tab {A} {B} h (suc n) f = ap (λ (xs : List B). h (f 0) ∷ xs) (map-tab h n (λ k. f (suc k)))
-
 module _ (s : Store) where
   pub seen-devices : view (session s) .devices ≡ tab (deviceCount (s .control)) (deviceSeen s)
   unfolding view mapSession
-  seen-devices = ap (map (mapDevice blank)) (devices-are s) ∙ map-tab (mapDevice blank) (deviceCount (s .control)) (deviceAt s)
+  seen-devices = ap (map (mapDevice blank)) (devices-are s) ∙ tab-map (mapDevice blank) (deviceCount (s .control)) (deviceAt s)
 
   pub device-id : (k : ℕ) → deviceSeen s k .id ≡ coreAt (s .control) k .id
   unfolding mapDevice deviceIn
@@ -188,11 +183,11 @@ module _ (s : Store) where
   pending-count k l =
       let n : ℕ = deviceCount (s .control) in
       ap (λ (ds : List (Device Load)). getD (map (λ d. length (d .pending)) ds) k 0) (devices-are s)
-      ∙ ap (λ (ns : List ℕ). getD ns k 0) (map-tab (λ d. length (d .pending)) n (deviceAt s))
+      ∙ ap (λ (ns : List ℕ). getD ns k 0) (tab-map (λ d. length (d .pending)) n (deviceAt s))
       ∙ tab-at n (λ j. length (deviceAt s j .pending)) k 0 l ∙ device-pending k
 
   -- every pending list is within its limit
-  pub pending-few : Whole s → (k : ℕ) → k < length (session s .devices) → getD (counts (session s) .pending) k 0 ≤ 64
+  pub pending-few : Whole s → (k : ℕ) → k < length (session s .devices) → getD (counts (session s) .pending) k 0 ≤ pendingLimit
   pending-few w k h =
       let l : k < deviceCount (s .control) = omega (arith, devices-length s) in omega (arith, pending-count k l, pending-bound (w .sound) k l)
 

@@ -10,11 +10,11 @@ use lib.ListN.{length, take, drop}
 use Rattle.requests.specs.declared.request.EisRequest.{EisRequest}
 use Rattle.requests.specs.declared.request.EisRequest.the-variants.{Disconnect, Bind, DeviceClosed, RequestDevice, Frame, Ready, DeviceStartEmulating, DeviceStopEmulating, PointerMotion, PointerMotionAbsolute, Button, ScrollDelta, ScrollStop, ScrollCancel, ScrollDiscrete, KeyboardKey, TouchDown, TouchUp, TouchMotion, TouchCancel, TextKeysym, TextUtf8}
 use Rattle.requests.specs.Request.{textLength}
-use Rattle.requests.specs.Row.{Row, rowAt}
+use Rattle.requests.specs.Row.{textsLimit, Row, rowWords, rowReals, rowAt}
 use Rattle.model.specs.Call.{Kind, Load}
 use Rattle.model.specs.Session.{Item, Untimed, Request, Device, Session}
 use Rattle.control.specs.Table.{tab}
-use Rattle.control.specs.Control.{deviceCount, queueHead, queueLength, connectionOf, coreAt}
+use Rattle.control.specs.Control.{devicesLimit, pendingLimit, queueLimit, deviceCount, queueHead, queueLength, connectionOf, coreAt}
 use Rattle.control.specs.Sound.{Sound, isSound}
 
 -- ---- the slices: control words (the layout is in control's specs), rows of requests as words and reals, texts
@@ -28,24 +28,37 @@ pub record Store : Type 0 where
 abbrev pub store : List ℕ → List ℕ → List Float → List ℕ → Store
 store c w r t = record { control = c; words = w; reals = r; texts = t }
 
--- 768 rows of five words and two reals: 64 pending requests for each of 8 devices, then a ring of 256 queued ones
-abbrev pub wordsLength : ℕ
-wordsLength = 3840
-
-abbrev pub realsLength : ℕ
-realsLength = 1536
-
--- 32 slots of 256 bytes: a text has at most 254, and any length that a row can hold lies within its slot
-abbrev pub textsLength : ℕ
-textsLength = 8192
-
 -- request j of the pending list of slot k
 abbrev pub pendingRow : (k j : ℕ) → ℕ
-pendingRow k j = 64 * k + j
+pendingRow k j = pendingLimit * k + j
+
+-- behind the pending lists of all devices, the queue's ring
+abbrev pub queueStart : ℕ
+queueStart = pendingLimit * devicesLimit
 
 -- request j of the queue, whose oldest stands at `head` of the ring
 abbrev pub queueRow : (head j : ℕ) → ℕ
-queueRow head j = 512 + (head + j) % 256
+queueRow head j = queueStart + (head + j) % queueLimit
+
+abbrev pub rowCount : ℕ
+rowCount = queueStart + queueLimit
+
+abbrev pub wordsLength : ℕ
+wordsLength = rowWords * rowCount
+
+abbrev pub realsLength : ℕ
+realsLength = rowReals * rowCount
+
+-- a slot for each text. A text has at most 254 bytes, and any length that a row can hold, which is a byte, lies within its slot
+abbrev pub slotLength : ℕ
+slotLength = 256
+
+abbrev pub textsLength : ℕ
+textsLength = slotLength * textsLimit
+
+-- the last number that an id may be
+abbrev pub lastId : ℕ
+lastId = 18446744073709551615
 
 -- ---- what they mean
 
@@ -83,9 +96,19 @@ unfoldable pub itemIn : Request Load → Item Load
 itemIn (Request.timed d t i) = i
 itemIn (Request.untimed r) = itemOf Kind.ScrollStop 0 (Load.Axes false false)
 
+-- the text of a load; the empty one where it is none
+abbrev pub textIn : Load → List ℕ
+textIn (Load.Text text) = text
+textIn Load.None = []
+textIn (Load.Point x y) = []
+textIn (Load.ButtonPress b s) = []
+textIn (Load.KeyPress k s) = []
+textIn (Load.Discrete x y) = []
+textIn (Load.Axes x y) = []
+
 -- the text of a row; the empty one where it has none
 unfoldable pub textOf : List ℕ → Row → List ℕ
-textOf texts w = take (textLength (w .request)) (drop (256 * w .slot) texts)
+textOf texts w = take (textLength (w .request)) (drop (slotLength * w .slot) texts)
 
 unfoldable pub requestAt : List ℕ → Row → Request Load
 unfolding requestIn textOf

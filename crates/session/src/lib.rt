@@ -1,26 +1,40 @@
 // The edits of a session that change its control words alone, in place. What the four lent slices of a session mean is in specs/View.
+use control::DEVICES_LIMIT;
+use control::PENDING_LIMIT;
+use control::QUEUE_LIMIT;
 use control::Slot;
 use eiproto::event::DeviceCapability;
+use requests::row::ROW_REALS;
+use requests::row::ROW_WORDS;
+use requests::row::TEXTS_LIMIT;
 ghost use mathlib.Core.Path.{_≡_};
 ghost use mathlib.Core.Bool.{true, false};
 ghost use mathlib.Core.List.{[], _∷_};
 ghost use Prim.Native.Nat.{ℕ, _+_, _≤_, _<_};
 ghost use lib.ListN.{length};
 ghost use Rattle.eiproto.specs.Bits.{bitsOf};
-ghost use Rattle.touches.specs.Touches.{member};
+ghost use Rattle.touches.specs.Touches.{touchesLimit, member};
 ghost use Rattle.model.specs.Decide.{linksIn};
 ghost use Rattle.model.specs.Edit.{Amend, Edit, raised};
-ghost use Rattle.control.specs.Control.{seatCount, deviceCount, connectionOf, coreAt};
+ghost use Rattle.control.specs.Control.{seatsLimit, devicesLimit, seatCount, deviceCount, connectionOf, touchesAt, coreAt};
 ghost use Rattle.control.specs.Sound.{Sound};
-ghost use Rattle.session.specs.View.{isLent, isWhole};
+ghost use Rattle.session.specs.View.{lastId, isLent, isWhole};
 ghost use Rattle.session.specs.Slices.{before};
 ghost use Rattle.session.specs.Enact.{EnactsControl};
 
-pub const WORDS_LENGTH: usize = 3840;
+// The rows of requests: as many for each device as may be pending on it, and behind them the queue's ring.
+pub const QUEUE_START: usize = PENDING_LIMIT * DEVICES_LIMIT;
 
-pub const REALS_LENGTH: usize = 1536;
+pub const ROW_COUNT: usize = QUEUE_START + QUEUE_LIMIT;
 
-pub const TEXTS_LENGTH: usize = 8192;
+pub const WORDS_LENGTH: usize = ROW_WORDS * ROW_COUNT;
+
+pub const REALS_LENGTH: usize = ROW_REALS * ROW_COUNT;
+
+// A slot for each text.
+pub const SLOT_LENGTH: usize = 256;
+
+pub const TEXTS_LENGTH: usize = SLOT_LENGTH * TEXTS_LIMIT;
 
 // Refusal 21's test, of a call that is lent the control words and the rows of requests. Its time does not grow with what is queued.
 pub fn lent(control: &[u64], words: &[u64], reals: &[f32]) -> bool
@@ -55,7 +69,7 @@ pub fn raise(control: &mut [u64], serial: u32)
 
 // A seat more, with the next id.
 pub fn add_seat(control: &mut [u64], capabilities: u64)
-    requires { ⌜ Sound (now control) × ((seatCount (now control) < 4) × ((capabilities < 128) × (connectionOf (now control) .nextId + 1 ≤ 18446744073709551615))) ⌝ }
+    requires { ⌜ Sound (now control) × ((seatCount (now control) < seatsLimit) × ((capabilities < 128) × (connectionOf (now control) .nextId + 1 ≤ lastId))) ⌝ }
     ensures { λ _. ⌜ EnactsControl control (Edit.addSeat capabilities ∷ []) ⌝ }
 {
     let id = control::next_id(control);
@@ -76,7 +90,7 @@ pub fn remove_seat(control: &mut [u64], id: u64)
 
 // A device more, with the next id, and an interface for each capability with the ids behind it.
 pub fn add_device(control: &mut [u64], seat: u64, capabilities: u64)
-    requires { ⌜ Sound (now control) × ((deviceCount (now control) < 8) × ((capabilities < 128) × (connectionOf (now control) .nextId + 1 + length (bitsOf capabilities) ≤ 18446744073709551615))) ⌝ }
+    requires { ⌜ Sound (now control) × ((deviceCount (now control) < devicesLimit) × ((capabilities < 128) × (connectionOf (now control) .nextId + 1 + length (bitsOf capabilities) ≤ lastId))) ⌝ }
     ensures { λ _. ⌜ EnactsControl control (Edit.addDevice seat capabilities ∷ []) ⌝ }
 {
     let id = control::next_id(control);
@@ -87,7 +101,7 @@ pub fn add_device(control: &mut [u64], seat: u64, capabilities: u64)
 
 // A touch more that is down on the device in slot k.
 pub fn touch_down(control: &mut [u64], k: usize, touch: u32)
-    requires { ⌜ Sound (now control) × ((k < deviceCount (now control)) × ((length (coreAt (now control) k .downTouchIds) < 16) × (member touch (coreAt (now control) k .downTouchIds) ≡ false))) ⌝ }
+    requires { ⌜ Sound (now control) × ((k < deviceCount (now control)) × ((length (touchesAt (now control) k) < touchesLimit) × (member touch (touchesAt (now control) k) ≡ false))) ⌝ }
     ensures { λ _. ⌜ EnactsControl control (Edit.amend k (Amend.touchDown touch) ∷ []) ⌝ }
 {
     let held = control::edits::down_touch_ids(control, k);

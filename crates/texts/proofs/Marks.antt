@@ -1,9 +1,12 @@
 -- The mask of the slots in use: a slot marked, and a slot that is not. Assumes nothing.
 use Prim.Native.Nat.{ℕ, zero, suc, _+_, _-_, _/_, _%_, _^_, _≤_, _<_}
-use mathlib.Core.Path.{_≡_, refl, ap, sym, subst, _∙_}
+use mathlib.Core.Path.{_≡_, refl, ap, ap₂, sym, _∙_}
+use mathlib.Core.Logic.{dite}
+use native.Mathlib.Decide.{decLt}
+use lib.Dec.{ltb}
+use Rattle.requests.specs.Row.{textsLimit}
 use mathlib.Core.Bool.{Bool, true, false, cond}
 use native.Mathlib.Nat.{pow-succ'}
-use native.Mathlib.Numerals.{add-one}
 use native.Mathlib.Omega.{arith}
 use borrow.Author.Tests.{eqb-false, eq-eqb, ne-eqb, lt-ltb, le-ltb}
 use lib.Count.{trailingZeros, under, ones, ones-step, ones-ones, trailing-le}
@@ -48,17 +51,17 @@ added (suc b) (suc k) m l h e =
 
 -- ---- the pass over the slots
 
-pub counted-none : (live : LiveTexts) (slots : ℕ → ℕ) → live .used < 2 ^ 32 → Counted live live 0 slots
+pub counted-none : (live : LiveTexts) (slots : ℕ → ℕ) → live .used < 2 ^ textsLimit → Counted live live 0 slots
 unfolding textsAmong
 counted-none live slots h =
     record { count = omega arith; most = omega arith; marked = λ j l. absurd (omega arith); kept = λ s e. e; few = omega arith; below = h }
 
 -- no text
-pub counted-past : (live : LiveTexts) (slot : ℕ) → 31 < slot → live .used < 2 ^ 32 → Counted live live 1 (λ j. slot)
+pub counted-past : (live : LiveTexts) (slot : ℕ) → textsLimit ≤ slot → live .used < 2 ^ textsLimit → Counted live live 1 (λ j. slot)
 unfolding textsAmong
 counted-past live slot l h =
     record {
-      count = rw (le-ltb slot 32 (omega arith)) (omega arith);
+      count = rw (le-ltb slot textsLimit (omega arith)) (omega arith);
       most = omega arith;
       marked = λ j q m. absurd (omega arith);
       kept = λ s e. e;
@@ -66,10 +69,10 @@ counted-past live slot l h =
       below = h;
     }
 
-module _ (live : LiveTexts) (slot : ℕ) (l : slot < 32) (h : live .used < 2 ^ 32) where
+module _ (live : LiveTexts) (slot : ℕ) (l : slot < textsLimit) (h : live .used < 2 ^ textsLimit) where
   one-more : (count : ℕ) → count ≡ live .count + 1 → count ≡ live .count + textsAmong 1 (λ j. slot)
   unfolding textsAmong
-  one-more count e = rw (lt-ltb slot 32 l) (omega arith)
+  one-more count e = rw (lt-ltb slot textsLimit l) (omega arith)
 
   -- a text in a slot that is marked
   pub counted-again : (count : ℕ) → count ≡ live .count + 1 → bit slot (live .used) ≡ true → Counted live (record { count = count; used = live .used }) 1 (λ j. slot)
@@ -80,7 +83,7 @@ module _ (live : LiveTexts) (slot : ℕ) (l : slot < 32) (h : live .used < 2 ^ 3
       → Counted live (record { count = count; used = mask }) 1 (λ j. slot)
   counted-new count mask more e z =
       let clear : live .used / 2 ^ slot % 2 ≡ 0 = (let n = eqb-false (live .used / 2 ^ slot % 2) 1 e in omega (arith, n)) in
-      let a = added slot 32 (live .used) l h clear in
+      let a = added slot textsLimit (live .used) l h clear in
       let has : bit slot mask ≡ true = ap (bit slot) z ∙ eq-eqb ((live .used + 2 ^ slot) / 2 ^ slot % 2) 1 (a .here) in
       let was : mask - 2 ^ slot ≡ live .used = omega arith in
       record {
@@ -102,21 +105,40 @@ module _ (live : LiveTexts) (slot : ℕ) (l : slot < 32) (h : live .used < 2 ^ 3
         below = omega (arith, a .below);
       }
 
--- one slot more
-pub counted-step : {live mid later : LiveTexts} (n : ℕ) (slots : ℕ → ℕ) → Counted live mid n slots → Counted mid later 1 (λ j. slots n) → Counted live later (n + 1) slots
+among-ext : (n : ℕ) (f g : ℕ → ℕ) → ((j : ℕ) → j < n → f j ≡ g j) → textsAmong n f ≡ textsAmong n g
 unfolding textsAmong
-counted-step {live} {mid} {later} n slots a b =
-    record {
-      count = rw add-one (omega (arith, a .count, b .count));
-      most = omega (arith, a .most, b .most);
-      marked =
-          λ j q m.
-          case-eq j n (λ e. ap (λ (x : ℕ). bit (slots x) (later .used)) e ∙ b .marked 0 (omega arith) (subst (λ (x : ℕ). slots x < 32) e m))
-          (λ ne. b .kept (slots j) (a .marked j (omega arith) m));
-      kept = λ s e. b .kept s (a .kept s e);
-      few = omega (arith, a .few, b .few);
-      below = b .below;
-    }
+among-ext zero f g h = refl
+among-ext (suc n) f g h =
+    ap₂ (λ (x s : ℕ). x + cond (ltb s textsLimit) 1 0) (among-ext n f g (λ j l. h j (omega arith))) (h n (omega arith))
+
+-- n slots, and m slots behind them
+module _ (n : ℕ) {first next slots : ℕ → ℕ} (front : (j : ℕ) → j < n → slots j ≡ first j) where
+  among-more : (m : ℕ) → ((j : ℕ) → j < m → slots (n + j) ≡ next j) → textsAmong (n + m) slots ≡ textsAmong n first + textsAmong m next
+  unfolding textsAmong
+  among-more zero behind = let z : n + 0 ≡ n = omega arith in rw z (among-ext n slots first front ∙ omega arith)
+  among-more (suc m) behind =
+      let z : n + suc m ≡ suc (n + m) = omega arith in
+      rw z (rw (behind m (omega arith)) (omega (arith, among-more m (λ j l. behind j (omega arith)))))
+
+  pub counted-more : {live mid later : LiveTexts} (m : ℕ) → ((j : ℕ) → j < m → slots (n + j) ≡ next j) → Counted live mid n first → Counted mid later m next
+      → Counted live later (n + m) slots
+  counted-more {live} {mid} {later} m behind a b =
+      record {
+        count = omega (arith, among-more m behind, a .count, b .count);
+        most = omega (arith, a .most, b .most);
+        marked =
+            λ j q s.
+            dite (decLt j n)
+            (λ l. let e = front j l in rw e (b .kept (first j) (a .marked j l (rw e at s))))
+            (λ l.
+            let i : ℕ = j - n in
+            let z : j ≡ n + i = omega arith in
+            let e : slots j ≡ next i = ap slots z ∙ behind i (omega arith) in
+            rw e (b .marked i (omega arith) (rw e at s)));
+        kept = λ s e. b .kept s (a .kept s e);
+        few = omega (arith, a .few, b .few);
+        below = b .below;
+      }
 
 -- ---- a slot that is not marked
 
@@ -139,9 +161,9 @@ free-from (suc k) (suc f) used unused e l p = go (unused % 2) refl (λ x y. free
 pub zeros-fit : (n : ℕ) → Fits w64 (trailingZeros 64 n)
 zeros-fit n = omega (arith, trailing-le 64 n)
 
--- of 32 slots with fewer than 32 marked
-pub free-is : (used unused : ℕ) → used < 2 ^ 32 → length (bitsOf used) < 32 → used + unused + 1 ≡ 2 ^ 32
-    → (trailingZeros 64 unused < 32) × (bit (trailingZeros 64 unused) used ≡ false)
+-- of all slots with fewer marked
+pub free-is : (used unused : ℕ) → used < 2 ^ textsLimit → length (bitsOf used) < textsLimit → used + unused + 1 ≡ 2 ^ textsLimit
+    → (trailingZeros 64 unused < textsLimit) × (bit (trailingZeros 64 unused) used ≡ false)
 free-is used unused h few e =
-    let some : 0 < unused = case-eq unused 0 (λ z. absurd (let full : used ≡ 2 ^ 32 - 1 = omega arith in omega (arith, bits-length used (omega arith), ap ones full, ones-ones 32))) (λ n. omega arith) in
-    let t = free-from 32 64 used unused e (omega arith) some in (t .0, ne-eqb (used / 2 ^ trailingZeros 64 unused % 2) 1 (λ z. omega (arith, t .1)))
+    let some : 0 < unused = case-eq unused 0 (λ z. absurd (let full : used ≡ 2 ^ textsLimit - 1 = omega arith in omega (arith, bits-length used (omega arith), ap ones full, ones-ones textsLimit))) (λ n. omega arith) in
+    let t = free-from textsLimit 64 used unused e (omega arith) some in (t .0, ne-eqb (used / 2 ^ trailingZeros 64 unused % 2) 1 (λ z. omega (arith, t .1)))

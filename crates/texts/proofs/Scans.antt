@@ -1,72 +1,40 @@
 -- What a pass over the requests tells of the session. Assumes nothing.
-use Prim.Native.Nat.{ℕ, zero, suc, _+_, _*_, _%_, _^_, _≤_, _<_}
+use Prim.Native.Nat.{ℕ, zero, suc, _+_, _-_, _*_, _^_, _≤_, _<_}
 use mathlib.Core.Path.{_≡_, refl, sym, ap, ap₂, subst, _∙_}
-use mathlib.Core.Bool.{true, false, cond, false≢true}
+use mathlib.Core.Bool.{Bool, true, false, cond, false≢true}
 use mathlib.Core.List.{List, [], _∷_, _++_}
 use native.Mathlib.Numerals.{add-one}
 use native.Mathlib.Omega.{arith}
-use borrow.Author.Tests.{lt-ltb}
 use lib.Dec.{ltb}
 use lib.Ieee.{Float}
 use lib.ListN.{length}
 use Rattle.eiproto.specs.Bits.{bit, bitsOf}
 use Rattle.eiproto.proofs.Bits.{bits-none}
-use Rattle.requests.specs.declared.request.EisRequest.{EisRequest}
-use Rattle.requests.specs.declared.request.EisRequest.the-variants.{Disconnect, Bind, DeviceClosed, RequestDevice, Frame, Ready, DeviceStartEmulating, DeviceStopEmulating, PointerMotion, PointerMotionAbsolute, Button, ScrollDelta, ScrollStop, ScrollCancel, ScrollDiscrete, KeyboardKey, TouchDown, TouchUp, TouchMotion, TouchCancel, TextKeysym, TextUtf8}
-use Rattle.requests.specs.Row.{requestOf, entry, rowOf, cellAt, rowAt}
+use Rattle.requests.specs.Row.{textsLimit, rowAt}
+use Rattle.requests.proofs.Cells.{slot-text}
 use Rattle.model.specs.Call.{Load}
 use Rattle.model.specs.Session.{Item, Request, Device}
 use Rattle.model.specs.Step.{texts, pendingTexts, devicesTexts, queuedTexts, counts}
 use Rattle.control.specs.Table.{tab}
-use Rattle.control.specs.Control.{deviceCount, queueHead, queueLength, coreAt}
-use Rattle.control.specs.Sound.{Sound}
+use Rattle.control.specs.Control.{pendingLimit, queueLimit, deviceCount, queueHead, queueLength, coreAt}
 use Rattle.control.proofs.Tables.{case-eq, tab-append}
-use Rattle.session.specs.View.{pendingRow, queueRow, requestIn, itemIn, textOf, requestAt, itemAt, deviceIn, queueIn, sessionIn, session}
+use Rattle.session.specs.View.{queueStart, pendingRow, queueRow, itemIn, textOf, requestAt, itemAt, deviceIn, queueIn, sessionIn, session}
+use Rattle.session.proofs.Shapes.{textsOf, shape}
 use Rattle.texts.specs.declared.LiveTexts.{LiveTexts}
-use Rattle.texts.specs.Texts.{textsAmong, Counted, Live}
+use Rattle.texts.specs.Texts.{textsAmong, Counted, FirstRun, Live}
+use Rattle.texts.proofs.Marks.{counted-more}
 
--- ---- a request has a text if its slot is below 32
-
--- 1 for a text, 0 for any other request
-abbrev textsOf : Request Load → ℕ
-textsOf (Request.timed d t i) = texts (i .kind)
-textsOf (Request.untimed r) = 0
+-- ---- a request has a text if it has a slot for it
 
 item-texts : (r : Request Load) → texts (itemIn r .kind) ≡ textsOf r
 unfolding itemIn texts
 item-texts (Request.timed d t i) = refl
 item-texts (Request.untimed r) = refl
 
-module _ (s : ℕ) (text : List ℕ) where
-  request-texts : (r : EisRequest) → textsOf (requestIn r text) ≡ cond (ltb (entry r s .slot) 32) 1 0
-  unfolding requestIn entry texts
-  request-texts Disconnect = refl
-  request-texts (Bind a b) = refl
-  request-texts (DeviceClosed a) = refl
-  request-texts (RequestDevice a b) = refl
-  request-texts (Frame a b c) = refl
-  request-texts (Ready a) = refl
-  request-texts (DeviceStartEmulating a b c) = refl
-  request-texts (DeviceStopEmulating a b) = refl
-  request-texts (PointerMotion a b c d) = refl
-  request-texts (PointerMotionAbsolute a b c d) = refl
-  request-texts (Button a b c d) = refl
-  request-texts (ScrollDelta a b c d) = refl
-  request-texts (ScrollStop a b c d) = refl
-  request-texts (ScrollCancel a b c d) = refl
-  request-texts (ScrollDiscrete a b c d) = refl
-  request-texts (KeyboardKey a b c d) = refl
-  request-texts (TouchDown a b c d e) = refl
-  request-texts (TouchUp a b c) = refl
-  request-texts (TouchMotion a b c d e) = refl
-  request-texts (TouchCancel a b c) = refl
-  request-texts (TextKeysym a b c d) = refl
-  request-texts (TextUtf8 a b c) = rw (lt-ltb (s % 32) 32 (omega arith))
-
 module _ (w : List ℕ) (r : List Float) (ts : List ℕ) where
-  row-texts : (i : ℕ) → textsOf (requestAt ts (rowAt w r i)) ≡ cond (ltb (rowAt w r i .slot) 32) 1 0
-  unfolding requestAt rowAt rowOf entry
-  row-texts i = request-texts (cellAt w r i .flag) (textOf ts (rowAt w r i)) (requestOf (cellAt w r i))
+  row-texts : (i : ℕ) → textsOf (requestAt ts (rowAt w r i)) ≡ cond (ltb (rowAt w r i .slot) textsLimit) 1 0
+  unfolding requestAt
+  row-texts i = shape (rowAt w r i .request) .count (textOf ts (rowAt w r i)) ∙ ap (λ (b : Bool). cond b 1 0) (slot-text w r i)
 
 -- ---- lists of them, one longer
 
@@ -119,10 +87,10 @@ module _ (c w : List ℕ) (r : List Float) where
   -- the first k devices are passed
   pub record Passed (k : ℕ) (live : LiveTexts) : Type 0 where
     pub count : (ts : List ℕ) → live .count ≡ devicesTexts (tab k (deviceIn c (rowAt w r) ts))
-    pub most : live .count ≤ 64 * k
-    pub marked : (i j : ℕ) → i < k → j < coreAt c i .pending → pendingSlots i j < 32 → bit (pendingSlots i j) (live .used) ≡ true
+    pub most : live .count ≤ pendingLimit * k
+    pub marked : (i j : ℕ) → i < k → j < coreAt c i .pending → pendingSlots i j < textsLimit → bit (pendingSlots i j) (live .used) ≡ true
     pub few : length (bitsOf (live .used)) ≤ live .count
-    pub below : live .used < 2 ^ 32
+    pub below : live .used < 2 ^ textsLimit
 
   pub passed-none : Passed 0 (record { count = 0; used = 0 })
   unfolding tab devicesTexts
@@ -133,7 +101,7 @@ module _ (c w : List ℕ) (r : List Float) where
   unfolding deviceIn
   device-texts ts k = pending-texts w r ts (pendingRow k) (coreAt c k .pending)
 
-  pub passed-step : {live later : LiveTexts} (k n : ℕ) → n ≡ coreAt c k .pending → n ≤ 64 → Passed k live → Counted live later n (pendingSlots k)
+  pub passed-step : {live later : LiveTexts} (k n : ℕ) → n ≡ coreAt c k .pending → n ≤ pendingLimit → Passed k live → Counted live later n (pendingSlots k)
       → Passed (k + 1) later
   passed-step {live} {later} k n e small p q =
       record {
@@ -148,12 +116,29 @@ module _ (c w : List ℕ) (r : List Float) where
             λ i j l m s.
             case-eq i k
             (λ z.
-            subst (λ (x : ℕ). j < coreAt c x .pending → pendingSlots x j < 32 → bit (pendingSlots x j) (later .used) ≡ true) (sym z)
+            subst (λ (x : ℕ). j < coreAt c x .pending → pendingSlots x j < textsLimit → bit (pendingSlots x j) (later .used) ≡ true) (sym z)
             (λ a b. q .marked j (omega (arith, a)) b) m s)
             (λ ne. q .kept (pendingSlots i j) (p .marked i j (omega arith) m s));
         few = omega (arith, p .few, q .few);
         below = q .below;
       }
+
+  -- the queue's two runs of rows: from the head to the ring's end, and from its start
+  pub queue-counted : {live mid later : LiveTexts} {head queued n : ℕ} → FirstRun head queued n → queued ≤ queueLimit
+      → Counted live mid n (λ j. rowAt w r (queueStart + head + j) .slot) → Counted mid later (queued - n) (λ j. rowAt w r (queueStart + j) .slot)
+      → Counted live later queued (queueSlots head)
+  queue-counted {live} {mid} {later} {head} {queued} {n} run full a b =
+      let all = run .all in
+      let z : n + (queued - n) ≡ queued = omega (arith, run .some) in
+      rw z at
+      (counted-more n {slots = queueSlots head}
+      (λ j l. let e : queueRow head j ≡ queueStart + head + j = omega (arith, run .in-ring) in ap (λ (i : ℕ). rowAt w r i .slot) e)
+      (queued - n)
+      (λ j l.
+      let wraps : head + n ≡ queueLimit = all (omega arith) in
+      let e : queueRow head (n + j) ≡ queueStart + j = omega arith in
+      ap (λ (i : ℕ). rowAt w r i .slot) e)
+      a b)
 
   pub passed-live : {live later : LiveTexts} (k head n : ℕ) → k ≡ deviceCount c → head ≡ queueHead c → n ≡ queueLength c → Passed k live
       → Counted live later n (queueSlots head) → Live c w r later
@@ -173,7 +158,7 @@ module _ (c w : List ℕ) (r : List Float) where
               queued =
                   λ j a z.
                   marked-not (later .used)
-                  (subst (λ (h : ℕ). queueSlots h j < 32 → bit (queueSlots h j) (later .used) ≡ true) eh (λ b. q .marked j (omega arith) b) (omega arith)) z e;
+                  (subst (λ (h : ℕ). queueSlots h j < textsLimit → bit (queueSlots h j) (later .used) ≡ true) eh (λ b. q .marked j (omega arith) b) (omega arith)) z e;
             };
         few = omega (arith, p .few, q .few);
         below = q .below;

@@ -18,15 +18,15 @@ use Rattle.eiproto.proofs.Bits.{every-at}
 use Rattle.requests.specs.declared.cell.Cell.{Cell}
 use Rattle.requests.specs.declared.request.EisRequest.the-variants.{Disconnect, TextUtf8}
 use Rattle.requests.specs.Request.{textLength}
-use Rattle.requests.specs.Row.{Row, meanings, requestOf, entry, rowOf, cellAt, rowAt}
+use Rattle.requests.specs.Row.{textsLimit, Row, meanings, requestOf, entry, rowOf, cellAt, rowAt}
 use Rattle.model.specs.Call.{Kind, Sight, Input, sight, Load}
 use Rattle.model.specs.Edit.{Edit, item, enactAll}
 use Rattle.control.specs.Control.{queueHead}
 use Rattle.control.proofs.Tables.{case-eq}
-use Rattle.session.specs.View.{store, textsLength, pendingRow, queueRow, requestIn, itemIn, textOf, requestAt, itemAt, session}
+use Rattle.session.specs.View.{store, slotLength, textsLength, pendingRow, queueRow, requestIn, itemIn, textOf, requestAt, itemAt, session}
 use Rattle.session.specs.Enact.{Enacted}
 use Rattle.session.proofs.Views.{device-ext, queue-ext, session-ext}
-use Rattle.texts.specs.Texts.{Free}
+use Rattle.texts.specs.Texts.{textLengthLimit, Free}
 use Rattle.wire.specs.Bits.{splice}
 use Rattle.wire.proofs.Splices.{splice-none, length-splice, splice-front, splice-splice}
 
@@ -124,17 +124,17 @@ row-length w r i =
     (λ h. omega (arith, e, leb-true (getD lengths (c .kind) 0) 255 (every-at (λ n. leb n 255) lengths (c .kind) 0 (lengths-small c) h)))
     (λ h. omega (arith, e, List·getD-eq-default lengths 0 {n = c .kind} (omega arith)))
 
-module _ (texts text : List ℕ) (slot : ℕ) (small : slot < 32) (short : length text ≤ 254) (long : length texts ≡ textsLength) where
+module _ (texts text : List ℕ) (slot : ℕ) (small : slot < textsLimit) (short : length text ≤ textLengthLimit) (long : length texts ≡ textsLength) where
   abbrev later : List ℕ
-  later = splice texts (256 * slot) text
+  later = splice texts (slotLength * slot) text
 
   -- a row whose text lies in another slot
   row-kept : (row : Row) → textLength (row .request) ≤ 255 → (row .slot ≡ slot → ⊥) → textOf later row ≡ textOf texts row
   unfolding textOf
   row-kept row h ne =
-      dite (decLt (row .slot) slot) (λ l. text-before texts text (256 * slot) (omega arith) (256 * row .slot) (textLength (row .request)) (omega arith))
+      dite (decLt (row .slot) slot) (λ l. text-before texts text (slotLength * slot) (omega arith) (slotLength * row .slot) (textLength (row .request)) (omega arith))
       (λ n.
-      text-behind texts text (256 * slot) (omega arith) (256 * row .slot) (textLength (row .request))
+      text-behind texts text (slotLength * slot) (omega arith) (slotLength * row .slot) (textLength (row .request))
       (case-eq (row .slot) slot (λ e. absurd (ne e)) (λ x. omega arith)))
 
   module _ (w : List ℕ) (r : List Float) (i : ℕ) (ne : rowAt w r i .slot ≡ slot → ⊥) where
@@ -158,8 +158,8 @@ module _ (texts text : List ℕ) (slot : ℕ) (small : slot < 32) (short : lengt
   text-item : item (sight (Input.Utf8 text)) (Load.Text text) ≡ itemAt later (entry (TextUtf8 0 0 (length text)) slot)
   unfolding item sight itemAt itemIn requestAt requestIn textOf entry
   text-item =
-      let p : text ≡ take (length text) (drop (256 * (slot % 32)) later) =
-      sym (ap (λ (s : ℕ). take (length text) (drop (256 * s) later)) (mod-eq-of-lt small) ∙ text-here texts text (256 * slot) (omega arith)) in
+      let p : text ≡ take (length text) (drop (slotLength * (slot % textsLimit)) later) =
+      sym (ap (λ (s : ℕ). take (length text) (drop (slotLength * s) later)) (mod-eq-of-lt small) ∙ text-here texts text (slotLength * slot) (omega arith)) in
       λ i. record { kind = Kind.TextUtf8; touch = 0; size = length text; load = Load.Text (p i) }
 
   -- what `pend` of the queue does with it, after the text was put in its slot

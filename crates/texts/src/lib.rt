@@ -1,22 +1,31 @@
-// The texts that lie beside their requests: 32 slots of 256 bytes. A slot is in use while a pending or queued request has its text there.
+// The texts that lie beside their requests, each in a slot. A slot is in use while a pending or queued request has its text there.
+use queue::PENDING_LIMIT;
+use queue::QUEUE_LIMIT;
 use requests::cell;
 use requests::row;
+pub use requests::row::TEXTS_LIMIT;
+use session::QUEUE_START;
+use session::SLOT_LENGTH;
 ghost use mathlib.Core.Path.{_≡_};
 ghost use mathlib.Core.Bool.{false};
 ghost use mathlib.Core.List.{[], _∷_};
 ghost use Prim.Native.Nat.{_+_, _*_, _^_, _≤_, _<_};
 ghost use lib.ListN.{length, take, drop};
 ghost use Rattle.eiproto.specs.Bits.{bit, bitsOf};
-ghost use Rattle.requests.specs.Row.{rowAt};
+ghost use Rattle.requests.specs.Row.{textsLimit, rowAt};
 ghost use Rattle.wire.specs.Bits.{splice};
 ghost use Rattle.model.specs.Call.{Load, Input, sight};
 ghost use Rattle.model.specs.Edit.{Edit};
-ghost use Rattle.control.specs.Control.{deviceCount, pendingAt};
-ghost use Rattle.session.specs.View.{store, wordsLength, realsLength, pendingRow, queueRow, Lent, Whole};
-ghost use Rattle.session.specs.Enact.{Enacted};
-ghost use Rattle.texts.specs.Texts.{Free, Counted, Live};
+ghost use Rattle.control.specs.Control.{queueLimit};
+ghost use Rattle.session.specs.View.{store, rowCount, slotLength, Lent};
+ghost use Rattle.session.specs.Enact.{EnactsAll};
+ghost use Rattle.texts.specs.Texts.{Scannable, Counted, FirstRun, Live, Pendable};
 
-pub const SLOT_LENGTH: usize = 256;
+// The most bytes of a text, a name or an explanation: "above 254" is refused.
+pub const TEXT_LENGTH_LIMIT: usize = 254;
+
+// A bit for each slot.
+const ALL_SLOTS: u64 = 4294967295;
 
 // How many texts pending and queued requests have, and the slots that they lie in, as a mask.
 pub struct LiveTexts {
@@ -24,12 +33,12 @@ pub struct LiveTexts {
     pub used: u64,
 }
 
-// One request more, with its text's slot; 32 where it has none. Texts are counted, not slots: only damage makes two of them share one.
+// One request more, with its text's slot, or `NO_SLOT`. Texts are counted, not slots: only damage makes two of them share one.
 fn counted(live: LiveTexts, slot: usize) -> LiveTexts
-    requires { ⌜ (live .count < 768) × (live .used < 2 ^ 32) ⌝ }
+    requires { ⌜ (live .count < rowCount) × (live .used < 2 ^ textsLimit) ⌝ }
     ensures { λ r. ⌜ Counted live r 1 (λ j. slot) ⌝ }
 {
-    if 31 < slot {
+    if TEXTS_LIMIT <= slot {
         return live;
     }
     let place = slot as u32;
@@ -45,32 +54,27 @@ fn counted(live: LiveTexts, slot: usize) -> LiveTexts
     }
 }
 
-// With the n pending requests of slot k.
-fn pending_texts(words: &[u64], reals: &[f32], k: usize, n: usize, start: LiveTexts) -> LiveTexts
-    requires { ⌜ (length (now words) ≡ wordsLength) × ((length (now reals) ≡ realsLength) × ((k < 8) × ((n ≤ 64) × ((start .count + n ≤ 768) × (start .used < 2 ^ 32))))) ⌝ }
-    ensures { λ r. ⌜ Counted start r n (λ j. rowAt (now (words .entry)) (now (reals .entry)) (pendingRow k j) .slot) ⌝ }
+// With the requests of n rows from `row` on.
+fn texts_in(words: &[u64], reals: &[f32], row: usize, n: usize, start: LiveTexts) -> LiveTexts
+    requires { ⌜ Scannable (now words) (now reals) row n start ⌝ }
+    ensures { λ r. ⌜ Counted start r n (λ j. rowAt (now (words .entry)) (now (reals .entry)) (row + j) .slot) ⌝ }
 {
     let mut live = start;
     let mut j: usize = 0;
     while j < n {
-        live = counted(live, row::load_slot(words, reals, 64 * k + j));
+        live = counted(live, row::load_slot(words, reals, row + j));
         j += 1;
     }
     live
 }
 
-// With the n queued requests from the head on.
-fn queued_texts(words: &[u64], reals: &[f32], head: usize, n: usize, start: LiveTexts) -> LiveTexts
-    requires { ⌜ (length (now words) ≡ wordsLength) × ((length (now reals) ≡ realsLength) × ((head < 256) × ((n ≤ 256) × ((start .count + n ≤ 768) × (start .used < 2 ^ 32))))) ⌝ }
-    ensures { λ r. ⌜ Counted start r n (λ j. rowAt (now (words .entry)) (now (reals .entry)) (queueRow head j) .slot) ⌝ }
+// How many of the queued requests stand from the head of the ring to its end; the others stand at its start.
+fn to_the_end(head: usize, queued: usize) -> usize
+    requires { ⌜ head < queueLimit ⌝ }
+    ensures { λ r. ⌜ FirstRun head queued r ⌝ }
 {
-    let mut live = start;
-    let mut j: usize = 0;
-    while j < n {
-        live = counted(live, row::load_slot(words, reals, 512 + (head + j) % 256));
-        j += 1;
-    }
-    live
+    let rows = QUEUE_LIMIT - head;
+    if queued < rows { queued } else { rows }
 }
 
 // The texts that are live, by one pass over the pending and queued requests.
@@ -82,31 +86,30 @@ pub fn live_texts(control: &[u64], words: &[u64], reals: &[f32]) -> LiveTexts
     let mut live = LiveTexts { count: 0, used: 0 };
     let mut k: usize = 0;
     while k < devices {
-        live = pending_texts(words, reals, k, control::pending_count(control, k), live);
+        let n = control::pending_count(control, k);
+        live = texts_in(words, reals, PENDING_LIMIT * k, n, live);
         k += 1;
     }
-    queued_texts(
-        words,
-        reals,
-        control::queue_head(control),
-        control::queue_length(control),
-        live,
-    )
+    let head = control::queue_head(control);
+    let queued = control::queue_length(control);
+    let n = to_the_end(head, queued);
+    live = texts_in(words, reals, QUEUE_START + head, n, live);
+    texts_in(words, reals, QUEUE_START, queued - n, live)
 }
 
-// The lowest slot that is not in use: with fewer than 32 of the 32 bits set there is one.
+// The lowest slot that is not in use: with fewer bits set than there are slots there is one.
 pub fn free_slot(used: u64) -> usize
-    requires { ⌜ (used < 2 ^ 32) × (length (bitsOf used) < 32) ⌝ }
-    ensures { λ r. ⌜ (r < 32) × (bit r used ≡ false) ⌝ }
+    requires { ⌜ (used < 2 ^ textsLimit) × (length (bitsOf used) < textsLimit) ⌝ }
+    ensures { λ r. ⌜ (r < textsLimit) × (bit r used ≡ false) ⌝ }
 {
-    let unused = 4294967295 - used;
+    let unused = ALL_SLOTS - used;
     u64::trailing_zeros(unused) as usize
 }
 
 // Puts a text in a slot.
 fn put_text(texts: &mut [u8], slot: usize, text: &[u8])
-    requires { ⌜ 256 * slot + length (now text) ≤ length (now texts) ⌝ }
-    ensures { λ _. ⌜ now (texts .exit) ≡ splice (now (texts .entry)) (256 * slot) (now (text .entry)) ⌝ }
+    requires { ⌜ slotLength * slot + length (now text) ≤ length (now texts) ⌝ }
+    ensures { λ _. ⌜ now (texts .exit) ≡ splice (now (texts .entry)) (slotLength * slot) (now (text .entry)) ⌝ }
 {
     let at = SLOT_LENGTH * slot;
     let mut i: usize = 0;
@@ -126,7 +129,7 @@ pub fn pend_text(
     slot: usize,
     text: &[u8],
 )
-    requires { ⌜ Whole (store (now control) (now words) (now reals) (now texts)) × ((k < deviceCount (now control)) × ((pendingAt (now control) k < 64) × ((length (now text) ≤ 254) × ((slot < 32) × Free (now control) (rowAt (now words) (now reals)) slot)))) ⌝ }
+    requires { ⌜ Pendable (store (now control) (now words) (now reals) (now texts)) k slot (now text) ⌝ }
     ensures { λ _. ⌜ EnactsAll control words reals texts (Edit.pend k (sight (Input.Utf8 (now (text .entry)))) ∷ []) (Load.Text (now (text .entry))) ⌝ }
 {
     put_text(texts, slot, text);
@@ -137,8 +140,8 @@ pub fn pend_text(
 
 // Copies the first n bytes of a slot to a buffer, whose other bytes are as they were.
 pub fn copy_text(texts: &[u8], slot: usize, n: usize, buffer: &mut [u8])
-    requires { ⌜ (256 * slot + n ≤ length (now texts)) × (n ≤ length (now buffer)) ⌝ }
-    ensures { λ _. ⌜ now (buffer .exit) ≡ splice (now (buffer .entry)) 0 (take n (drop (256 * slot) (now (texts .entry)))) ⌝ }
+    requires { ⌜ (slotLength * slot + n ≤ length (now texts)) × (n ≤ length (now buffer)) ⌝ }
+    ensures { λ _. ⌜ now (buffer .exit) ≡ splice (now (buffer .entry)) 0 (take n (drop (slotLength * slot) (now (texts .entry)))) ⌝ }
 {
     let at = SLOT_LENGTH * slot;
     let mut i: usize = 0;

@@ -6,13 +6,13 @@ use mathlib.Core.List.{List, [], _∷_, _++_}
 use lib.ListN.{length}
 use Rattle.touches.specs.declared.DownTouchIds.{DownTouchIds}
 use Rattle.touches.specs.declared.DownAnswer.{DownAnswer}
-use Rattle.touches.specs.Touches.{held, member, without, refusal, downRefusal}
+use Rattle.touches.specs.Touches.{touchesLimit, held, member, without, refusal, downRefusal}
 
 -- a record made or changed: these ids are held, and counted, sixteen at most. What the places behind them hold is left free
 pub record Holds (ids : List ℕ) (e : DownTouchIds) : Type 0 where
   pub ids-are : held e ≡ ids
   pub counted : e .count ≡ length ids
-  pub within : e .count ≤ 16
+  pub within : e .count ≤ touchesLimit
 
 -- a Down that is not refused puts the id last. "A refusal returns the session unchanged": e is d, to the last bit
 pub record Inserts (id : ℕ) (d e : DownTouchIds) (answer : DownAnswer) : Type 0 where

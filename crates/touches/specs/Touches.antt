@@ -8,6 +8,10 @@ use Rattle.touches.specs.declared.DownTouchIds.{DownTouchIds}
 use Rattle.touches.specs.declared.DownAnswer.{DownAnswer}
 use Rattle.touches.specs.declared.DownAnswer.the-variants.{Inserted, TooManyTouches, DuplicatedTouchDown}
 
+-- the most ids that are held
+abbrev pub touchesLimit : ℕ
+touchesLimit = 16
+
 -- "a record of sixteen ids and a count": the ids before the count, in the order in which they went down. There are sixteen places, so a count above sixteen holds them all
 abbrev pub held : DownTouchIds → List ℕ
 held d = take (d .count) (d .ids)
@@ -36,4 +40,4 @@ refusal DuplicatedTouchDown = 5
 -- "4 TOO_MANY_TOUCHES: Down while 16 ids are held, even for a held id. 5 DUPLICATED_TOUCH_DOWN: Down for a held id, fewer than 16 held."
 unfoldable pub downRefusal : ℕ → List ℕ → ℕ
 unfolding member
-downRefusal x ids = cond (leb 16 (length ids)) 4 (cond (member x ids) 5 0)
+downRefusal x ids = cond (leb touchesLimit (length ids)) 4 (cond (member x ids) 5 0)

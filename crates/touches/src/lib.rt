@@ -8,12 +8,13 @@ ghost use lib.ListN.{length};
 ghost use Rattle.touches.specs.Touches.{held, member, position};
 ghost use Rattle.touches.specs.Changes.{Holds, Inserts, Removes};
 
-pub const EIS_MAX_TOUCHES: usize = 16;
+// The source's EIS_MAX_TOUCHES.
+pub const TOUCHES_LIMIT: usize = 16;
 
 // The first `count` ids are held, in the order in which they went down; what the places behind them hold means nothing. A count above
 // sixteen, which no function here makes, counts as sixteen: nothing is inserted, and what is removed leaves fifteen.
 pub struct DownTouchIds {
-    pub ids: [u32; EIS_MAX_TOUCHES],
+    pub ids: [u32; TOUCHES_LIMIT],
     pub count: usize,
 }
 
@@ -40,7 +41,7 @@ impl DownTouchIds {
         ensures { λ r. ⌜ Holds [] r ⌝ }
     {
         Self {
-            ids: [0; EIS_MAX_TOUCHES],
+            ids: [0; TOUCHES_LIMIT],
             count: 0,
         }
     }
@@ -48,10 +49,10 @@ impl DownTouchIds {
     pub fn len(self) -> usize
         ensures { λ r. ⌜ r ≡ length (held self) ⌝ }
     {
-        if self.count < EIS_MAX_TOUCHES {
+        if self.count < TOUCHES_LIMIT {
             self.count
         } else {
-            EIS_MAX_TOUCHES
+            TOUCHES_LIMIT
         }
     }
 
@@ -81,7 +82,7 @@ impl DownTouchIds {
         ensures { λ r. ⌜ Inserts id self (r .touches) (r .answer) ⌝ }
     {
         let n = self.len();
-        if n == EIS_MAX_TOUCHES {
+        if n == TOUCHES_LIMIT {
             return Insertion {
                 touches: self,
                 answer: DownAnswer::TooManyTouches,

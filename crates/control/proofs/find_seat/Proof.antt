@@ -14,12 +14,12 @@ use Rattle.control.proofs.find_seat.Statement.{statement}
 use Rattle.control.proofs.find_seat.Tie as tie
 
 abbrev Inv-loop : tie.InvT-loop
-Inv-loop control id n place₀ place =
-    (place ≤ n) × ((j : ℕ) → j < place → eqb (seatAt control j .id) id ≡ false)
+Inv-loop control id n slot₀ slot =
+    (slot ≤ n) × ((j : ℕ) → j < slot → eqb (seatAt control j .id) id ≡ false)
 
 abbrev μ-loop : tie.MeasureT-loop
-μ-loop control id n place₀ place =
-    n - place
+μ-loop control id n slot₀ slot =
+    n - slot
 
 loop-holds : tie.Need-loop-holds Inv-loop μ-loop
 loop-holds c =
@@ -30,7 +30,7 @@ unfolding connectionOf
 returns c =
     let a = c .before .before .before .before .before .before .args in
     let w : List ℕ = a .control .now in
-    sym (tab-first (λ x. eqb (x .id) (a .id)) (seatCount w) (c .before .before .before .loop .place) (seatAt w) (omega arith)
+    sym (tab-first (λ x. eqb (x .id) (a .id)) (seatCount w) (c .before .before .before .loop .slot) (seatAt w) (omega arith)
     (eq-eqb _ _ (sym (c .before .seat-id .ensures) ∙ c .if1 .taken)) (c .before .before .before .loop .inv .1))
 
 loop-again : tie.Need-loop-again Inv-loop μ-loop
@@ -54,7 +54,7 @@ find-seat-spec =
     loop-holds
     (λ c κs. search needs)  -- seat-id-requires
     returns
-    (λ c. search needs)  -- add-place
+    (λ c. search needs)  -- add-slot
     (λ c. search needs)  -- loop-less
     loop-again
     returns-2)

@@ -1,10 +1,11 @@
 -- Each bound is tested; then the rows decide. Assumes nothing.
 use Rattle.control.proofs.Sounds.{rows-all, rows-decide, unsound}
-use mathlib.Core.Path.{sym, ap, _∙_}
+use Prim.Native.Nat.{ℕ}
+use mathlib.Core.List.{List}
+use mathlib.Core.Path.{_≡_, sym, ap, _∙_}
 use borrow.Author.Needs.{needs}
 use native.Mathlib.Omega.{arith}
-use Rattle.control.specs.Control.{deviceCount}
-use Rattle.control.specs.Sound.{rowsSound}
+use Rattle.control.specs.Sound.{rowsSound, isSound}
 use Rattle.control.proofs.sound.Statement.{statement}
 use Rattle.control.proofs.sound.Tie as tie
 
@@ -28,33 +29,34 @@ returns-5 : tie.Need-returns-5
 returns-5 c =
     sym (unsound _ (λ s. omega arith))
 
+-- behind the bounds, where the rows of as many devices as there are decide
+abbrev words : tie.Else5 → List ℕ
+words c = c .before .before .before .before .before .before .before .before .before .before .args .control .now
+
+decided : (c : tie.Else5) → rowsSound (words c) (c .before .before .before .before .before .device-count .result) ≡ isSound (words c)
+decided c =
+    ap (rowsSound (words c)) (c .before .before .before .before .before .device-count .ensures)
+    ∙ rows-decide (words c) (search needs) (search needs) (search needs) (search needs) (search needs)
+
 returns-6 : tie.Need-returns-6
-returns-6 c =
-    let a = c .before .before .before .before .before .before .before .before .before .before .before .before .before .args .control .now in
-    let counted = c .before .before .device-count .ensures in
-    sym (sym (rows-decide a (search needs) (search needs) (search needs) (search needs) (search needs))
-    ∙ rows-all a (deviceCount a) (λ k l. c .before .rows-low .ensures (c .if6 .taken) k (rw counted l)))
+returns-6 c = sym (sym (decided (c .before .before)) ∙ rows-all _ _ (c .before .rows-low .ensures (c .if6 .taken)))
 
 returns-7 : tie.Need-returns-7
-returns-7 c =
-    let a = c .before .before .before .before .before .before .before .before .before .before .before .before .before .before .args .control .now in
-    c .rows-sound .ensures ∙ ap (rowsSound a) (c .before .before .before .device-count .ensures)
-    ∙ rows-decide a (search needs) (search needs) (search needs) (search needs) (search needs)
+returns-7 c = c .rows-sound .ensures ∙ decided (c .before .before .before)
 
 pub sound-spec : {M : Type 1} → statement M
 sound-spec =
     tie.close
     (tie.spec
     returns
-    (λ c. search needs)  -- shared-slice-read-if2
+    (λ c κs. search needs)  -- seat-count-requires
     returns-2
-    (λ c. search needs)  -- shared-slice-read-if3
-    returns-3
-    (λ c. search needs)  -- shared-slice-read-if4
-    returns-4
-    (λ c. search needs)  -- shared-slice-read-if5
-    returns-5
     (λ c κs. search needs)  -- device-count-requires
+    returns-3
+    (λ c κs. search needs)  -- queue-head-requires
+    returns-4
+    (λ c κs. search needs)  -- queue-length-requires
+    returns-5
     (λ c κs. search needs)  -- rows-low-requires
     returns-6
     (λ c κs. search needs)  -- rows-sound-requires

@@ -36,7 +36,7 @@ loop-again c =
         f .kept .0 ∙ at .inv .1 .0,
         (
           f .kept .1 .0 ∙ at .inv .1 .1 .0,
-          copied-step _ _ (at .inv .1 .1 .1) (f .ensures) (p .1 .1 .0) (omega arith) (omega arith) (omega arith) (omega (arith, at-queue-row .queue-row .ensures .0)),
+          copied-step _ _ (at .inv .1 .1 .1) (f .ensures) (p .slot) (omega arith) (omega arith) (omega arith) (omega (arith, at-queue-row .queue-row .ensures .0)),
         ),
       ),
     )

@@ -3,6 +3,7 @@ use borrow.Author.Needs.{needs}
 use native.Mathlib.Omega.{arith}
 use Prim.Native.Nat.{_+_, _≤_, _<_}
 use Rattle.requests.specs.Row.{rowAt}
+use Rattle.control.specs.Control.{devicesLimit, queueLimit}
 use Rattle.queue.proofs.Room.{frame-room}
 use Rattle.queue.proofs.Entries.{frame-request}
 use Rattle.control.proofs.Sounds.{pending-bound}
@@ -17,15 +18,15 @@ start c = c .before .before .before .before .before .before .before .before .bef
 some : (c : tie.After-queue-length) → 0 < c .before .before .before .before .before .pending-count .result
 some c = omega (arith, c .before .before .before .before .if1 .left)
 
-fits : (c : tie.After-queue-length) → c .queue-length .result + c .before .before .before .before .before .pending-count .result + 1 ≤ 256
+fits : (c : tie.After-queue-length) → c .queue-length .result + c .before .before .before .before .before .pending-count .result + 1 ≤ queueLimit
 fits c =
     let a = start c .args in
     frame-room (a .control .now) (a .k) (c .before .before .before .before .before .pending-count .ensures) (some c) (c .queue-length .ensures) (start c .pre .1 .1)
 
-head-low : (c : tie.After-queue-length) → c .before .before .queue-head .result < 256
+head-low : (c : tie.After-queue-length) → c .before .before .queue-head .result < queueLimit
 head-low c = omega (arith, start c .pre .0 .sound .head, c .before .before .queue-head .ensures)
 
-slot-low : (c : tie.After-queue-length) → start c .args .k < 8
+slot-low : (c : tie.After-queue-length) → start c .args .k < devicesLimit
 slot-low c = omega (arith, start c .pre .0 .sound .devices, start c .pre .1 .0)
 
 returns : tie.Need-returns
@@ -41,10 +42,15 @@ copy-pending-requires : tie.Need-copy-pending-requires
 copy-pending-requires c κs =
     let q = c .before .before .before .before in
     let p = start q .pre in
-    let short = pending-bound (p .0 .sound) (start q .args .k) (p .1 .0) in (
-      p .0 .words-long,
-      (p .0 .reals-long, (slot-low q, (omega (arith, q .before .before .before .before .before .pending-count .ensures, short), (head-low q, omega (arith, fits q))))),
-    )
+    let short = pending-bound (p .0 .sound) (start q .args .k) (p .1 .0) in
+    record {
+      words-long = p .0 .words-long;
+      reals-long = p .0 .reals-long;
+      slot = slot-low q;
+      few = omega (arith, q .before .before .before .before .before .pending-count .ensures, short);
+      in-ring = head-low q;
+      room = omega (arith, fits q);
+    }
 
 add-queue-row : tie.Need-add-queue-row
 add-queue-row c = omega (arith, fits (c .before .before .before .before .before .before .before .before .before .before .before))

@@ -8,11 +8,11 @@ use Rattle.removal.proofs.remove_device.Tie as tie
 returns : tie.Need-returns
 returns c =
     let at-shift-reals = c .before .before .before .before .before .before in
-    let at-shift-words = at-shift-reals .before .before .before .before in
-    let at-start = at-shift-words .before .before .before .before .before .before .before in
+    let at-shift = at-shift-reals .before .before .before .before in
+    let at-start = at-shift .before .before .before .before .before .before .before in
     let a = at-start .args in
     let p = at-start .pre in
-    let w = at-shift-words .shift-words in
+    let w = at-shift .shift in
     let r = at-shift-reals .shift-reals in
     let d = c .before .before .remove-device-row in
     device-out (a .control .now) (a .words .now) (w .last .0) (a .reals .now) (r .last .0) (a .k) (w .ensures) (r .ensures) (omega arith) (omega arith)
@@ -25,11 +25,11 @@ remove-device-spec =
     (λ c κs. search needs)  -- device-count-requires
     (λ c. search needs)  -- sub-behind
     (λ c. search needs)  -- sub-behind-2
-    (λ c. search needs)  -- mul-shift-words
-    (λ c. search needs)  -- add-shift-words
-    (λ c. search needs)  -- mul-shift-words-2
-    (λ c. search needs)  -- mul-shift-words-3
-    (λ c κs. search needs)  -- shift-words-requires
+    (λ c. search needs)  -- mul-shift
+    (λ c. search needs)  -- add-shift
+    (λ c. search needs)  -- mul-shift-2
+    (λ c. search needs)  -- mul-shift-3
+    (λ c κs. search needs)  -- shift-requires
     (λ c. search needs)  -- mul-shift-reals
     (λ c. search needs)  -- add-shift-reals
     (λ c. search needs)  -- mul-shift-reals-2

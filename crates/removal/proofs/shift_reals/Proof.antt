@@ -5,14 +5,14 @@ use native.Mathlib.Omega.{arith}
 use borrow.Author.Needs.{needs}
 use lib.ListN.{length, getD, length-set}
 use lib.Ieee.{nan}
-use Rattle.removal.specs.Shift.{Shifted}
-use Rattle.removal.proofs.Rows.{shifted-none, shifted-step}
+use Rattle.control.specs.Shift.{valueAt, Shifted}
+use Rattle.control.proofs.Shifts.{shifted-none, shifted-step}
 use Rattle.removal.proofs.shift_reals.Statement.{statement}
 use Rattle.removal.proofs.shift_reals.Tie as tie
 
 abbrev Inv-loop : tie.InvT-loop
 Inv-loop a₀ to from n i₀ a i =
-    (i ≤ n) × ((length a ≡ length a₀) × Shifted (λ x. getD a₀ x nan) (λ x. getD a x nan) to from i)
+    (i ≤ n) × ((length a ≡ length a₀) × Shifted (valueAt nan a₀) (valueAt nan a) to from i)
 
 abbrev μ-loop : tie.MeasureT-loop
 μ-loop a₀ to from n i₀ a i =
@@ -36,7 +36,7 @@ loop-again c =
 returns : tie.Need-returns Inv-loop μ-loop
 returns c =
     let a = c .before .before .args in
-    let at = c .before .loop in subst (λ (k : ℕ). Shifted (λ x. getD (a .a .now) x nan) (λ x. getD (at .a) x nan) (a .to) (a .from) k) (omega arith) (at .inv .1 .1)
+    let at = c .before .loop in subst (λ (k : ℕ). Shifted (valueAt nan (a .a .now)) (valueAt nan (at .a)) (a .to) (a .from) k) (omega arith) (at .inv .1 .1)
 
 pub shift-reals-spec : {M : Type 1} → statement M
 shift-reals-spec =

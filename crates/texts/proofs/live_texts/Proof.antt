@@ -1,7 +1,7 @@
--- The devices before k are passed, at most 64 requests each; then the queue. Assumes nothing.
+-- The devices before k are passed; then the two runs of the queue. Assumes nothing.
 use Prim.Native.Nat.{_-_, _≤_}
 use Rattle.control.proofs.Sounds.{pending-bound}
-use Rattle.texts.proofs.Scans.{Passed, passed-none, passed-step, passed-live}
+use Rattle.texts.proofs.Scans.{Passed, passed-none, passed-step, queue-counted, passed-live}
 use borrow.Author.Needs.{needs}
 use native.Mathlib.Omega.{arith}
 use Rattle.texts.proofs.live_texts.Statement.{statement}
@@ -19,15 +19,19 @@ loop-holds : tie.Need-loop-holds Inv-loop μ-loop
 loop-holds c =
     let a = c .before .before .before .before .args in (omega arith, passed-none (a .control .now) (a .words .now) (a .reals .now))
 
-pending-texts-requires : tie.Need-pending-texts-requires Inv-loop μ-loop
-pending-texts-requires c κs =
+texts-in-requires : tie.Need-texts-in-requires Inv-loop μ-loop
+texts-in-requires c κs =
     let at-start = c .before .before .before .before .before .before .before in
-    let a = at-start .args in
     let at = c .before .before .loop in
-    let n = c .pending-count .ensures in
-    let m = pending-bound (at-start .pre .sound) (at .k) (omega arith) in
     let p = at .inv .1 in
-    (at-start .pre .words-long, (at-start .pre .reals-long, (omega arith, (omega arith, (omega (arith, p .most), p .below)))))
+    let few = pending-bound (at-start .pre .sound) (at .k) (omega arith) in
+    record {
+      words-long = at-start .pre .words-long;
+      reals-long = at-start .pre .reals-long;
+      rows = omega (arith, at-start .pre .sound .devices, c .pending-count .ensures, few);
+      count = omega (arith, at-start .pre .sound .devices, p .most, c .pending-count .ensures, few);
+      below = p .below;
+    }
 
 loop-again : tie.Need-loop-again Inv-loop μ-loop
 loop-again c =
@@ -37,21 +41,51 @@ loop-again c =
     let at = at-loop .loop in
     let n = c .before .pending-count .ensures in
     let m = pending-bound (at-start .pre .sound) (at .k) (omega arith) in
-    (omega arith, passed-step (a .control .now) (a .words .now) (a .reals .now) (at .k) _ n (omega arith) (at .inv .1) (c .pending-texts .ensures))
+    (omega arith, passed-step (a .control .now) (a .words .now) (a .reals .now) (at .k) _ n (omega arith) (at .inv .1) (c .texts-in .ensures))
 
-queued-texts-requires : tie.Need-queued-texts-requires Inv-loop μ-loop
-queued-texts-requires c κs =
-    let at-loop = c .before .before .before in
+texts-in-requires-2 : tie.Need-texts-in-requires-2 Inv-loop μ-loop
+texts-in-requires-2 c κs =
+    let at-loop = c .before .before .before .before in
     let at-start = at-loop .before .before .before .before .before in
     let p = at-loop .loop .inv .1 in
     let s = at-start .pre .sound in
-    (at-start .pre .words-long, (at-start .pre .reals-long, (omega arith, (omega arith, (omega (arith, p .most), p .below)))))
+    let run = c .to-the-end .ensures in
+    record {
+      words-long = at-start .pre .words-long;
+      reals-long = at-start .pre .reals-long;
+      rows = omega (arith, run .in-ring);
+      count = omega (arith, p .most, s .devices, run .in-ring);
+      below = p .below;
+    }
+
+texts-in-requires-3 : tie.Need-texts-in-requires-3 Inv-loop μ-loop
+texts-in-requires-3 c κs =
+    let at-loop = c .before .before .before .before .before in
+    let at-start = at-loop .before .before .before .before .before in
+    let p = at-loop .loop .inv .1 in
+    let s = at-start .pre .sound in
+    let run = c .before .to-the-end .ensures in
+    let front = c .texts-in2 .ensures in
+    let queued = c .before .before .queue-length .ensures in
+    record {
+      words-long = at-start .pre .words-long;
+      reals-long = at-start .pre .reals-long;
+      rows = omega (arith, s .queued, queued);
+      count = omega (arith, p .most, front .most, run .some, s .devices, s .queued, queued);
+      below = front .below;
+    }
 
 returns : tie.Need-returns Inv-loop μ-loop
 returns c =
-    let a = c .before .before .before .before .before .before .before .before .before .args in
-    let at = c .before .before .before .before .loop in
-    passed-live (a .control .now) (a .words .now) (a .reals .now) (at .k) _ _ (omega arith) (c .before .before .queue-head .ensures) (c .before .queue-length .ensures) (at .inv .1) (c .queued-texts .ensures)
+    let at-head = c .before .before .before .before in
+    let at-loop = at-head .before .before in
+    let at-start = at-loop .before .before .before .before .before in
+    let a = at-start .args in
+    let at = at-loop .loop in
+    let queued = c .before .before .before .queue-length .ensures in
+    passed-live (a .control .now) (a .words .now) (a .reals .now) (at .k) _ _ (omega arith) (at-head .queue-head .ensures) queued (at .inv .1)
+    (queue-counted (a .control .now) (a .words .now) (a .reals .now) (c .before .before .to-the-end .ensures) (omega (arith, at-start .pre .sound .queued, queued)) (c .before .texts-in2 .ensures)
+    (c .texts-in3 .ensures))
 
 pub live-texts-spec : {M : Type 1} → statement M
 live-texts-spec =
@@ -62,11 +96,16 @@ live-texts-spec =
     (λ c κs. search needs)  -- device-count-requires
     loop-holds
     (λ c κs. search needs)  -- pending-count-requires
-    pending-texts-requires
+    (λ c. search needs)  -- mul-texts-in
+    texts-in-requires
     (λ c. search needs)  -- add-k
     (λ c. search needs)  -- loop-less
     loop-again
     (λ c κs. search needs)  -- queue-head-requires
     (λ c κs. search needs)  -- queue-length-requires
-    queued-texts-requires
+    (λ c κs. search needs)  -- to-the-end-requires
+    (λ c. search needs)  -- add-texts-in
+    texts-in-requires-2
+    (λ c. search needs)  -- sub-texts-in
+    texts-in-requires-3
     returns)

@@ -21,7 +21,7 @@ returns c =
     subst
     (λ (ts : List ℕ). Enacted (store (a .control .now) (a .words .now) (a .reals .now) (a .texts .now)) (store (last .0) (last .1 .0) (last .1 .1 .0) ts) (Edit.pend (a .k) (sight (Input.Utf8 (a .text .now))) ∷ []) (Load.Text (a .text .now)))
     (sym (c .before .before .before .before .before .before .before .before .before .before .before .before .before .put-text .ensures))
-    (text-pended (a .texts .now) (a .text .now) (a .slot) (p .1 .1 .1 .1 .0) (p .1 .1 .1 .0) (p .0 .texts-long) (a .k) (p .1 .1 .1 .1 .1) (c .before .before .before .before .before .before .before .before .before .before .text-utf8 .ensures) (pend .ensures))
+    (text-pended (a .texts .now) (a .text .now) (a .slot) (p .low) (p .short) (p .whole .texts-long) (a .k) (p .free) (c .before .before .before .before .before .before .before .before .before .before .text-utf8 .ensures) (pend .ensures))
 
 pub pend-text-spec : {M : Type 1} → statement M
 pend-text-spec =

@@ -3,6 +3,7 @@ use Prim.Native.Nat.{ℕ, _+_, _-_, _%_, _^_, _≤_, _<_}
 use mathlib.Core.Path.{_≡_, refl, _∙_}
 use lib.ListN.{length, getD, length-set}
 use lib.Seq.{getD-set-same, getD-set-other}
+use Rattle.touches.specs.Touches.{touchesLimit}
 use Rattle.control.specs.Control.{deviceWord}
 use Rattle.control.proofs.Tables.{case-eq}
 use Rattle.control.proofs.Touches.{touches-read}
@@ -13,7 +14,7 @@ use Rattle.control.proofs.edits.down_touch_ids.Tie as tie
 
 abbrev Inv-loop : tie.InvT-loop
 Inv-loop control k at count ids₀ j₀ ids j =
-    (j ≤ count) × ((count ≤ 16) × ((length ids ≡ 16) × ((i : ℕ) → i < j → getD ids i 0 ≡ deviceWord control k (6 + i) % 2 ^ 32)))
+    (j ≤ count) × ((count ≤ touchesLimit) × ((length ids ≡ touchesLimit) × ((i : ℕ) → i < j → getD ids i 0 ≡ deviceWord control k (6 + i) % 2 ^ 32)))
 
 abbrev μ-loop : tie.MeasureT-loop
 μ-loop control k at count ids₀ j₀ ids j =

@@ -3,6 +3,7 @@ use Prim.Native.Nat.{ℕ, _-_, _≤_, _<_}
 use mathlib.Core.Path.{_≡_, refl, _∙_}
 use lib.ListN.{length, getD, length-set}
 use lib.Seq.{getD-set-same, getD-set-other}
+use Rattle.control.specs.Control.{controlLength}
 use Rattle.control.proofs.Tables.{case-eq}
 use Rattle.control.proofs.Changes.{wrote-none, wrote-one}
 use Rattle.control.proofs.Starts.{fresh-words}
@@ -13,11 +14,11 @@ use Rattle.control.proofs.edits.new.Tie as tie
 
 abbrev Inv-loop : tie.InvT-loop
 Inv-loop control₀ connection serial next i₀ control i =
-    (i ≤ 224) × ((length control ≡ length control₀) × ((j : ℕ) → j < i → getD control j 0 ≡ 0))
+    (i ≤ controlLength) × ((length control ≡ length control₀) × ((j : ℕ) → j < i → getD control j 0 ≡ 0))
 
 abbrev μ-loop : tie.MeasureT-loop
 μ-loop control₀ connection serial next i₀ control i =
-    224 - i
+    controlLength - i
 
 loop-holds : tie.Need-loop-holds Inv-loop μ-loop
 loop-holds c =

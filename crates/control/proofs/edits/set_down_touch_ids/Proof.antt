@@ -1,8 +1,9 @@
 -- The count, then the ids before j are written. Assumes nothing.
-use Prim.Native.Nat.{ℕ, _+_, _-_, _*_, _^_, _≤_, _<_}
+use Prim.Native.Nat.{ℕ, _+_, _-_, _^_, _≤_, _<_}
 use mathlib.Core.Path.{_∙_, subst}
 use borrow.Author.Count.{below-more}
 use lib.ListN.{getD, set, length-set}
+use Rattle.control.specs.Control.{devicePlace}
 use Rattle.control.proofs.Changes.{Wrote, wrote-none, wrote-one}
 use Rattle.control.proofs.Touches.{touches-set}
 use borrow.Author.Needs.{needs}
@@ -12,7 +13,7 @@ use Rattle.control.proofs.edits.set_down_touch_ids.Tie as tie
 
 abbrev Inv-loop : tie.InvT-loop
 Inv-loop control₀ k touches at count j₀ control j =
-    (j ≤ count) × (Wrote control₀ control (32 + 24 * k + 6) j (λ i. getD (touches .ids) i 0) × ((i : ℕ) → i < j → getD (touches .ids) i 0 < 2 ^ 32))
+    (j ≤ count) × (Wrote control₀ control (devicePlace k + 6) j (λ i. getD (touches .ids) i 0) × ((i : ℕ) → i < j → getD (touches .ids) i 0 < 2 ^ 32))
 
 abbrev μ-loop : tie.MeasureT-loop
 μ-loop control₀ k touches at count j₀ control j =
@@ -24,7 +25,7 @@ loop-holds c =
 
 slice-write-control-2 : tie.Need-slice-write-control-2 Inv-loop μ-loop
 slice-write-control-2 c =
-    let a = c .before .before .before .before .before .args in omega (arith, length-set (a .control .now) (32 + 24 * a .k + 5) (a .t3 .count), c .before .before .before .loop .inv .1 .0 .long)
+    let a = c .before .before .before .before .before .args in omega (arith, length-set (a .control .now) (devicePlace (a .k) + 5) (a .t3 .count), c .before .before .before .loop .inv .1 .0 .long)
 
 loop-again : tie.Need-loop-again Inv-loop μ-loop
 loop-again c =
@@ -32,14 +33,14 @@ loop-again c =
     let at = c .before .before .before .loop in (
       omega arith,
       (
-        wrote-one _ _ (omega arith) (c .wide .ensures .0) (omega (arith, length-set (a .control .now) (32 + 24 * a .k + 5) (a .t3 .count))) (at .inv .1 .0),
+        wrote-one _ _ (omega arith) (c .wide .ensures .0) (omega (arith, length-set (a .control .now) (devicePlace (a .k) + 5) (a .t3 .count))) (at .inv .1 .0),
         below-more _ _ (at .inv .1 .1) (omega (arith, c .wide .ensures .0, c .wide .ensures .1)),
       ),
     )
 
 same-length : tie.Need-same-length Inv-loop μ-loop
 same-length c =
-    let a = c .before .before .before .args in c .before .loop .inv .1 .0 .long ∙ length-set (a .control .now) (32 + 24 * a .k + 5) (a .t3 .count)
+    let a = c .before .before .before .args in c .before .loop .inv .1 .0 .long ∙ length-set (a .control .now) (devicePlace (a .k) + 5) (a .t3 .count)
 
 returns : tie.Need-returns Inv-loop μ-loop
 returns c =
@@ -48,7 +49,7 @@ returns c =
     let at = c .before .loop in
     touches-set (a .control .now) (p .0) (a .k) (p .1 .0) (at .control) (a .t3) (p .1 .1) (search needs) (λ i l. at .inv .1 .1 i (omega arith))
     (subst
-    (λ (n : ℕ). Wrote (set (a .control .now) (32 + 24 * a .k + 5) (a .t3 .count)) (at .control) (32 + 24 * a .k + 6) n (λ i. getD (a .t3 .ids) i 0))
+    (λ (n : ℕ). Wrote (set (a .control .now) (devicePlace (a .k) + 5) (a .t3 .count)) (at .control) (devicePlace (a .k) + 6) n (λ i. getD (a .t3 .ids) i 0))
     (omega arith) (at .inv .1 .0))
 
 pub set-down-touch-ids-spec : {M : Type 1} → statement M

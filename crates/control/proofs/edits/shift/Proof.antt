@@ -2,8 +2,8 @@
 use Prim.Native.Nat.{ℕ, _+_, _≤_, _-_}
 use mathlib.Core.Path.{_≡_, refl, _∙_, subst}
 use lib.ListN.{length, getD, length-set}
-use Rattle.control.specs.Shift.{Shifted}
-use Rattle.control.proofs.Rows.{shifted-none, shifted-step}
+use Rattle.control.specs.Shift.{valueAt, Shifted}
+use Rattle.control.proofs.Shifts.{shifted-none, shifted-step}
 use borrow.Author.Needs.{needs}
 use native.Mathlib.Omega.{arith}
 use Rattle.control.proofs.edits.shift.Statement.{statement}
@@ -11,7 +11,7 @@ use Rattle.control.proofs.edits.shift.Tie as tie
 
 abbrev Inv-loop : tie.InvT-loop
 Inv-loop a₀ to from n i₀ a i =
-    (i ≤ n) × ((length a ≡ length a₀) × Shifted a₀ a to from i)
+    (i ≤ n) × ((length a ≡ length a₀) × Shifted (valueAt 0 a₀) (valueAt 0 a) to from i)
 
 abbrev μ-loop : tie.MeasureT-loop
 μ-loop a₀ to from n i₀ a i =
@@ -19,7 +19,7 @@ abbrev μ-loop : tie.MeasureT-loop
 
 loop-holds : tie.Need-loop-holds Inv-loop μ-loop
 loop-holds c =
-    let a = c .args in (omega arith, (refl, shifted-none (a .a .now) (a .a .now) (a .to) (a .from)))
+    let a = c .args in (omega arith, (refl, shifted-none 0 (a .a .now) (a .a .now) (a .to) (a .from)))
 
 loop-again : tie.Need-loop-again Inv-loop μ-loop
 loop-again c =
@@ -28,14 +28,14 @@ loop-again c =
       omega arith,
       (
         length-set (at .a) (a .to + at .i) (getD (at .a) (a .from + at .i) 0) ∙ at .inv .1 .0,
-        shifted-step (a .a .now) (at .a) (a .to) (a .from) (at .i) (omega arith) (omega arith) (at .inv .1 .1),
+        shifted-step 0 (a .a .now) (at .a) (a .to) (a .from) (at .i) (omega arith) (omega arith) (at .inv .1 .1),
       ),
     )
 
 returns : tie.Need-returns Inv-loop μ-loop
 returns c =
     let a = c .before .before .args in
-    let at = c .before .loop in subst (λ (k : ℕ). Shifted (a .a .now) (at .a) (a .to) (a .from) k) (omega arith) (at .inv .1 .1)
+    let at = c .before .loop in subst (λ (k : ℕ). Shifted (valueAt 0 (a .a .now)) (valueAt 0 (at .a)) (a .to) (a .from) k) (omega arith) (at .inv .1 .1)
 
 pub shift-spec : {M : Type 1} → statement M
 shift-spec =

@@ -1,10 +1,10 @@
 -- A set bit is taken out of the mask; with none there is nothing to do. Assumes nothing.
-use Prim.Native.Nat.{ℕ, _+_, _-_, _*_}
+use Prim.Native.Nat.{ℕ, _+_, _-_}
 use mathlib.Core.Path.{_≡_, sym, ap, _∙_}
 use mathlib.Core.Bool.{true}
 use Rattle.eiproto.specs.Bits.{bit}
 use Rattle.eiproto.proofs.Bits.{one-shl}
-use Rattle.control.specs.Control.{linkedAt}
+use Rattle.control.specs.Control.{devicePlace, linkedAt}
 use Rattle.control.proofs.LinkBits.{bit-fits, bit-below, cleared}
 use Rattle.control.proofs.Changes.{linked-set, linked-kept}
 use native.Mathlib.Omega.{arith}
@@ -15,13 +15,13 @@ use Rattle.control.proofs.edits.unlink.Tie as tie
 shl-control : tie.Need-shl-control
 shl-control c =
     let a = c .before .before .before .before .args in
-    bit-below (a .bit) (linkedAt (a .control .now) (a .k)) (omega (arith, c .before .before .before .slice-known .given (32 + 24 * a .k + 3))) (sym (c .before .has-bit .ensures) ∙ c .if1 .taken)
+    bit-below (a .bit) (linkedAt (a .control .now) (a .k)) (omega (arith, c .before .before .before .slice-known .given (devicePlace (a .k) + 3))) (sym (c .before .has-bit .ensures) ∙ c .if1 .taken)
 
 sub-control : tie.Need-sub-control
 sub-control c =
     let a = c .before .before .before .before .args in
     let has : bit (a .bit) (linkedAt (a .control .now) (a .k)) ≡ true = sym (c .before .has-bit .ensures) ∙ c .if1 .taken in
-    omega (arith, one-shl (a .bit) (bit-below (a .bit) (linkedAt (a .control .now) (a .k)) (omega (arith, c .before .before .before .slice-known .given (32 + 24 * a .k + 3))) has), bit-fits (a .bit) (linkedAt (a .control .now) (a .k)) has)
+    omega (arith, one-shl (a .bit) (bit-below (a .bit) (linkedAt (a .control .now) (a .k)) (omega (arith, c .before .before .before .slice-known .given (devicePlace (a .k) + 3))) has), bit-fits (a .bit) (linkedAt (a .control .now) (a .k)) has)
 
 returns : tie.Need-returns
 returns c =
@@ -31,7 +31,7 @@ returns c =
     let links = linkedAt (a .control .now) (a .k) in
     let has : bit (a .bit) links ≡ true = sym (c .before .has-bit .ensures) ∙ c .if1 .taken in
     linked-set (a .control .now) (at-start .pre .0) (a .k) (at-start .pre .1) (a .bit) _
-    (λ x. ap (λ (y : ℕ). bit x (links - y)) (one-shl (a .bit) (bit-below (a .bit) links (omega (arith, at-slice-known .slice-known .given (32 + 24 * a .k + 3))) has)) ∙ cleared (a .bit) links has x)
+    (λ x. ap (λ (y : ℕ). bit x (links - y)) (one-shl (a .bit) (bit-below (a .bit) links (omega (arith, at-slice-known .slice-known .given (devicePlace (a .k) + 3))) has)) ∙ cleared (a .bit) links has x)
 
 returns-2 : tie.Need-returns-2
 returns-2 c =

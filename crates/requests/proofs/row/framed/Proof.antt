@@ -1,7 +1,7 @@
--- The timed kinds are those from 8 to 21. Assumes nothing.
+-- The kinds that pass the test are timed, and no others. Assumes nothing.
 use borrow.Author.Needs.{needs}
-use mathlib.Core.Logic.{inl, inr, ⊎-elim}
-use mathlib.Core.Path.{_∙_}
+use borrow.Author.Tests.{not-true, not-false}
+use mathlib.Core.Path.{sym, _∙_}
 use Rattle.requests.proofs.Cells.{framed-row, lost-row}
 use Rattle.requests.proofs.row.framed.Statement.{statement}
 use Rattle.requests.proofs.row.framed.Tie as tie
@@ -9,5 +9,6 @@ use Rattle.requests.proofs.row.framed.Tie as tie
 pub framed-spec : {M : Type 1} → statement M
 framed-spec = tie.close (tie.spec
     (λ c κs. search needs)
-    (λ c. let a = c .before .before .before .args in c .scroll-stop .ensures ∙ lost-row (a .c) (a .device) (a .time) (⊎-elim (λ w. inl (search needs)) (λ w. inr (search needs)) (c .before .if1 .came)))
-    (λ c. let a = c .before .before .before .before .args in framed-row (a .c) (a .device) (a .time) (search needs) (search needs)))
+    (λ c κs. search needs)
+    (λ c. let d = c .before .before in let a = d .before .args in c .scroll-stop .ensures ∙ lost-row (a .c) (a .device) (a .time) (sym (d .is-timed .ensures) ∙ not-true _ (c .before .if1 .taken)))
+    (λ c. let d = c .before in let a = d .before .args in framed-row (a .c) (a .device) (a .time) (sym (d .is-timed .ensures) ∙ not-false _ (c .if1 .left))))

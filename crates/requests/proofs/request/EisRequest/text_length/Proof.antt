@@ -1,4 +1,4 @@
--- The text is at place 21. Assumes nothing.
+-- The text is at its place. Assumes nothing.
 use borrow.Author.Needs.{needs}
 use Rattle.requests.proofs.Arms.{among}
 use mathlib.Core.Path.{sym}
