@@ -167,14 +167,7 @@ fn prepare(
     texts: &mut [u8],
     workload: Workload,
 ) {
-    bench_calls::begin(
-        control,
-        words,
-        reals,
-        texts,
-        devices_of(workload),
-        capabilities_of(workload),
-    );
+    bench_calls::begin(control, devices_of(workload), capabilities_of(workload));
     if let Workload::Deep = workload {
         pile_up(control, words, reals, texts);
     }

@@ -1,5 +1,5 @@
 // What a client sends in the turns of the benchmark, and what it sent, taken.
-use crate::session::DEVICE;
+use crate::start::DEVICE;
 use converter::request;
 use converter::request::NextRequest;
 use eiproto::eiproto_enum::KeyState;

@@ -1,9 +1,9 @@
 // What the turns of the benchmark are made of: the session that they begin with, and what a client sends.
 mod client;
-mod session;
+mod start;
 
-pub use crate::session::DEVICE;
-pub use crate::session::begin;
+pub use crate::start::DEVICE;
+pub use crate::start::begin;
 pub use client::frame;
 pub use client::keys;
 pub use client::many_keys;

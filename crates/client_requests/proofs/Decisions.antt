@@ -14,6 +14,7 @@ use Rattle.eiproto.specs.Bits.{bitsOf, lowestBit}
 use Rattle.eiproto.specs.declared.event.DeviceCapability.{DeviceCapability}
 use Rattle.eiproto.specs.Interface.{eiTouchscreen}
 use Rattle.touches.specs.Touches.{member}
+use Rattle.requests.specs.declared.cell.Cell.{Cell}
 use Rattle.model.specs.Call.{Kind, Input, Sight, sight, touching, Load, Call, Split}
 use Rattle.model.specs.Session.{View, view}
 use Rattle.model.specs.Edit.{Amend}
@@ -28,50 +29,41 @@ use Rattle.session.specs.View.{Store, session}
 use Rattle.session.proofs.Views.{deviceSeen, devices-length, device-touches, pending-count, found-interface, interface-bound, no-interface}
 use Rattle.answers.specs.Answer.{errorOf}
 use Rattle.answers.specs.declared.Error.{Error}
-use Rattle.client_requests.specs.Decision.{amendsOf, goesDown, CanChange, queueOn, decidedStep, Fits, Decided, OnlyQueued, OnlyHeld}
+use Rattle.client_requests.specs.Decision.{amendsOf, goesDown, CanChange, queueOn, Decided, OnlyQueued, OnlyHeld}
 use Rattle.client_requests.specs.declared.timed.TouchChange.{TouchChange}
 use Rattle.client_requests.specs.declared.timed.Decision.{Decision}
 
 -- ---- decisions are told apart
 
-ignored-not : {k : ℕ} {change : TouchChange} → Decision.Ignored ≡ Decision.Queued k change → ⊥
+ignored-not : {k : ℕ} {change : TouchChange} {request : Cell} → Decision.Ignored ≡ Decision.Queued k change request → ⊥
 ignored-not q = let z : _≡_ {A = ℕ} 0 1 = cc in omega arith
 
-refused-not : {e : Error} {k : ℕ} {change : TouchChange} → Decision.Refused e ≡ Decision.Queued k change → ⊥
+refused-not : {e : Error} {k : ℕ} {change : TouchChange} {request : Cell} → Decision.Refused e ≡ Decision.Queued k change request → ⊥
 refused-not q = let z : _≡_ {A = ℕ} 0 1 = cc in omega arith
 
-same-slot : {j k : ℕ} {x y : TouchChange} → Decision.Queued j x ≡ Decision.Queued k y → j ≡ k
-same-slot q = cc
+module _ {j k : ℕ} {x y : TouchChange} {a b : Cell} (q : Decision.Queued j x a ≡ Decision.Queued k y b) where
+  same-slot : j ≡ k
+  same-slot = cc
 
-same-change : {j k : ℕ} {x y : TouchChange} → Decision.Queued j x ≡ Decision.Queued k y → x ≡ y
-same-change q = cc
+  same-change : x ≡ y
+  same-change = cc
+
+  same-request : a ≡ b
+  same-request = cc
 
 not-down : {change : TouchChange} (held : List ℕ) → goesDown change ≡ false → CanChange change held
 not-down held h id e = absurd (false≢true (sym h ∙ ap goesDown e))
 
 -- ---- the pending list's test, and the bit of a capability
 
-module _ (c : List ℕ) (k : ℕ) (change : TouchChange) where
-  pub queue-full : 64 ≤ coreAt c k .pending → Decision.Refused Error.FullPending ≡ queueOn c k change
+module _ (c : List ℕ) (k : ℕ) (change : TouchChange) (request : Cell) where
+  pub queue-full : 64 ≤ coreAt c k .pending → Decision.Refused Error.FullPending ≡ queueOn c k change request
   unfolding queueOn
   queue-full h = rw (le-leb 64 _ h)
 
-  pub queue-room : coreAt c k .pending < 64 → Decision.Queued k change ≡ queueOn c k change
+  pub queue-room : coreAt c k .pending < 64 → Decision.Queued k change request ≡ queueOn c k change request
   unfolding queueOn
   queue-room h = rw (lt-leb 64 _ h)
-
-  fits-on : k < deviceCount c → CanChange change (coreAt c k .downTouchIds) → Fits c (queueOn c k change)
-  unfolding queueOn coreAt
-  fits-on known touch = go (leb 64 (coreAt c k .pending)) refl
-    where
-      go : (b : Bool) → leb 64 (coreAt c k .pending) ≡ b → Fits c (cond b (Decision.Refused Error.FullPending) (Decision.Queued k change))
-      go true full j x q = absurd (refused-not q)
-      go false room j x q =
-          rw (← same-slot q, ← same-change q) (record { known = known; room = leb-false 64 _ room; touch = touch })
-
-  -- where the touches stay, or one goes up
-  pub fits-kept : {d : Decision} → k < deviceCount c → goesDown change ≡ false → d ≡ queueOn c k change → Fits c d
-  fits-kept known h is = rw is (fits-on known (not-down (coreAt c k .downTouchIds) h))
 
 pub bit-is : (cap : DeviceCapability) → lowestBit (capabilityMask cap) ≡ capabilityIndex cap
 unfolding lowestBit bitsOf
@@ -141,12 +133,13 @@ module _ (cap : DeviceCapability) (interface version : ℕ) (i : Sight) (valid :
 
   -- ---- the decision
 
-  module _ (c : List ℕ) where
-    pub unknown : linkedSlot cap interface c ≡ none → Decided c interface version i Decision.Ignored
+  module _ (c : List ℕ) (request : Cell) where
+    pub unknown : linkedSlot cap interface c ≡ none → Decided c interface version i request Decision.Ignored
     unknown e =
         record {
           step-is = λ s t same call. step-unknown s t call (ap (linkedSlot cap interface) same ∙ e);
-          fits = λ k x q. absurd (ignored-not q);
+          fits = λ k x y q. absurd (ignored-not q);
+          same = λ k x y q. absurd (ignored-not q);
         }
 
     module _ {k : ℕ} (e : linkedSlot cap interface c ≡ some k) where
@@ -160,42 +153,56 @@ module _ (cap : DeviceCapability) (interface version : ℕ) (i : Sight) (valid :
       waiting : (s : Store) → s .control ≡ c → coreAt (s .control) k .pending ≡ coreAt c k .pending
       waiting s same = ap (λ (x : List ℕ). coreAt x k .pending) same
 
-      pub ignored : ((f : Found) → f .device .downTouchIds ≡ coreAt c k .downTouchIds → handled f ≡ ignore) → Decided c interface version i Decision.Ignored
+      pub ignored : ((f : Found) → f .device .downTouchIds ≡ coreAt c k .downTouchIds → handled f ≡ ignore) → Decided c interface version i request Decision.Ignored
       unfolding ignore
       ignored h =
-          record { step-is = λ s t same call. step-told s t call (found s same) Outcome.accepted (h _ (touches s same)); fits = λ j x q. absurd (ignored-not q) }
+          record {
+            step-is = λ s t same call. step-told s t call (found s same) Outcome.accepted (h _ (touches s same));
+            fits = λ j x y q. absurd (ignored-not q);
+            same = λ j x y q. absurd (ignored-not q);
+          }
 
       pub refused : (error : Error) → ((f : Found) → f .device .downTouchIds ≡ coreAt c k .downTouchIds → handled f ≡ answer (errorOf error))
-          → Decided c interface version i (Decision.Refused error)
+          → Decided c interface version i request (Decision.Refused error)
       refused error h =
-          record { step-is = λ s t same call. step-told s t call (found s same) (errorOf error) (h _ (touches s same)); fits = λ j x q. absurd (refused-not q) }
+          record {
+            step-is = λ s t same call. step-told s t call (found s same) (errorOf error) (h _ (touches s same));
+            fits = λ j x y q. absurd (refused-not q);
+            same = λ j x y q. absurd (refused-not q);
+          }
 
-      pub queued : {d : Decision} (change : TouchChange) → CanChange change (coreAt c k .downTouchIds) → d ≡ queueOn c k change → texts (i .kind) ≡ 0
-          → ((f : Found) → f .device .downTouchIds ≡ coreAt c k .downTouchIds → handled f ≡ pendAfter (amendsOf change) f i) → Decided c interface version i d
+      pub queued : {d : Decision} (change : TouchChange) → CanChange change (coreAt c k .downTouchIds) → d ≡ queueOn c k change request → texts (i .kind) ≡ 0
+          → ((f : Found) → f .device .downTouchIds ≡ coreAt c k .downTouchIds → handled f ≡ pendAfter (amendsOf change) f i) → Decided c interface version i request d
       unfolding queueOn pendAfter coreAt
-      queued change touch is textless h =
-          rw is
-          (record {
-            step-is = λ s t same call. go (leb 64 (coreAt c k .pending)) refl s t same call;
-            fits = fits-on c k change (linked-within cap interface c e) touch;
-          })
+      queued change touch is textless h = rw is (go (leb 64 (coreAt c k .pending)) refl)
         where
-          go : (b : Bool) → leb 64 (coreAt c k .pending) ≡ b → (s : Store) (t : Split Load) → s .control ≡ c → t .call ≡ Call.timed interface version i
-              → step t (session s) ≡ decidedStep (cond b (Decision.Refused Error.FullPending) (Decision.Queued k change)) i (t .load) (session s)
-          go true full s t same call = step-full s t call (found s same) (amendsOf change) (h _ (touches s same)) (rw (waiting s same) (leb-true 64 _ full))
-          go false room s t same call =
-              step-queued s t call (found s same) (amendsOf change) (h _ (touches s same)) (rw (waiting s same) (leb-false 64 _ room)) (inl textless)
+          go : (b : Bool) → leb 64 (coreAt c k .pending) ≡ b
+              → Decided c interface version i request (cond b (Decision.Refused Error.FullPending) (Decision.Queued k change request))
+          go true full =
+              record {
+                step-is = λ s t same call. step-full s t call (found s same) (amendsOf change) (h _ (touches s same)) (rw (waiting s same) (leb-true 64 _ full));
+                fits = λ j x y q. absurd (refused-not q);
+                same = λ j x y q. absurd (refused-not q);
+              }
+          go false room =
+              record {
+                step-is = λ s t same call.
+                    step-queued s t call (found s same) (amendsOf change) (h _ (touches s same)) (rw (waiting s same) (leb-false 64 _ room)) (inl textless);
+                fits = λ j x y q.
+                    rw (← same-slot q, ← same-change q) (record { known = linked-within cap interface c e; room = leb-false 64 _ room; touch = touch });
+                same = λ j x y q. sym (same-request q);
+              }
 
 -- ---- a request of which nothing is asked
 
-module _ (c : List ℕ) {cap : DeviceCapability} (interface version : ℕ) {input : Input} (only : OnlyQueued cap input) where
-  pub plain-unknown : linkedSlot cap interface c ≡ none → Decided c interface version (sight input) Decision.Ignored
-  plain-unknown e = unknown cap interface version (sight input) (only .valid) (ap (λ (x : Handler). x .capability) (only .by)) c e
+module _ (c : List ℕ) {cap : DeviceCapability} (interface version : ℕ) {input : Input} (only : OnlyQueued cap input) (request : Cell) where
+  pub plain-unknown : linkedSlot cap interface c ≡ none → Decided c interface version (sight input) request Decision.Ignored
+  plain-unknown e = unknown cap interface version (sight input) (only .valid) (ap (λ (x : Handler). x .capability) (only .by)) c request e
 
-  pub plain-queued : {k : ℕ} {d : Decision} → linkedSlot cap interface c ≡ some k → d ≡ queueOn c k TouchChange.Nothing → Decided c interface version (sight input) d
+  pub plain-queued : {k : ℕ} {d : Decision} → linkedSlot cap interface c ≡ some k → d ≡ queueOn c k TouchChange.Nothing request → Decided c interface version (sight input) request d
   unfolding texts textsBy handle
   plain-queued {k} e q =
-      queued cap interface version (sight input) (only .valid) (ap (λ (x : Handler). x .capability) (only .by)) c e TouchChange.Nothing (not-down (coreAt c k .downTouchIds) refl) q
+      queued cap interface version (sight input) (only .valid) (ap (λ (x : Handler). x .capability) (only .by)) c request e TouchChange.Nothing (not-down (coreAt c k .downTouchIds) refl) q
       (ap (λ (x : Handler). textsBy (x .rule)) (only .by)) (λ f same. ap (λ (x : Handler). handle (x .rule) version f (sight input)) (only .by))
 
 -- ---- touches
@@ -220,37 +227,37 @@ touch-texts Kind.TextUtf8 e = absurd (text-not e)
     text-not : DeviceCapability.Text ≡ DeviceCapability.Touch → ⊥
     text-not e = let z : _≡_ {A = ℕ} 6 3 = ap capabilityIndex e in omega arith
 
-module _ (c : List ℕ) (touchscreen touch : ℕ) (kind : Kind) (version : ℕ) (by : handler kind .capability ≡ DeviceCapability.Touch) where
-  pub touch-unknown : linkedSlot DeviceCapability.Touch touchscreen c ≡ none → Decided c touchscreen version (touching kind touch) Decision.Ignored
-  touch-unknown e = unknown DeviceCapability.Touch touchscreen version (touching kind touch) refl by c e
+module _ (c : List ℕ) (touchscreen touch : ℕ) (kind : Kind) (version : ℕ) (by : handler kind .capability ≡ DeviceCapability.Touch) (request : Cell) where
+  pub touch-unknown : linkedSlot DeviceCapability.Touch touchscreen c ≡ none → Decided c touchscreen version (touching kind touch) request Decision.Ignored
+  touch-unknown e = unknown DeviceCapability.Touch touchscreen version (touching kind touch) refl by c request e
 
 -- the touch must be held
 module _ (c : List ℕ) (touchscreen touch : ℕ) {kind : Kind} {version : ℕ} {change : TouchChange} (only : OnlyHeld kind version touch change)
-    {k : ℕ} (e : linkedSlot DeviceCapability.Touch touchscreen c ≡ some k) where
+    (request : Cell) {k : ℕ} (e : linkedSlot DeviceCapability.Touch touchscreen c ≡ some k) where
   asked : {b : Bool} → member touch (coreAt c k .downTouchIds) ≡ b → (f : Found) → f .device .downTouchIds ≡ coreAt c k .downTouchIds
       → handle (handler kind .rule) version f (touching kind touch) ≡ cond b (pendAfter (amendsOf change) f (touching kind touch)) ignore
   unfolding ifHeld
   asked m f same = only .asks f ∙ ap (λ (b : Bool). cond b (pendAfter (amendsOf change) f (touching kind touch)) ignore) (ap (member touch) same ∙ m)
 
-  pub touch-not-held : member touch (coreAt c k .downTouchIds) ≡ false → Decided c touchscreen version (touching kind touch) Decision.Ignored
-  touch-not-held m = ignored DeviceCapability.Touch touchscreen version (touching kind touch) refl (only .by) c e (asked m)
+  pub touch-not-held : member touch (coreAt c k .downTouchIds) ≡ false → Decided c touchscreen version (touching kind touch) request Decision.Ignored
+  touch-not-held m = ignored DeviceCapability.Touch touchscreen version (touching kind touch) refl (only .by) c request e (asked m)
 
-  pub touch-held : {d : Decision} → goesDown change ≡ false → member touch (coreAt c k .downTouchIds) ≡ true → d ≡ queueOn c k change
-      → Decided c touchscreen version (touching kind touch) d
+  pub touch-held : {d : Decision} → goesDown change ≡ false → member touch (coreAt c k .downTouchIds) ≡ true → d ≡ queueOn c k change request
+      → Decided c touchscreen version (touching kind touch) request d
   touch-held up m q =
-      queued DeviceCapability.Touch touchscreen version (touching kind touch) refl (only .by) c e change (not-down (coreAt c k .downTouchIds) up) q
+      queued DeviceCapability.Touch touchscreen version (touching kind touch) refl (only .by) c request e change (not-down (coreAt c k .downTouchIds) up) q
       (touch-texts kind (only .by)) (asked m)
 
 -- ---- Down
 
-module _ (c : List ℕ) (touchscreen touch : ℕ) {k : ℕ} (e : linkedSlot DeviceCapability.Touch touchscreen c ≡ some k) where
+module _ (c : List ℕ) (touchscreen touch : ℕ) (request : Cell) {k : ℕ} (e : linkedSlot DeviceCapability.Touch touchscreen c ≡ some k) where
   abbrev Downs : Decision → Type 0
-  Downs d = (version : ℕ) → Decided c touchscreen version (touching Kind.TouchDown touch) d
+  Downs d = (version : ℕ) → Decided c touchscreen version (touching Kind.TouchDown touch) request d
 
   pub down-many : 16 ≤ length (coreAt c k .downTouchIds) → Downs (Decision.Refused Error.TooManyTouches)
   unfolding handler handle refuse
   down-many m version =
-      refused DeviceCapability.Touch touchscreen version (touching Kind.TouchDown touch) refl refl c e Error.TooManyTouches
+      refused DeviceCapability.Touch touchscreen version (touching Kind.TouchDown touch) refl refl c request e Error.TooManyTouches
       (λ f same. rw (ap (λ (x : List ℕ). leb 16 (length x)) same ∙ le-leb 16 _ m))
 
   module _ (m : length (coreAt c k .downTouchIds) < 16) where
@@ -260,13 +267,13 @@ module _ (c : List ℕ) (touchscreen touch : ℕ) {k : ℕ} (e : linkedSlot Devi
     pub down-twice : member touch (coreAt c k .downTouchIds) ≡ true → Downs (Decision.Refused Error.DuplicatedTouchDown)
     unfolding handler handle refuse
     down-twice h version =
-        refused DeviceCapability.Touch touchscreen version (touching Kind.TouchDown touch) refl refl c e Error.DuplicatedTouchDown
+        refused DeviceCapability.Touch touchscreen version (touching Kind.TouchDown touch) refl refl c request e Error.DuplicatedTouchDown
         (λ f same. rw (few f same, ap (member touch) same ∙ h))
 
-    pub down-queued : {d : Decision} → member touch (coreAt c k .downTouchIds) ≡ false → d ≡ queueOn c k (TouchChange.Down touch) → Downs d
+    pub down-queued : {d : Decision} → member touch (coreAt c k .downTouchIds) ≡ false → d ≡ queueOn c k (TouchChange.Down touch) request → Downs d
     unfolding handler handle refuse texts textsBy
     down-queued h q version =
-        queued DeviceCapability.Touch touchscreen version (touching Kind.TouchDown touch) refl refl c e (TouchChange.Down touch)
+        queued DeviceCapability.Touch touchscreen version (touching Kind.TouchDown touch) refl refl c request e (TouchChange.Down touch)
         (λ id is. (m, ap (λ (x : ℕ). member x (coreAt c k .downTouchIds)) (sym (same-touch is)) ∙ h)) q refl
         (λ f same. rw (few f same, ap (member touch) same ∙ h))
       where
@@ -280,9 +287,9 @@ module _ (c : List ℕ) (touchscreen touch version : ℕ) where
   unfolding handler handle
   cancel-held h = record { by = refl; asks = λ f. rw (le-ltb version 2 h) }
 
-  pub cancel-old : {k : ℕ} → linkedSlot DeviceCapability.Touch touchscreen c ≡ some k → version < 2
-      → Decided c touchscreen version (touching Kind.TouchCancel touch) (Decision.Refused (Error.InvalidInterfaceVersion eiTouchscreen version))
+  pub cancel-old : (request : Cell) {k : ℕ} → linkedSlot DeviceCapability.Touch touchscreen c ≡ some k → version < 2
+      → Decided c touchscreen version (touching Kind.TouchCancel touch) request (Decision.Refused (Error.InvalidInterfaceVersion eiTouchscreen version))
   unfolding handler handle
-  cancel-old e h =
-      refused DeviceCapability.Touch touchscreen version (touching Kind.TouchCancel touch) refl refl c e (Error.InvalidInterfaceVersion eiTouchscreen version)
+  cancel-old request e h =
+      refused DeviceCapability.Touch touchscreen version (touching Kind.TouchCancel touch) refl refl c request e (Error.InvalidInterfaceVersion eiTouchscreen version)
       (λ f same. rw (lt-ltb version 2 h))

@@ -12,6 +12,7 @@ use lib.ListN.{length, getD}
 use Rattle.eiproto.specs.declared.event.DeviceCapability.{DeviceCapability}
 use Rattle.utf8.specs.Rfc3629.{isUtf8}
 use Rattle.wire.proofs.Splices.{splice-none}
+use Rattle.requests.specs.declared.cell.Cell.{Cell}
 use Rattle.model.specs.Call.{Kind, Input, sight, Load, load, loadOf, Call, mapCall, split}
 use Rattle.model.specs.Edit.{Amend, Edit, enactAll}
 use Rattle.model.specs.Plan.{records, refusal, answer, refuse, edit}
@@ -37,8 +38,8 @@ use Rattle.client_requests.proofs.Decisions.{linkedSlot, step-unknown, 
 
 -- ---- what was decided
 
-module _ (s : Store) (out : List ℕ) (interface version clock : ℕ) (input : Input) {d : Decision} (r : Answer) (whole : Whole s)
-    (dec : Decided (s .control) interface version (sight input) d) where
+module _ (s : Store) (out : List ℕ) (interface version clock : ℕ) (input : Input) (request : Cell) {d : Decision} (r : Answer) (whole : Whole s)
+    (dec : Decided (s .control) interface version (sight input) request d) where
   abbrev asked : Call Input
   asked = Call.timed interface version input
 
@@ -52,7 +53,7 @@ module _ (s : Store) (out : List ℕ) (interface version clock : ℕ) (input : I
   pub met-refused : {error : Error} → d ≡ Decision.Refused error → (r .outcome ≡ Outcome.Refused error) × (r .count ≡ 0) → Handled s s out out asked clock r
   met-refused is told = meets-unchanged s out _ _ r whole (stepped is) (ap outcomeOf (told .0)) (told .1)
 
-  pub met-queued : (e : Store) {k : ℕ} {change : TouchChange} → d ≡ Decision.Queued k change → length (e .words) ≡ length (s .words) → length (e .reals) ≡ length (s .reals)
+  pub met-queued : (e : Store) {k : ℕ} {change : TouchChange} {x : Cell} → d ≡ Decision.Queued k change x → length (e .words) ≡ length (s .words) → length (e .reals) ≡ length (s .reals)
       → e .texts ≡ s .texts → Enacted s e (map (λ a. Edit.amend k a) (amendsOf change) ++ (Edit.pend k (sight input) ∷ [])) (load input)
       → (r .outcome ≡ Outcome.Accepted) × (r .count ≡ 0) → Handled s e out out asked clock r
   unfolding edit refuses refusal records

@@ -44,15 +44,15 @@ CanChange change held = (id : ℕ) → change ≡ TouchChange.Down id → (lengt
 -- ---- a decision
 
 -- "16 FULL_PENDING: the device has 64 pending", where nothing else is asked
-unfoldable pub queueOn : List ℕ → ℕ → TouchChange → Decision
+unfoldable pub queueOn : List ℕ → ℕ → TouchChange → Cell → Decision
 unfolding coreAt
-queueOn c k change = cond (leb 64 (coreAt c k .pending)) (Decision.Refused Error.FullPending) (Decision.Queued k change)
+queueOn c k change request = cond (leb 64 (coreAt c k .pending)) (Decision.Refused Error.FullPending) (Decision.Queued k change request)
 
 -- the step that a decision stands for: the held touches change before the request waits
 abbrev pub decidedStep : Decision → (sight : Sight) (load : Load) → Session Load → Step Load
 decidedStep Decision.Ignored i load s = unchanged s plan.Outcome.accepted
 decidedStep (Decision.Refused e) i load s = unchanged s (errorOf e)
-decidedStep (Decision.Queued k change) i load s = carriedOut (plan.edit (map (λ a. Edit.amend k a) (amendsOf change) ++ (Edit.pend k i ∷ []))) load s
+decidedStep (Decision.Queued k change request) i load s = carriedOut (plan.edit (map (λ a. Edit.amend k a) (amendsOf change) ++ (Edit.pend k i ∷ []))) load s
 
 -- the device in slot k has room for a request that waits
 pub record CanQueue (c : List ℕ) (k : ℕ) (change : TouchChange) : Type 0 where
@@ -61,13 +61,14 @@ pub record CanQueue (c : List ℕ) (k : ℕ) (change : TouchChange) : Type 0 whe
   pub touch : CanChange change (coreAt c k .downTouchIds)
 
 abbrev pub Fits : List ℕ → Decision → Type 0
-Fits c d = (k : ℕ) (change : TouchChange) → d ≡ Decision.Queued k change → CanQueue c k change
+Fits c d = (k : ℕ) (change : TouchChange) (request : Cell) → d ≡ Decision.Queued k change request → CanQueue c k change
 
 -- c are the control words, which are all that a decision reads
-pub record Decided (c : List ℕ) (interface version : ℕ) (sight : Sight) (d : Decision) : Type 0 where
+pub record Decided (c : List ℕ) (interface version : ℕ) (sight : Sight) (request : Cell) (d : Decision) : Type 0 where
   pub step-is : (s : Store) (t : Split Load) → s .control ≡ c → t .call ≡ Call.timed interface version sight
       → step t (session s) ≡ decidedStep d sight (t .load) (session s)
   pub fits : Fits c d
+  pub same : (k : ℕ) (change : TouchChange) (x : Cell) → d ≡ Decision.Queued k change x → x ≡ request
 
 -- ---- what is asked of a request
 
@@ -87,8 +88,8 @@ pub record OnlyHeld (kind : Kind) (version touch : ℕ) (change : TouchChange) :
 abbrev pub Waits : Input → Cell → Type 0
 Waits input request = (texts : List ℕ) → item (sight input) (load input) ≡ itemAt texts (rowOf request)
 
--- the request met what was decided on it
-abbrev pub CarriesOut : (control words : Numbers) (reals : Reals) → Decision → Cell → Answer → Type 0
-CarriesOut c w r d request a =
-    (interface version clock : ℕ) (input : Input) → Decided (c .entry .now) interface version (sight input) d → Waits input request
+-- a request met what was decided on it
+abbrev pub CarriesOut : (control words : Numbers) (reals : Reals) → Decision → Answer → Type 0
+CarriesOut c w r d a =
+    (interface version clock : ℕ) (input : Input) (request : Cell) → Decided (c .entry .now) interface version (sight input) request d → Waits input request
     → SilentRows c w r (Call.timed interface version input) clock a

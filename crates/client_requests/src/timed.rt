@@ -5,8 +5,8 @@ use control::Slot;
 use eiproto::event::DeviceCapability;
 use queue::PENDING_LIMIT;
 use requests::cell::Cell;
-use texts::TEXTS_LIMIT;
 use texts::TEXT_LENGTH_LIMIT;
+use texts::TEXTS_LIMIT;
 use touches::EIS_MAX_TOUCHES;
 ghost use mathlib.Core.Path.{_≡_};
 ghost use mathlib.Core.Bool.{true, false};
@@ -38,19 +38,28 @@ pub enum Decision {
     // It is on no known interface, or for a touch that is not down.
     Ignored,
     Refused(Error),
-    // It waits for its frame, on the device in the slot, whose held touches change before.
-    Queued { slot: usize, change: TouchChange },
+    // It waits for its frame, on the device in the slot, whose held touches change before. It has no device and no time yet: they come with
+    // its frame.
+    Queued {
+        slot: usize,
+        change: TouchChange,
+        request: Cell,
+    },
 }
 
 // Where nothing else is asked: 16 where the pending list is full.
-fn queue_on(control: &[u64], k: usize, change: TouchChange) -> Decision
+fn queue_on(control: &[u64], k: usize, change: TouchChange, request: Cell) -> Decision
     requires { ⌜ Sound (now control) × (k < deviceCount (now control)) ⌝ }
-    ensures { λ r. ⌜ r ≡ queueOn (now (control .entry)) k change ⌝ }
+    ensures { λ r. ⌜ r ≡ queueOn (now (control .entry)) k change request ⌝ }
 {
     if PENDING_LIMIT <= control::pending_count(control, k) {
         return Decision::Refused(Error::FullPending);
     }
-    Decision::Queued { slot: k, change }
+    Decision::Queued {
+        slot: k,
+        change,
+        request,
+    }
 }
 
 // The slot of the device of which a request's interface is, for the capability.
@@ -66,9 +75,9 @@ pub fn device_for_interface(control: &[u64], capability: DeviceCapability, inter
 }
 
 // "TOO_MANY_TOUCHES: Down while 16 ids are held, even for a held id. DUPLICATED_TOUCH_DOWN: Down for a held id, fewer than 16 held."
-pub fn decide_down(control: &[u64], touchscreen: u64, touch: u32) -> Decision
+pub fn decide_down(control: &[u64], touchscreen: u64, touch: u32, request: Cell) -> Decision
     requires { ⌜ Sound (now control) ⌝ }
-    ensures { λ r. ⌜ ((version : ℕ) → Decided (now (control .entry)) touchscreen version (touching Kind.TouchDown touch) r) ⌝ }
+    ensures { λ r. ⌜ ((version : ℕ) → Decided (now (control .entry)) touchscreen version (touching Kind.TouchDown touch) request r) ⌝ }
 {
     match device_for_interface(control, DeviceCapability::Touch, touchscreen) {
         Slot::At(k) => {
@@ -79,7 +88,7 @@ pub fn decide_down(control: &[u64], touchscreen: u64, touch: u32) -> Decision
             if held.contains(touch) {
                 return Decision::Refused(Error::DuplicatedTouchDown);
             }
-            queue_on(control, k, TouchChange::Down(touch))
+            queue_on(control, k, TouchChange::Down(touch), request)
         }
         Slot::Unknown => Decision::Ignored,
     }
@@ -91,25 +100,32 @@ pub fn decide_held(
     touchscreen: u64,
     touch: u32,
     change: TouchChange,
+    request: Cell,
 ) -> Decision
     requires { ⌜ Sound (now control) × (goesDown change ≡ false) ⌝ }
-    ensures { λ r. ⌜ ((kind : Kind) (version : ℕ) → OnlyHeld kind version touch change → Decided (now (control .entry)) touchscreen version (touching kind touch) r) ⌝ }
+    ensures { λ r. ⌜ ((kind : Kind) (version : ℕ) → OnlyHeld kind version touch change → Decided (now (control .entry)) touchscreen version (touching kind touch) request r) ⌝ }
 {
     match device_for_interface(control, DeviceCapability::Touch, touchscreen) {
         Slot::At(k) => {
             if !control::edits::down_touch_ids(control, k).contains(touch) {
                 return Decision::Ignored;
             }
-            queue_on(control, k, change)
+            queue_on(control, k, change, request)
         }
         Slot::Unknown => Decision::Ignored,
     }
 }
 
 // "touch Cancel on a known touchscreen, the request's version below 2, even for an id not held"
-pub fn decide_cancel(control: &[u64], touchscreen: u64, version: u32, touch: u32) -> Decision
+pub fn decide_cancel(
+    control: &[u64],
+    touchscreen: u64,
+    version: u32,
+    touch: u32,
+    request: Cell,
+) -> Decision
     requires { ⌜ Sound (now control) ⌝ }
-    ensures { λ r. ⌜ Decided (now (control .entry)) touchscreen version (touching Kind.TouchCancel touch) r ⌝ }
+    ensures { λ r. ⌜ Decided (now (control .entry)) touchscreen version (touching Kind.TouchCancel touch) request r ⌝ }
 {
     if version < 2 {
         return match device_for_interface(control, DeviceCapability::Touch, touchscreen) {
@@ -120,7 +136,7 @@ pub fn decide_cancel(control: &[u64], touchscreen: u64, version: u32, touch: u32
             Slot::Unknown => Decision::Ignored,
         };
     }
-    decide_held(control, touchscreen, touch, TouchChange::Up(touch))
+    decide_held(control, touchscreen, touch, TouchChange::Up(touch), request)
 }
 
 fn change_touches(control: &mut [u64], k: usize, change: TouchChange)
@@ -134,21 +150,24 @@ fn change_touches(control: &mut [u64], k: usize, change: TouchChange)
     }
 }
 
-// A request that was decided on, in the pending list of its device. `request` has no device and no time yet: they come with its frame.
+// What was decided on a request, carried out.
 pub fn queue_request(
     control: &mut [u64],
     words: &mut [u64],
     reals: &mut [f32],
     decision: Decision,
-    request: Cell,
 ) -> Answer
     requires { ⌜ Lent (now control) (now words) (now reals) × Fits (now control) decision ⌝ }
-    ensures { λ r. ⌜ CarriesOut control words reals decision request r ⌝ }
+    ensures { λ r. ⌜ CarriesOut control words reals decision r ⌝ }
 {
     match decision {
         Decision::Ignored => Answer::accepted(),
         Decision::Refused(e) => Answer::refused(e),
-        Decision::Queued { slot, change } => {
+        Decision::Queued {
+            slot,
+            change,
+            request,
+        } => {
             change_touches(control, slot, change);
             queue::pend(control, words, reals, slot, request);
             Answer::accepted()
@@ -170,8 +189,11 @@ pub fn queue_for_interface(
 {
     match device_for_interface(control, capability, interface) {
         Slot::At(k) => {
-            let decision = queue_on(control, k, TouchChange::Nothing);
-            queue_request(control, words, reals, decision, request)
+            if PENDING_LIMIT <= control::pending_count(control, k) {
+                return Answer::refused(Error::FullPending);
+            }
+            queue::pend(control, words, reals, k, request);
+            Answer::accepted()
         }
         Slot::Unknown => Answer::accepted(),
     }

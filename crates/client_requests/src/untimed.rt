@@ -60,7 +60,7 @@ pub fn release_seat(control: &mut [u64], seat: u64, out: &mut [u8]) -> Answer
         return Answer::refused(Error::ShortOut);
     }
     let serial = control::last_serial(control);
-    let sent = events::write_destroyed(out, Mark { at: 0, serial }, seat);
+    let sent = events::destroy(out, Mark { at: 0, serial }, seat);
     session::raise(control, sent.serial);
     Answer::sent(sent.at)
 }
@@ -158,7 +158,7 @@ pub fn release_interface(
                 return Answer::refused(Error::ShortOut);
             }
             let serial = control::last_serial(control);
-            let mark = events::write_destroyed(out, Mark { at: 0, serial }, interface);
+            let mark = events::destroy(out, Mark { at: 0, serial }, interface);
             session::unlink(control, k, bit, interface);
             session::raise(control, mark.serial);
             Answer::sent(mark.at)

@@ -28,6 +28,7 @@ use Rattle.answers.specs.declared.Answer.{Answer}
 use Rattle.answers.specs.Check.{Checks}
 use Rattle.answers.specs.Meets.{turn, Handled}
 use Rattle.answers.proofs.Meetings.{meets-done, whole-after, over-handled, told-handled}
+use Rattle.connection.specs.Seat.{Tested}
 
 seat-plan : (v : View) (name : Option (List ℕ)) (caps : ℕ) → Checks name Checked.Fine → caps < 128
     → addSeat v name caps ≡ seatPlan (v .connection .nextId) caps (seatEvents (v .connection) (v .connection .nextId) (versionOr1 (version (v .connection) eiSeat)) name caps)
@@ -51,7 +52,7 @@ module _ (s : Store) (w : Whole s) (out : List ℕ) (clock : ℕ) (name : Option
       told-handled s out (Plain.addSeat name caps) clock (Outcome.Refused Error.BadCapabilities) r w (fine _ ∙ rw unknown) told
 
   -- where both are fine, by the limits. The id and the version are the control words'
-  module _ (fine : Checks name Checked.Fine) (small : caps < 128) (id ver : ℕ) (i : id ≡ connectionOf (s .control) .nextId)
+  module _ (tested : Tested (s .control) name caps) (id ver : ℕ) (i : id ≡ connectionOf (s .control) .nextId)
       (v : ver ≡ versionOr1 (version (connectionOf (s .control)) eiSeat)) where
     abbrev told : List Sent
     told = seatEvents (connectionOf (s .control)) id ver name caps
@@ -62,7 +63,7 @@ module _ (s : Store) (w : Whole s) (out : List ℕ) (clock : ℕ) (name : Option
     planned : decide (view (session s)) (t .now) (t .call) ≡ seatPlan id caps told
     unfolding split mapCall decide decidePlain
     planned =
-        seat-plan (view (session s)) name caps fine small
+        seat-plan (view (session s)) name caps (tested .fine) (tested .known)
         ∙ ap (λ (c : Connection). seatPlan (c .nextId) caps (seatEvents c (c .nextId) (versionOr1 (version c eiSeat)) name caps)) (view-connection s)
         ∙ rw (i, v)
 

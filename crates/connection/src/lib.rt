@@ -14,21 +14,21 @@ use wire::backend::NewObjects;
 use wire::event;
 use wire::event::Event;
 ghost use mathlib.Core.Path.{_≡_};
-ghost use Prim.Native.Nat.{ℕ, _<_};
+ghost use Prim.Native.Nat.{ℕ};
 ghost use lib.ListN.{length};
 ghost use Rattle.eiproto.specs.Interface.{lookup};
 ghost use Rattle.model.specs.Call.{Plain, Call};
 ghost use Rattle.model.specs.Decide.{negotiated};
 ghost use Rattle.control.specs.Answer.{versionTold};
 ghost use Rattle.control.specs.Control.{controlLength, connectionOf};
-ghost use Rattle.control.specs.Sound.{Sound};
 ghost use Rattle.session.specs.View.{Lent};
 ghost use Rattle.session.specs.Slices.{optional, text};
 ghost use Rattle.answers.specs.declared.Checked.{Checked};
 ghost use Rattle.answers.specs.Check.{Checks};
 ghost use Rattle.answers.specs.Promise.{Promise, Reply, PromiseRows, HandlesControl, HandlesRows};
+ghost use Rattle.connection.specs.Seat.{Tested};
 
-// A seat whose name and capabilities are fine: 14, then 20, then 19.
+// Behind the tests of the call: 14, then 20, then 19.
 fn add_seat_at(
     control: &mut [u64],
     given: bool,
@@ -36,7 +36,7 @@ fn add_seat_at(
     capabilities: u64,
     out: &mut [u8],
 ) -> Answer
-    requires { ⌜ Sound (now control) × ((capabilities < 128) × Checks (optional given (now name)) Checked.Fine) ⌝ }
+    requires { ⌜ Tested (now control) (optional given (now name)) capabilities ⌝ }
     ensures { λ r. ⌜ ((clock : ℕ) → HandlesControl control out (Call.plain (Plain.addSeat (text given name) capabilities)) clock r) ⌝ }
 {
     if control::SEATS_LIMIT <= control::seat_count(control) {

@@ -13,7 +13,9 @@ use Rattle.model.specs.Session.{Connection}
 use Rattle.model.specs.Edit.{newInterfaces}
 use Rattle.model.specs.Plan.{Sent, on, records}
 use Rattle.model.specs.Decide.{nameEvents, interfaceEvents, deviceEvents}
+use Rattle.control.specs.Control.{connectionOf}
 use Rattle.events.specs.Events.{Sends}
+use Rattle.events.specs.Announce.{CanAnnounceInterfaces, CanAnnounceDevice}
 use Rattle.events.proofs.Writes.{append-length, one-length, cons-length, sends-join}
 use Rattle.events.proofs.Announced.{interfaces-length}
 use Rattle.events.proofs.Named.{done-text}
@@ -70,43 +72,53 @@ module _ (c : Connection) (seat id version : ℕ) (name : Option (List ℕ)) (ki
         named-bytes,
       )
 
-  -- each event behind those before it
-  module _ (out : List ℕ) (room : length (records all) ≤ length out) where
-    pub device-room : (text : List ℕ) → 0 + recordLength (Event.Device id version) text ≤ length out
-    device-room text = omega (arith, device-text id version text, device-bytes)
+-- each event behind those before it
+module _ {control : List ℕ} {seat id version : ℕ} {name : Option (List ℕ)} {kind caps : ℕ} {out : List ℕ}
+    (can : CanAnnounceDevice control seat id version name kind caps out) where
+  abbrev n : Connection
+  n = connectionOf control
 
-    module _ {m : List ℕ} {a : ℕ} (p : Sends out m 0 (on seat (Event.Device id version) ∷ []) a) (l : length m ≡ length out) where
-      at-name : a ≡ fixedLength (Event.Device id version)
-      at-name = omega (arith, p .next, one-length seat (Event.Device id version) [] ∙ device-text id version [])
+  bytes : length (records (nameEvents id name)) + 23 * length (bitsOf caps) + fixedLength (Event.Device id version) + fixedLength (Event.DeviceType 0) + fixedLength Event.Done
+      ≤ length out
+  bytes = omega (arith, can .room, device-bytes n seat id version name kind caps)
 
-      pub name-room : a + named ≤ length m
-      name-room = omega (arith, at-name, device-bytes)
+  pub device-room : (text : List ℕ) → 0 + recordLength (Event.Device id version) text ≤ length out
+  device-room text = omega (arith, device-text id version text, bytes)
 
-      module _ {k : List ℕ} {b : ℕ} (q : Sends m k a (nameEvents id name) b) (h : length k ≡ length m) where
-        pub type-room : (text : List ℕ) → b + recordLength (Event.DeviceType kind) text ≤ length k
-        type-room text = omega (arith, at-name, q .next, device-bytes, type-text kind text)
+  module _ {m : List ℕ} {a : ℕ} (p : Sends out m 0 (on seat (Event.Device id version) ∷ []) a) (l : length m ≡ length out) where
+    at-name : a ≡ fixedLength (Event.Device id version)
+    at-name = omega (arith, p .next, one-length seat (Event.Device id version) [] ∙ device-text id version [])
 
-        module _ {j : List ℕ} {d : ℕ} (s : Sends k j b (on id (Event.DeviceType kind) ∷ []) d) (i : length j ≡ length k) where
-          at-interfaces : d ≡ b + fixedLength (Event.DeviceType 0)
-          at-interfaces = s .next ∙ omega (arith, one-length id (Event.DeviceType kind) [] ∙ type-text kind [])
+    pub name-room : a + length (records (nameEvents id name)) ≤ length m
+    name-room = omega (arith, at-name, bytes)
 
-          pub interfaces-room : d + 23 * length (bitsOf caps) ≤ length j
-          interfaces-room = omega (arith, at-name, q .next, at-interfaces, device-bytes)
+    module _ {k : List ℕ} {b : ℕ} (q : Sends m k a (nameEvents id name) b) (h : length k ≡ length m) where
+      pub type-room : (text : List ℕ) → b + recordLength (Event.DeviceType kind) text ≤ length k
+      type-room text = omega (arith, at-name, q .next, bytes, type-text kind text)
 
-          module _ {f : List ℕ} {e : ℕ} (t : Sends j f d listed e) (g : length f ≡ length j) where
-            pub done-room : (text : List ℕ) → e + recordLength Event.Done text ≤ length f
-            done-room text = omega (arith, at-name, q .next, at-interfaces, t .next, interfaces-length c id caps, device-bytes, done-text text)
+      module _ {j : List ℕ} {d : ℕ} (s : Sends k j b (on id (Event.DeviceType kind) ∷ []) d) (i : length j ≡ length k) where
+        at-interfaces : d ≡ b + fixedLength (Event.DeviceType 0)
+        at-interfaces = s .next ∙ omega (arith, one-length id (Event.DeviceType kind) [] ∙ type-text kind [])
 
-            pub device-sends : {later : List ℕ} {r : ℕ} → Sends f later e last r → Sends out later 0 all r
-            device-sends u =
-                let z = at-name in
-                let y = at-interfaces in
-                let n = device-bytes in
-                let x = interfaces-length c id caps in
-                sends-join (omega (arith, named-bytes))
-                p
-                (sends-join (omega (arith, q .next, typed-bytes))
-                q
-                (sends-join (omega (arith, q .next, listed-bytes))
-                s
-                (sends-join (omega (arith, q .next, t .next, last-bytes)) t u)))
+        pub interfaces-room : CanAnnounceInterfaces control id caps j d
+        interfaces-room =
+            record { sound = can .sound; known = can .known; ids = can .ids; room = omega (arith, at-name, q .next, at-interfaces, bytes) }
+
+        module _ {f : List ℕ} {e : ℕ} (t : Sends j f d (interfaceEvents n id (newInterfaces id caps)) e) (g : length f ≡ length j) where
+          pub done-room : (text : List ℕ) → e + recordLength Event.Done text ≤ length f
+          done-room text = omega (arith, at-name, q .next, at-interfaces, t .next, interfaces-length n id caps, bytes, done-text text)
+
+          pub device-sends : {later : List ℕ} {r : ℕ} → Sends f later e (on id Event.Done ∷ []) r
+              → Sends out later 0 (deviceEvents n seat id version name kind caps) r
+          device-sends u =
+              let z = at-name in
+              let y = at-interfaces in
+              let w = bytes in
+              let x = interfaces-length n id caps in
+              sends-join (omega (arith, named-bytes n seat id version name kind caps))
+              p
+              (sends-join (omega (arith, q .next, typed-bytes n seat id version name kind caps))
+              q
+              (sends-join (omega (arith, q .next, listed-bytes n seat id version name kind caps))
+              s
+              (sends-join (omega (arith, q .next, t .next, last-bytes n seat id version name kind caps)) t u)))

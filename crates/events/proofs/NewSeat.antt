@@ -12,7 +12,9 @@ use Rattle.wire.specs.Record.{layout, textOf, fixedLength, recordLength}
 use Rattle.model.specs.Session.{Connection}
 use Rattle.model.specs.Plan.{Sent, on, records}
 use Rattle.model.specs.Decide.{nameEvents, capabilityEvents, seatEvents}
+use Rattle.control.specs.Control.{connectionOf}
 use Rattle.events.specs.Events.{Sends}
+use Rattle.events.specs.Announce.{CanAnnounceSeat}
 use Rattle.events.proofs.Writes.{append-length, one-length, cons-length, sends-join}
 use Rattle.events.proofs.Named.{done-text}
 
@@ -38,37 +40,48 @@ module _ (c : Connection) (id version : ℕ) (name : Option (List ℕ)) (caps : 
       let e = one-length id Event.Done [] ∙ done-text [] in
       omega arith
 
-  module _ (out : List ℕ) (room : length (records all) ≤ length out) where
-    pub seat-room : (text : List ℕ) → 0 + recordLength (Event.Seat id version) text ≤ length out
-    seat-room text = omega (arith, seat-text id version text, seat-bytes)
+-- each event behind those before it
+module _ {control : List ℕ} {id version : ℕ} {name : Option (List ℕ)} {caps : ℕ} {out : List ℕ} (can : CanAnnounceSeat control id version name caps out) where
+  abbrev capabilities : List Sent
+  capabilities = capabilityEvents (connectionOf control) id (bitsOf caps)
 
-    module _ {m : List ℕ} {a object : ℕ} (o : object ≡ c .id) (p : Sends out m 0 (on object (Event.Seat id version) ∷ []) a) (l : length m ≡ length out) where
-      at-name : a ≡ fixedLength (Event.Seat id version)
-      at-name = omega (arith, p .next, one-length object (Event.Seat id version) [] ∙ seat-text id version [])
+  abbrev last : List Sent
+  last = on id Event.Done ∷ []
 
-      pub name-room : a + named ≤ length m
-      name-room = omega (arith, at-name, seat-bytes)
+  bytes : length (records (nameEvents id name)) + length (records capabilities) + fixedLength (Event.Seat id version) + fixedLength Event.Done ≤ length out
+  bytes = omega (arith, can .room, seat-bytes (connectionOf control) id version name caps)
 
-      module _ {k : List ℕ} {b : ℕ} (q : Sends m k a (nameEvents id name) b) (h : length k ≡ length out) where
-        pub capabilities-room : b + announced ≤ length k
-        capabilities-room = omega (arith, at-name, q .next, seat-bytes)
+  pub seat-room : (text : List ℕ) → 0 + recordLength (Event.Seat id version) text ≤ length out
+  seat-room text = omega (arith, seat-text id version text, bytes)
 
-        module _ {j : List ℕ} {d : ℕ} (s : Sends k j b (capabilityEvents c id (bitsOf caps)) d) (i : length j ≡ length out) where
-          pub done-room : (text : List ℕ) → d + recordLength Event.Done text ≤ length j
-          done-room text = omega (arith, at-name, q .next, s .next, seat-bytes, done-text text)
+  module _ {m : List ℕ} {a object : ℕ} (o : object ≡ connectionOf control .id) (p : Sends out m 0 (on object (Event.Seat id version) ∷ []) a)
+      (l : length m ≡ length out) where
+    at-name : a ≡ fixedLength (Event.Seat id version)
+    at-name = omega (arith, p .next, one-length object (Event.Seat id version) [] ∙ seat-text id version [])
 
-          pub seat-sends : {later : List ℕ} {r : ℕ} → Sends j later d (on id Event.Done ∷ []) r → Sends out later 0 all r
-          seat-sends f =
-              let one = one-length id Event.Done [] ∙ done-text [] in
-              let ends = append-length (capabilityEvents c id (bitsOf caps)) (on id Event.Done ∷ []) in
-              let behind = append-length (nameEvents id name) (capabilityEvents c id (bitsOf caps) ++ (on id Event.Done ∷ [])) in
-              let z = at-name in
-              let n = seat-bytes in
-              sends-join (omega (arith, p .next))
-              (rw o at p)
-              (sends-join (omega (arith, q .next))
-              q
-              (sends-join (omega (arith, q .next, s .next)) s f))
+    pub name-room : a + length (records (nameEvents id name)) ≤ length m
+    name-room = omega (arith, at-name, bytes)
+
+    module _ {k : List ℕ} {b : ℕ} (q : Sends m k a (nameEvents id name) b) (h : length k ≡ length m) where
+      pub capabilities-room : b + length (records capabilities) ≤ length k
+      capabilities-room = omega (arith, at-name, q .next, bytes)
+
+      module _ {j : List ℕ} {d : ℕ} (s : Sends k j b capabilities d) (i : length j ≡ length k) where
+        pub done-room : (text : List ℕ) → d + recordLength Event.Done text ≤ length j
+        done-room text = omega (arith, at-name, q .next, s .next, bytes, done-text text)
+
+        pub seat-sends : {later : List ℕ} {r : ℕ} → Sends j later d last r → Sends out later 0 (seatEvents (connectionOf control) id version name caps) r
+        seat-sends f =
+            let one = one-length id Event.Done [] ∙ done-text [] in
+            let ends = append-length capabilities last in
+            let behind = append-length (nameEvents id name) (capabilities ++ last) in
+            let z = at-name in
+            let n = bytes in
+            sends-join (omega (arith, p .next))
+            (rw o at p)
+            (sends-join (omega (arith, q .next))
+            q
+            (sends-join (omega (arith, q .next, s .next)) s f))
 
 -- the room of an event without a text
 pub seat-fixed : (id version : ℕ) → fixedLength (Event.Seat id version) ≡ 22

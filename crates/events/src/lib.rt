@@ -43,8 +43,6 @@ pub fn send(out: &mut [u8], at: usize, object: u64, e: Event, text: &[u8]) -> us
     at + event::put_record(out, at, object, e, text)
 }
 
-// ---- destroyed
-
 // "The serial of an event is the last plus one, and after 4294967295 comes 0."
 pub fn next_serial(serial: u32) -> u32
     ensures { λ r. ⌜ r ≡ nextSerial serial ⌝ }
@@ -52,6 +50,9 @@ pub fn next_serial(serial: u32) -> u32
     std::num::wrapping_add_u32(serial, 1)
 }
 
+// ---- what goes is destroyed
+
+// One object, with the serial behind the mark's.
 pub fn destroy(out: &mut [u8], mark: Mark, object: u64) -> Mark
     requires { ⌜ mark .at + 14 ≤ length (now out) ⌝ }
     ensures { λ r. ⌜ WritesDestroyed out mark (object ∷ []) r ⌝ }
@@ -161,7 +162,7 @@ pub fn destroy_seats(control: &[u64], out: &mut [u8], mark: Mark) -> Mark
     so_far
 }
 
-// ---- what a new seat and a new device announce
+// ---- what is new is announced
 
 fn negotiated(control: &[u64], bit: u32) -> bool
     requires { ⌜ length (now control) ≡ controlLength ⌝ }

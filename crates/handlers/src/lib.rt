@@ -4,6 +4,7 @@ use answers::Answer;
 use answers::Error;
 use answers::NAME_LENGTH_LIMIT;
 use client_requests::timed;
+use client_requests::timed::Decision;
 use client_requests::timed::TouchChange;
 use client_requests::untimed;
 use eiproto::event::DeviceCapability;
@@ -24,11 +25,13 @@ use requests::request::EisRequest;
 ghost use mathlib.Core.List.{List};
 ghost use Prim.Native.Nat.{ℕ};
 ghost use Rattle.model.specs.Call.{Input};
+ghost use Rattle.control.specs.Sound.{Sound};
 ghost use Rattle.session.specs.View.{store, Lent, Whole};
 ghost use Rattle.answers.specs.Meets.{HandledControl};
 ghost use Rattle.answers.specs.Promise.{Handles, HandlesRows, SilentRows};
 ghost use Rattle.client_requests.specs.Decision.{Waits};
 ghost use Rattle.handlers.specs.Call.{handshakeCall, connectionCall, seatCall, deviceCall, pointerCall, pointerAbsoluteCall, scrollCall, buttonCall, keyboardCall, touchscreenCall, textCall};
+ghost use Rattle.handlers.specs.Touch.{TouchActs};
 
 // A handshake's request in a running session, after what its text may meet.
 pub fn handle_handshake_request(request: HandshakeRequest, text: &[u8]) -> Answer
@@ -69,11 +72,7 @@ pub fn handle_connection_request(
     ensures { λ r. ⌜ ((clock : ℕ) → HandlesRows control words reals out (connectionCall request) clock r) ⌝ }
 {
     match request {
-        ConnectionRequest::Sync { callback, version } => untimed::sync(
-            callback,
-            version,
-            out,
-        ),
+        ConnectionRequest::Sync { callback, version } => untimed::sync(callback, version, out),
         ConnectionRequest::Disconnect => untimed::queue_untimed(
             control,
             words,
@@ -98,25 +97,11 @@ pub fn handle_seat_request(
         SeatRequest::Release => untimed::release_seat(control, seat, out),
         SeatRequest::Bind { capabilities } => {
             let bind = EisRequest::Bind { seat, capabilities };
-            untimed::queue_for_seat(
-                control,
-                words,
-                reals,
-                seat,
-                capabilities,
-                bind,
-            )
+            untimed::queue_for_seat(control, words, reals, seat, capabilities, bind)
         }
         SeatRequest::RequestDevice { capabilities } => {
             let request_device = EisRequest::RequestDevice { seat, capabilities };
-            untimed::queue_for_seat(
-                control,
-                words,
-                reals,
-                seat,
-                capabilities,
-                request_device,
-            )
+            untimed::queue_for_seat(control, words, reals, seat, capabilities, request_device)
         }
     }
 }
@@ -158,14 +143,7 @@ pub fn handle_device_request(
         DeviceRequest::Frame {
             last_serial,
             timestamp,
-        } => untimed::queue_frame(
-            control,
-            words,
-            reals,
-            device,
-            last_serial,
-            timestamp,
-        ),
+        } => untimed::queue_frame(control, words, reals, device, last_serial, timestamp),
         DeviceRequest::Ready => untimed::queue_for_device(
             control,
             words,
@@ -370,6 +348,45 @@ pub fn handle_scroll_request(
     }
 }
 
+// What a request on a touchscreen asks for.
+pub enum TouchAction {
+    Release,
+    Timed(Decision),
+}
+
+// All of its arms meet in one call of `queue_request`: in an arm of its own each would be a call through memory.
+fn decide_touchscreen(
+    control: &[u64],
+    touchscreen: u64,
+    version: u32,
+    request: TouchscreenRequest,
+) -> TouchAction
+    requires { ⌜ Sound (now control) ⌝ }
+    ensures { λ r. ⌜ TouchActs (now (control .entry)) request touchscreen version r ⌝ }
+{
+    match request {
+        TouchscreenRequest::Release => TouchAction::Release,
+        TouchscreenRequest::Down { touchid, x, y } => {
+            let down = cell::touch_down(0, 0, touchid, x, y);
+            TouchAction::Timed(timed::decide_down(control, touchscreen, touchid, down))
+        }
+        TouchscreenRequest::Motion { touchid, x, y } => {
+            let motion = cell::touch_motion(0, 0, touchid, x, y);
+            let change = TouchChange::Nothing;
+            TouchAction::Timed(timed::decide_held(control, touchscreen, touchid, change, motion))
+        }
+        TouchscreenRequest::Up { touchid } => {
+            let up = cell::touch_up(0, 0, touchid);
+            let change = TouchChange::Up(touchid);
+            TouchAction::Timed(timed::decide_held(control, touchscreen, touchid, change, up))
+        }
+        TouchscreenRequest::Cancel { touchid } => {
+            let cancel = cell::touch_cancel(0, 0, touchid);
+            TouchAction::Timed(timed::decide_cancel(control, touchscreen, version, touchid, cancel))
+        }
+    }
+}
+
 pub fn handle_touchscreen_request(
     control: &mut [u64],
     words: &mut [u64],
@@ -382,38 +399,14 @@ pub fn handle_touchscreen_request(
     requires { ⌜ Lent (now control) (now words) (now reals) ⌝ }
     ensures { λ r. ⌜ ((clock : ℕ) → HandlesRows control words reals out (touchscreenCall request touchscreen version) clock r) ⌝ }
 {
-    match request {
-        TouchscreenRequest::Release => untimed::release_interface(
+    match decide_touchscreen(control, touchscreen, version, request) {
+        TouchAction::Release => untimed::release_interface(
             control,
             DeviceCapability::Touch,
             touchscreen,
             out,
         ),
-        TouchscreenRequest::Down { touchid, x, y } => {
-            let decision = timed::decide_down(control, touchscreen, touchid);
-            let request = cell::touch_down(0, 0, touchid, x, y);
-            timed::queue_request(control, words, reals, decision, request)
-        }
-        TouchscreenRequest::Motion { touchid, x, y } => {
-            let decision = timed::decide_held(control, touchscreen, touchid, TouchChange::Nothing);
-            let request = cell::touch_motion(0, 0, touchid, x, y);
-            timed::queue_request(control, words, reals, decision, request)
-        }
-        TouchscreenRequest::Up { touchid } => {
-            let decision = timed::decide_held(control, touchscreen, touchid, TouchChange::Up(touchid));
-            let request = cell::touch_up(0, 0, touchid);
-            timed::queue_request(control, words, reals, decision, request)
-        }
-        TouchscreenRequest::Cancel { touchid } => {
-            let decision = timed::decide_cancel(
-                control,
-                touchscreen,
-                version,
-                touchid,
-            );
-            let request = cell::touch_cancel(0, 0, touchid);
-            timed::queue_request(control, words, reals, decision, request)
-        }
+        TouchAction::Timed(decision) => timed::queue_request(control, words, reals, decision),
     }
 }
 

@@ -19,7 +19,7 @@ use Rattle.session.specs.View.{Store, store, session, Whole}
 use Rattle.session.specs.Enact.{EnactedControl, EnactedRows}
 use Rattle.session.proofs.Views.{enacted-join, view-connection, devices-length, pending-few}
 use Rattle.events.specs.declared.Mark.{Mark}
-use Rattle.events.specs.Events.{Sends, Destroys}
+use Rattle.events.specs.Events.{Destroys}
 use Rattle.events.proofs.Writes.{destroyed-length, last-is, destroys-sends}
 use Rattle.answers.specs.Answer.{outcomeOf}
 use Rattle.answers.specs.declared.Error.{Error}

@@ -96,10 +96,10 @@ pub fn retire_device(
     ensures { λ r. ⌜ Retires control words reals out (objectsOf (bare (coreAt (now (control .entry)) k))) (Edit.removeDevice k ∷ []) r ⌝ }
 {
     let serial = control::last_serial(control);
-    let mark = events::destroy_device(control, k, out, Mark { at: 0, serial });
-    session::raise(control, mark.serial);
+    let told = events::destroy_device(control, k, out, Mark { at: 0, serial });
+    session::raise(control, told.serial);
     remove_device(control, words, reals, k);
-    mark.at
+    told.at
 }
 
 // A seat: its devices in the order of the table, then itself.

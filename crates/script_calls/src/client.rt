@@ -97,8 +97,13 @@ fn of_pointer(verb: Verb, second: Value, third: Value) -> InterfaceRequest {
     let y = script::f32_of(third);
     match verb {
         Verb::PointerRelease => InterfaceRequest::Pointer(PointerRequest::Release),
-        Verb::PointerMotionRelative => InterfaceRequest::Pointer(PointerRequest::MotionRelative { x, y }),
-        Verb::PointerAbsoluteRelease => InterfaceRequest::PointerAbsolute(PointerAbsoluteRequest::Release),
+        Verb::PointerMotionRelative => InterfaceRequest::Pointer(PointerRequest::MotionRelative {
+            x,
+            y,
+        }),
+        Verb::PointerAbsoluteRelease => InterfaceRequest::PointerAbsolute(
+            PointerAbsoluteRequest::Release,
+        ),
         _ => InterfaceRequest::PointerAbsolute(PointerAbsoluteRequest::MotionAbsolute { x, y }),
     }
 }

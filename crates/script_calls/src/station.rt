@@ -36,9 +36,6 @@ fn capability_of(v: Value) -> DeviceCapability {
 // The calls that add a seat or a device; `given` tells whether its name is.
 fn add(
     control: &mut [u64],
-    words: &[u64],
-    reals: &[f32],
-    texts: &[u8],
     verb: Verb,
     args: Args,
     given: bool,
@@ -50,22 +47,10 @@ fn add(
     let c = args.c;
     let d = args.d;
     if let Verb::AddSeat = verb {
-        return connection::add_seat(
-            control,
-            words,
-            reals,
-            texts,
-            given,
-            name,
-            script::u64_of(b),
-            out,
-        );
+        return connection::add_seat(control, given, name, script::u64_of(b), out);
     }
     seat::add_device(
         control,
-        words,
-        reals,
-        texts,
         script::u64_of(a),
         given,
         name,
@@ -80,7 +65,6 @@ fn remove(
     control: &mut [u64],
     words: &mut [u64],
     reals: &mut [f32],
-    texts: &[u8],
     verb: Verb,
     first: Value,
     given: bool,
@@ -89,13 +73,12 @@ fn remove(
 ) -> Answer {
     let object = script::u64_of(first);
     match verb {
-        Verb::RemoveSeat => seat::remove_seat(control, words, reals, texts, object, out),
-        Verb::RemoveDevice => device::remove_device(control, words, reals, texts, object, out),
+        Verb::RemoveSeat => seat::remove_seat(control, words, reals, object, out),
+        Verb::RemoveDevice => device::remove_device(control, words, reals, object, out),
         _ => connection::disconnected(
             control,
             words,
             reals,
-            texts,
             reason_of(first),
             given,
             explanation,
@@ -129,25 +112,16 @@ fn tell(control: &mut [u64], verb: Verb, first: Value, second: Value, out: &mut 
 }
 
 // The calls that ask.
-fn ask(
-    control: &[u64],
-    words: &[u64],
-    reals: &[f32],
-    texts: &[u8],
-    verb: Verb,
-    first: Value,
-    second: Value,
-    name: &[u8],
-) -> Answer {
+fn ask(control: &[u64], verb: Verb, first: Value, second: Value, name: &[u8]) -> Answer {
     match verb {
-        Verb::HasInterface => connection::has_interface(control, words, reals, texts, name),
-        Verb::InterfaceVersion => connection::interface_version(control, words, reals, texts, name),
+        Verb::HasInterface => connection::has_interface(control, name),
+        Verb::InterfaceVersion => connection::interface_version(control, name),
         Verb::HasCapability => device::has_capability(
             control,
             script::u64_of(first),
             capability_of(second),
         ),
-        _ => connection::last_serial(control, words, reals, texts),
+        _ => connection::last_serial(control),
     }
 }
 
@@ -175,7 +149,6 @@ pub fn call(
     control: &mut [u64],
     words: &mut [u64],
     reals: &mut [f32],
-    texts: &[u8],
     verb: Verb,
     args: Args,
     given: bool,
@@ -185,10 +158,10 @@ pub fn call(
     let a = args.a;
     let b = args.b;
     match group_of(verb) {
-        Group::Add => add(control, words, reals, texts, verb, args, given, text, out),
-        Group::Remove => remove(control, words, reals, texts, verb, a, given, text, out),
+        Group::Add => add(control, verb, args, given, text, out),
+        Group::Remove => remove(control, words, reals, verb, a, given, text, out),
         Group::Tell => tell(control, verb, a, b, out),
-        Group::Ask => ask(control, words, reals, texts, verb, a, b, text),
+        Group::Ask => ask(control, verb, a, b, text),
     }
 }
 

@@ -67,17 +67,7 @@ fn call(
     out: &mut [u8],
 ) -> Answer {
     if script_calls::station::is_station(verb) {
-        return script_calls::station::call(
-            control,
-            words,
-            reals,
-            texts,
-            verb,
-            args,
-            given,
-            text,
-            out,
-        );
+        return script_calls::station::call(control, words, reals, verb, args, given, text, out);
     }
     handle(control, words, reals, texts, verb, args, text, clock, out)
 }

@@ -38,7 +38,11 @@ returns-2 c =
 
 add-seat-at-requires : tie.Need-add-seat-at-requires
 add-seat-at-requires c κs =
-    (sound-bounds _ (sound (c .before .before .before .before .before .before .before)), (bits-known (c .before .before .before .before .before .before .before .before .before .before .before .before .before .args .capabilities) (c .before .before .before .has-unknown .ensures) (c .before .before .if2 .left), fine (c .before .before .before .before)))
+    record {
+      sound = sound-bounds _ (sound (c .before .before .before .before .before .before .before));
+      fine = fine (c .before .before .before .before);
+      known = bits-known (c .before .before .before .before .before .before .before .before .before .before .before .before .before .args .capabilities) (c .before .before .before .has-unknown .ensures) (c .before .before .if2 .left);
+    }
 
 -- 10 or 11
 returns-3 : tie.Need-returns-3

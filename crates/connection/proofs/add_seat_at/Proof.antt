@@ -28,7 +28,7 @@ returns c =
     let p = c .before .before .before .before .before .before .before .pre in
     let n = connectionOf (a .control .now) in
     λ clock words reals texts whole.
-    seat-full (store (a .control .now) words reals texts) whole (a .out .now) clock (optional (a .given) (a .name .now)) (a .capabilities) (p .1 .1) (p .1 .0)
+    seat-full (store (a .control .now) words reals texts) whole (a .out .now) clock (optional (a .given) (a .name .now)) (a .capabilities) p
     (n .nextId) (versionOr1 (version n eiSeat)) refl refl (omega (arith, c .before .before .seat-count .ensures)) (c .refused .ensures)
 
 -- 20
@@ -37,7 +37,7 @@ returns-2 c =
     let a = c .before .before .before .before .before .before .before .before .before .before .before .before .args in
     let p = c .before .before .before .before .before .before .before .before .before .before .before .before .pre in
     λ clock words reals texts whole.
-    seat-spent (store (a .control .now) words reals texts) whole (a .out .now) clock (optional (a .given) (a .name .now)) (a .capabilities) (p .1 .1) (p .1 .0)
+    seat-spent (store (a .control .now) words reals texts) whole (a .out .now) clock (optional (a .given) (a .name .now)) (a .capabilities) p
     _ (versionOr1 (version (connectionOf (a .control .now)) eiSeat)) (c .before .before .before .before .next-id .ensures) refl (fewer (c .before .before .before .before .before .before))
     (ids-spent _ 1 (sym (c .before .before .before .new-objects .ensures) ∙ c .before .enum-told2 .given .1)) (c .refused2 .ensures)
 
@@ -47,13 +47,13 @@ returns-3 c =
     let a = c .before .before .before .before .before .before .before .before .before .before .before .before .before .before .before .before .before .args in
     let p = c .before .before .before .before .before .before .before .before .before .before .before .before .before .before .before .before .before .pre in
     λ clock words reals texts whole.
-    seat-short (store (a .control .now) words reals texts) whole (a .out .now) clock (optional (a .given) (a .name .now)) (a .capabilities) (p .1 .1) (p .1 .0)
+    seat-short (store (a .control .now) words reals texts) whole (a .out .now) clock (optional (a .given) (a .name .now)) (a .capabilities) p
     _ _ (c .before .before .before .before .before .before .before .before .before .next-id .ensures) (c .before .before .before .before .version-or-1 .ensures) (fewer (c .before .before .before .before .before .before .before .before .before .before .before)) (left (c .before .before .before .before .before .before)) (omega (arith, c .before .before .seat-length .ensures)) (c .refused3 .ensures)
 
 add-seat-requires : tie.Need-add-seat-requires
 add-seat-requires c κs =
     let p = c .before .before .before .before .before .before .before .before .before .before .before .before .before .before .before .before .before .before .before .before .before .before .pre in
-    (p .0, (fewer (c .before .before .before .before .before .before .before .before .before .before .before .before .before .before .before .before), (p .1 .0, omega (arith, left (c .before .before .before .before .before .before .before .before .before .before .before), c .before .before .before .before .before .before .before .before .before .before .before .before .before .before .next-id .ensures))))
+    (p .sound, (fewer (c .before .before .before .before .before .before .before .before .before .before .before .before .before .before .before .before), (p .known, omega (arith, left (c .before .before .before .before .before .before .before .before .before .before .before), c .before .before .before .before .before .before .before .before .before .before .before .before .before .before .next-id .ensures))))
 
 -- announced
 returns-4 : tie.Need-returns-4
@@ -61,7 +61,7 @@ returns-4 c =
     let a = c .before .before .before .before .before .before .before .before .before .before .before .before .before .before .before .before .before .before .before .before .before .before .before .before .before .args in
     let p = c .before .before .before .before .before .before .before .before .before .before .before .before .before .before .before .before .before .before .before .before .before .before .before .before .before .pre in
     λ clock words reals texts whole.
-    seat-done (store (a .control .now) words reals texts) whole (a .out .now) clock (optional (a .given) (a .name .now)) (a .capabilities) (p .1 .1) (p .1 .0)
+    seat-done (store (a .control .now) words reals texts) whole (a .out .now) clock (optional (a .given) (a .name .now)) (a .capabilities) p
     _ _ (c .before .before .before .before .before .before .before .before .before .before .before .before .before .before .before .before .before .next-id .ensures) (c .before .before .before .before .before .before .before .before .before .before .before .before .version-or-1 .ensures) (fewer (c .before .before .before .before .before .before .before .before .before .before .before .before .before .before .before .before .before .before .before)) (left (c .before .before .before .before .before .before .before .before .before .before .before .before .before .before)) (c .before .before .add-seat .ensures)
     (omega (arith, c .before .before .before .before .before .before .before .before .before .before .seat-length .ensures)) (c .before .before .before .before .before .before .announce-seat .ensures)
 

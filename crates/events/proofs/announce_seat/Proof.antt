@@ -1,53 +1,43 @@
 -- Four writers, each where the one before it ended. Assumes nothing.
-use native.Mathlib.Omega.{arith}
 use borrow.Author.Needs.{needs}
-use Rattle.control.specs.Control.{connectionOf}
-use Rattle.session.specs.Slices.{optional}
 use Rattle.events.proofs.NewSeat.{seat-room, name-room, capabilities-room, done-room, seat-sends}
 use Rattle.events.proofs.announce_seat.Statement.{statement}
 use Rattle.events.proofs.announce_seat.Tie as tie
 
 send-requires : tie.Need-send-requires
-send-requires c κs =
-    let a = c .before .before .before .before .before .before .args in
-    seat-room (connectionOf (a .control .now)) (a .id) (a .version) (optional (a .given) (a .name .now)) (a .capabilities) (a .out .now) (c .before .before .before .before .before .before .pre .room) _
+send-requires c κs = seat-room (c .before .before .before .before .before .before .pre) _
 
 announce-name-requires : tie.Need-announce-name-requires
 announce-name-requires c κs =
-    let at-send = c .before .before .before in
-    let at-connection-id = at-send .before .before .before in
-    let at-start = at-connection-id .before .before .before .before in
-    let a = at-start .args in
-    name-room (connectionOf (a .control .now)) (a .id) (a .version) (optional (a .given) (a .name .now)) (a .capabilities) (a .out .now) (at-start .pre .room) (at-connection-id .connection-id .ensures) (at-send .send .ensures) (omega (arith, at-send .send .kept .0))
+    let at-seat = c .before .before .before in
+    let at-connection = at-seat .before .before .before in
+    name-room (at-connection .before .before .before .before .pre) (at-connection .connection-id .ensures) (at-seat .send .ensures) (at-seat .send .kept .0)
 
 announce-capabilities-requires : tie.Need-announce-capabilities-requires
 announce-capabilities-requires c κs =
-    let at-announce-name = c .before .before .before in
-    let at-send = at-announce-name .before .before .before .before in
-    let at-connection-id = at-send .before .before .before in
-    let at-start = at-connection-id .before .before .before .before in
-    let a = at-start .args in
-    (at-start .pre .sound, (at-start .pre .known, capabilities-room (connectionOf (a .control .now)) (a .id) (a .version) (optional (a .given) (a .name .now)) (a .capabilities) (a .out .now) (at-start .pre .room) (at-connection-id .connection-id .ensures) (at-send .send .ensures) (omega (arith, at-send .send .kept .0)) (at-announce-name .announce-name .ensures) (omega (arith, at-send .send .kept .0, at-announce-name .announce-name .kept .0))))
+    let at-name = c .before .before .before in
+    let at-seat = at-name .before .before .before .before in
+    let at-connection = at-seat .before .before .before in
+    let p = at-connection .before .before .before .before .pre in
+    (p .sound, (p .known, capabilities-room p (at-connection .connection-id .ensures) (at-seat .send .ensures) (at-seat .send .kept .0) (at-name .announce-name .ensures) (at-name .announce-name .kept .0)))
 
 send-requires-2 : tie.Need-send-requires-2
 send-requires-2 c κs =
-    let at-announce-capabilities = c .before .before .before .before in
-    let at-announce-name = at-announce-capabilities .before .before .before .before in
-    let at-send = at-announce-name .before .before .before .before in
-    let at-connection-id = at-send .before .before .before in
-    let at-start = at-connection-id .before .before .before .before in
-    let a = at-start .args in
-    done-room (connectionOf (a .control .now)) (a .id) (a .version) (optional (a .given) (a .name .now)) (a .capabilities) (a .out .now) (at-start .pre .room) (at-connection-id .connection-id .ensures) (at-send .send .ensures) (omega (arith, at-send .send .kept .0)) (at-announce-name .announce-name .ensures) (omega (arith, at-send .send .kept .0, at-announce-name .announce-name .kept .0)) (at-announce-capabilities .announce-capabilities .ensures) (omega (arith, at-send .send .kept .0, at-announce-name .announce-name .kept .0, at-announce-capabilities .announce-capabilities .kept .1 .1 .1 .0)) _
+    let at-capabilities = c .before .before .before .before in
+    let at-name = at-capabilities .before .before .before .before in
+    let at-seat = at-name .before .before .before .before in
+    let at-connection = at-seat .before .before .before in
+    done-room (at-connection .before .before .before .before .pre) (at-connection .connection-id .ensures) (at-seat .send .ensures) (at-seat .send .kept .0) (at-name .announce-name .ensures)
+    (at-name .announce-name .kept .0) (at-capabilities .announce-capabilities .ensures) (at-capabilities .announce-capabilities .kept .1 .1 .1 .0) _
 
 returns : tie.Need-returns
 returns c =
-    let at-announce-capabilities = c .before .before .before .before .before .before .before in
-    let at-announce-name = at-announce-capabilities .before .before .before .before in
-    let at-send = at-announce-name .before .before .before .before in
-    let at-connection-id = at-send .before .before .before in
-    let at-start = at-connection-id .before .before .before .before in
-    let a = at-start .args in
-    seat-sends (connectionOf (a .control .now)) (a .id) (a .version) (optional (a .given) (a .name .now)) (a .capabilities) (a .out .now) (at-start .pre .room) (at-connection-id .connection-id .ensures) (at-send .send .ensures) (omega (arith, at-send .send .kept .0)) (at-announce-name .announce-name .ensures) (omega (arith, at-send .send .kept .0, at-announce-name .announce-name .kept .0)) (at-announce-capabilities .announce-capabilities .ensures) (omega (arith, at-send .send .kept .0, at-announce-name .announce-name .kept .0, at-announce-capabilities .announce-capabilities .kept .1 .1 .1 .0)) (c .before .before .send2 .ensures)
+    let at-capabilities = c .before .before .before .before .before .before .before in
+    let at-name = at-capabilities .before .before .before .before in
+    let at-seat = at-name .before .before .before .before in
+    let at-connection = at-seat .before .before .before in
+    seat-sends (at-connection .before .before .before .before .pre) (at-connection .connection-id .ensures) (at-seat .send .ensures) (at-seat .send .kept .0) (at-name .announce-name .ensures)
+    (at-name .announce-name .kept .0) (at-capabilities .announce-capabilities .ensures) (at-capabilities .announce-capabilities .kept .1 .1 .1 .0) (c .before .before .send2 .ensures)
 
 pub announce-seat-spec : {M : Type 1} → statement M
 announce-seat-spec =

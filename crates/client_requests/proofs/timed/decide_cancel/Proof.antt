@@ -13,13 +13,13 @@ use Rattle.client_requests.proofs.timed.decide_cancel.Tie as tie
 returns : tie.Need-returns
 returns c =
     let a = c .before .before .before .before .before .args in
-    cancel-old (a .control .now) (a .touchscreen) (a .touch) (a .version) (sym (c .before .before .device-for-interface .ensures) ∙ ap slotTold (c .enum-told .given .1)) (omega arith)
+    cancel-old (a .control .now) (a .touchscreen) (a .touch) (a .version) (a .request) (sym (c .before .before .device-for-interface .ensures) ∙ ap slotTold (c .enum-told .given .1)) (omega arith)
 
 returns-2 : tie.Need-returns-2
 unfolding handler
 returns-2 c =
     let a = c .before .before .before .before .before .args in
-    touch-unknown (a .control .now) (a .touchscreen) (a .touch) Kind.TouchCancel (a .version) refl (sym (c .before .before .device-for-interface .ensures) ∙ ap slotTold (c .enum-told2 .given .1))
+    touch-unknown (a .control .now) (a .touchscreen) (a .touch) Kind.TouchCancel (a .version) refl (a .request) (sym (c .before .before .device-for-interface .ensures) ∙ ap slotTold (c .enum-told2 .given .1))
 
 returns-3 : tie.Need-returns-3
 returns-3 c =

@@ -27,7 +27,7 @@ returns c =
     let at-start = at-device-for-interface .before .before in
     let a = at-start .args in
     let k = sym (at-device-for-interface .device-for-interface .ensures) ∙ ap slotTold (at-k .k .given .1) in
-    down-many (a .control .now) (a .touchscreen) (a .touch) k (omega (arith, c .before .len .ensures, ap length (c .before .before .down-touch-ids .ensures .ids-are)))
+    down-many (a .control .now) (a .touchscreen) (a .touch) (a .request) k (omega (arith, c .before .len .ensures, ap length (c .before .before .down-touch-ids .ensures .ids-are)))
 
 returns-2 : tie.Need-returns-2
 returns-2 c =
@@ -38,7 +38,7 @@ returns-2 c =
     let at-start = at-device-for-interface .before .before in
     let a = at-start .args in
     let k = sym (at-device-for-interface .device-for-interface .ensures) ∙ ap slotTold (at-k .k .given .1) in
-    down-twice (a .control .now) (a .touchscreen) (a .touch) k (omega (arith, at-len .len .ensures, ap length (at-down-touch-ids .down-touch-ids .ensures .ids-are))) (ap (member (a .touch)) (sym (at-down-touch-ids .down-touch-ids .ensures .ids-are)) ∙ sym (c .before .contains .ensures) ∙ c .if2 .taken)
+    down-twice (a .control .now) (a .touchscreen) (a .touch) (a .request) k (omega (arith, at-len .len .ensures, ap length (at-down-touch-ids .down-touch-ids .ensures .ids-are))) (ap (member (a .touch)) (sym (at-down-touch-ids .down-touch-ids .ensures .ids-are)) ∙ sym (c .before .contains .ensures) ∙ c .if2 .taken)
 
 queue-on-requires : tie.Need-queue-on-requires
 queue-on-requires c κs =
@@ -57,13 +57,13 @@ returns-3 c =
     let at-start = at-device-for-interface .before .before in
     let a = at-start .args in
     let k = sym (at-device-for-interface .device-for-interface .ensures) ∙ ap slotTold (at-k .k .given .1) in
-    down-queued (a .control .now) (a .touchscreen) (a .touch) k (omega (arith, at-len .len .ensures, ap length (at-down-touch-ids .down-touch-ids .ensures .ids-are))) (ap (member (a .touch)) (sym (at-down-touch-ids .down-touch-ids .ensures .ids-are)) ∙ sym (c .before .before .contains .ensures) ∙ c .before .if2 .left) (c .queue-on .ensures)
+    down-queued (a .control .now) (a .touchscreen) (a .touch) (a .request) k (omega (arith, at-len .len .ensures, ap length (at-down-touch-ids .down-touch-ids .ensures .ids-are))) (ap (member (a .touch)) (sym (at-down-touch-ids .down-touch-ids .ensures .ids-are)) ∙ sym (c .before .before .contains .ensures) ∙ c .before .if2 .left) (c .queue-on .ensures)
 
 returns-4 : tie.Need-returns-4
 unfolding handler
 returns-4 c =
     let a = c .before .before .before .before .args in
-    λ version. touch-unknown (a .control .now) (a .touchscreen) (a .touch) Kind.TouchDown version refl (sym (c .before .before .device-for-interface .ensures) ∙ ap slotTold (c .enum-told .given .1))
+    λ version. touch-unknown (a .control .now) (a .touchscreen) (a .touch) Kind.TouchDown version refl (a .request) (sym (c .before .before .device-for-interface .ensures) ∙ ap slotTold (c .enum-told .given .1))
 
 pub decide-down-spec : {M : Type 1} → statement M
 decide-down-spec =

@@ -23,7 +23,7 @@ returns c =
     let at-start = at-device-for-interface .before .before in
     let a = at-start .args in
     let k = sym (at-device-for-interface .device-for-interface .ensures) ∙ ap slotTold (at-k .k .given .1) in
-    λ kind version only. touch-not-held (a .control .now) (a .touchscreen) (a .touch) only k (ap (member (a .touch)) (sym (c .before .before .down-touch-ids .ensures .ids-are)) ∙ sym (c .before .contains .ensures) ∙ not-true _ (c .if1 .taken))
+    λ kind version only. touch-not-held (a .control .now) (a .touchscreen) (a .touch) only (a .request) k (ap (member (a .touch)) (sym (c .before .before .down-touch-ids .ensures .ids-are)) ∙ sym (c .before .contains .ensures) ∙ not-true _ (c .if1 .taken))
 
 queue-on-requires : tie.Need-queue-on-requires
 queue-on-requires c κs =
@@ -41,12 +41,12 @@ returns-2 c =
     let at-start = at-device-for-interface .before .before in
     let a = at-start .args in
     let k = sym (at-device-for-interface .device-for-interface .ensures) ∙ ap slotTold (at-k .k .given .1) in
-    λ kind version only. touch-held (a .control .now) (a .touchscreen) (a .touch) only k (at-start .pre .1) (ap (member (a .touch)) (sym (at-down-touch-ids .down-touch-ids .ensures .ids-are)) ∙ sym (c .before .before .contains .ensures) ∙ not-false _ (c .before .if1 .left)) (c .queue-on .ensures)
+    λ kind version only. touch-held (a .control .now) (a .touchscreen) (a .touch) only (a .request) k (at-start .pre .1) (ap (member (a .touch)) (sym (at-down-touch-ids .down-touch-ids .ensures .ids-are)) ∙ sym (c .before .before .contains .ensures) ∙ not-false _ (c .before .if1 .left)) (c .queue-on .ensures)
 
 returns-3 : tie.Need-returns-3
 returns-3 c =
     let a = c .before .before .before .before .args in
-    λ kind version only. touch-unknown (a .control .now) (a .touchscreen) (a .touch) kind version (only .by) (sym (c .before .before .device-for-interface .ensures) ∙ ap slotTold (c .enum-told .given .1))
+    λ kind version only. touch-unknown (a .control .now) (a .touchscreen) (a .touch) kind version (only .by) (a .request) (sym (c .before .before .device-for-interface .ensures) ∙ ap slotTold (c .enum-told .given .1))
 
 pub decide-held-spec : {M : Type 1} → statement M
 decide-held-spec =

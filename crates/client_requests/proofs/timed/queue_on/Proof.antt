@@ -6,10 +6,10 @@ use Rattle.client_requests.proofs.timed.queue_on.Statement.{statement}
 use Rattle.client_requests.proofs.timed.queue_on.Tie as tie
 
 returns : tie.Need-returns
-returns c = let a = c .before .before .before .args in queue-full (a .control .now) (a .k) (a .change) (omega (arith, c .before .pending-count .ensures))
+returns c = let a = c .before .before .before .args in queue-full (a .control .now) (a .k) (a .change) (a .request) (omega (arith, c .before .pending-count .ensures))
 
 returns-2 : tie.Need-returns-2
-returns-2 c = let a = c .before .before .before .args in queue-room (a .control .now) (a .k) (a .change) (omega (arith, c .before .pending-count .ensures))
+returns-2 c = let a = c .before .before .before .args in queue-room (a .control .now) (a .k) (a .change) (a .request) (omega (arith, c .before .pending-count .ensures))
 
 pub queue-on-spec : {M : Type 1} → statement M
 queue-on-spec =

@@ -71,7 +71,7 @@ returns-3 c =
       untimed = x .untimed;
       is = x .is;
       plan = x .plan (view (session s)) ∙ seat-has s (a .seat) (a .capabilities) (x .untimed) f (sym (at-has-unknown .has-unknown .ensures) ∙ at-if1 .if1 .left)
-    (ap (λ (m : ℕ). contains m (a .capabilities)) (sym (at-seat-capabilities .seat-capabilities .ensures)) ∙ sym (at-contains .contains .ensures) ∙ not-false _ (at-if2 .if2 .left));
+          (ap (λ (m : ℕ). contains m (a .capabilities)) (sym (at-seat-capabilities .seat-capabilities .ensures)) ∙ sym (at-contains .contains .ensures) ∙ not-false _ (at-if2 .if2 .left));
     })
     w
 

@@ -50,8 +50,8 @@ returns-2 : tie.Need-returns-2
 returns-2 c =
     let at-raise = c .before .before .before in
     let at-unlink = at-raise .before .before .before .before in
-    let at-write-destroyed = at-unlink .before .before .before .before in
-    let at-last-serial = at-write-destroyed .before .before in
+    let at-destroy = at-unlink .before .before .before .before in
+    let at-last-serial = at-destroy .before .before in
     let at-k = at-last-serial .before .before .before .before in
     let at-find-interface = at-k .before .before in
     let at-lowest = at-find-interface .before .before in
@@ -61,7 +61,7 @@ returns-2 c =
     let q = index-is (a .capability) (at-mask .mask .ensures) (at-lowest .lowest .ensures) in
     let f = sym (at-find-interface .find-interface .ensures) ∙ ap slotTold (at-k .k .given .1) in
     let n = at-last-serial .last-serial .ensures in
-    let d = at-write-destroyed .write-destroyed .ensures in
+    let d = at-destroy .destroy .ensures in
     let u = at-unlink .unlink .ensures in
     let o = at-raise .raise .ensures 1 (d .serial ∙ ap (raised 1) (n ∙ ap (λ (x : Connection). x .lastSerial) (sym (unlinked-connection u)))) in
     λ clock w r texts whole.
@@ -99,7 +99,7 @@ release-interface-spec =
     (λ c. search needs)  -- same-length
     returns
     (λ c κs. search needs)  -- last-serial-requires
-    (λ c κs. search needs)  -- write-destroyed-requires
+    (λ c κs. search needs)  -- destroy-requires
     unlink-requires
     raise-requires
     (λ c κs. search needs)  -- sent-requires

@@ -23,12 +23,12 @@ returns c =
 returns-2 : tie.Need-returns-2
 returns-2 c =
     let at-raise = c .before .before .before in
-    let at-write-destroyed = at-raise .before .before .before .before in
-    let at-last-serial = at-write-destroyed .before .before in
+    let at-destroy = at-raise .before .before .before .before in
+    let at-last-serial = at-destroy .before .before in
     let at-start = at-last-serial .before .before .before .before .before in
     let a = at-start .args in
     let n = at-last-serial .last-serial .ensures in
-    let d = at-write-destroyed .write-destroyed .ensures in
+    let d = at-destroy .destroy .ensures in
     λ clock w r texts whole.
     let s = store (a .control .now) w r texts in
     let o = at-raise .raise .ensures 1 (d .serial ∙ ap (raised 1) n) w r texts _ in
@@ -42,7 +42,7 @@ release-seat-spec =
     (λ c κs. search needs)  -- refused-requires
     returns
     (λ c κs. search needs)  -- last-serial-requires
-    (λ c κs. search needs)  -- write-destroyed-requires
+    (λ c κs. search needs)  -- destroy-requires
     (λ c κs. search needs)  -- raise-requires
     (λ c κs. search needs)  -- sent-requires
     (λ c. search needs)  -- same-length

@@ -1,17 +1,17 @@
 -- `bench_calls::session::add_devices` is safe and ends with its devices; the slices keep their lengths. Assumes nothing.
 use Prim.Native.Nat.{_≤_, _-_}
-use Rattle.bench_calls.proofs.session.add_devices.Statement.{statement}
-use Rattle.bench_calls.proofs.session.add_devices.Tie as tie
+use Rattle.bench_calls.proofs.start.add_devices.Statement.{statement}
+use Rattle.bench_calls.proofs.start.add_devices.Tie as tie
 use borrow.Author.Needs.{needs}
 use lib.ListN.{length}
 use mathlib.Core.Path.{_≡_}
 
 abbrev Inv-loop : tie.InvT-loop
-Inv-loop control₀ words reals texts devices capabilities out₀ i₀ t9 control out i =
+Inv-loop control₀ devices capabilities out₀ i₀ t9 control out i =
     (i ≤ devices) × (length control ≡ length control₀) × (length out ≡ length out₀)
 
 abbrev μ-loop : tie.MeasureT-loop
-μ-loop control₀ words reals texts devices capabilities out₀ i₀ t9 control out i =
+μ-loop control₀ devices capabilities out₀ i₀ t9 control out i =
     devices - i
 
 pub add-devices-spec : {M : Type 1} → statement M

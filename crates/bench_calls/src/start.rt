@@ -26,22 +26,11 @@ fn shaken(control: &mut [u64]) {
     request::new(control, finished.response);
 }
 
-fn add_devices(
-    control: &mut [u64],
-    words: &[u64],
-    reals: &[f32],
-    texts: &[u8],
-    devices: u64,
-    capabilities: u64,
-    out: &mut [u8],
-) {
+fn add_devices(control: &mut [u64], devices: u64, capabilities: u64, out: &mut [u8]) {
     let mut i: u64 = 0;
     while i < devices {
         seat::add_device(
             control,
-            words,
-            reals,
-            texts,
             SEAT,
             false,
             b"",
@@ -54,33 +43,9 @@ fn add_devices(
 }
 
 // A session with a seat and so many devices, each with these capabilities.
-pub fn begin(
-    control: &mut [u64],
-    words: &[u64],
-    reals: &[f32],
-    texts: &[u8],
-    devices: u64,
-    capabilities: u64,
-) {
+pub fn begin(control: &mut [u64], devices: u64, capabilities: u64) {
     let mut out = [0u8; 4096];
     shaken(control);
-    connection::add_seat(
-        control,
-        words,
-        reals,
-        texts,
-        false,
-        b"",
-        capabilities,
-        &mut out,
-    );
-    add_devices(
-        control,
-        words,
-        reals,
-        texts,
-        devices,
-        capabilities,
-        &mut out,
-    );
+    connection::add_seat(control, false, b"", capabilities, &mut out);
+    add_devices(control, devices, capabilities, &mut out);
 }
