@@ -137,7 +137,7 @@ LOADS = {
 
 
 def given(words):
-    """A delivered request as a term of `Request Load`."""
+    """A delivered request as a term of `Queued Load`."""
     kind, f = words[0], dict(w.split("=", 1) for w in words[1:])
     untimed = {
         "Disconnect": [], "Bind": ["seat", "capabilities"], "DeviceClosed": ["device"], "RequestDevice": ["seat", "capabilities"],
@@ -175,13 +175,13 @@ def answer(verb, line):
         if words[1] == "2":
             outcome = f"refusedVersion {words[2].split('=')[1]} {words[3].split('=')[1]}"
     elif verb == "next_request" and words[0] != "none":
-        outcome, gave = "Outcome.given", f"(Request.{given(words)} ∷ [])"
+        outcome, gave = "Result.given", f"(Queued.{given(words)} ∷ [])"
     elif words[0] in ("seat", "device"):
-        outcome = f"Outcome.{words[0]} {ident(words[1])}"
+        outcome = f"Result.{words[0]} {ident(words[1])}"
     elif words[0] in ("true", "false"):
         outcome = f"truth {words[0]}"
     elif words[0] == "none":
-        outcome = "Outcome.none"
+        outcome = "Result.none"
     elif words[0] == "accepted":
         outcome = "accepted"
     else:
@@ -235,8 +235,8 @@ use Rattle.eiproto.specs.declared.eiproto_enum.DisconnectReason.{{DisconnectRea
 use Rattle.eiproto.specs.declared.eiproto_enum.KeyState.{{KeyState}}
 use Rattle.eiproto.specs.declared.event.DeviceCapability.{{DeviceCapability}}
 use Rattle.model.specs.Call.{{Kind, Input, Load, HandshakeRequest, handshake, interfaceRelease, Plain, timed, plain, Turn}}
-use Rattle.model.specs.Session.{{Untimed, Request}}
-use Rattle.model.specs.Plan.{{Outcome, accepted, refused, refusedVersion, value, truth}}
+use Rattle.model.specs.Session.{{Untimed, Queued}}
+use Rattle.model.specs.Plan.{{Result, accepted, refused, refusedVersion, value, truth}}
 use Rattle.model_cases.specs.Line.{{Line, line, f32, an, turn, computed}}
 """
 

@@ -3,9 +3,9 @@
 
 usage: write_trials.py ORACLE [FOLDER]     run at the repository's root
 
-ORACLE is the oracle's folder (cases/ in it, and target/release/oracle, or that of FOLDER). crates/trials gets the trial lines of document 01, the five false
+ORACLE is the oracle's folder (cases/ in it, and target/release/oracle, or that of FOLDER). crates/trials gets the trial lines, the five false
 friends and the oracle's other cases, one session behind the other; crates/replay gets examples/token.script. The lines `#= LINE` of the cases, by hand from
-document 01, stay in the script behind their calls, and the trail is held to them here.
+the scope, stay in the script behind their calls, and the trail is held to them here.
 """
 import glob
 import os
@@ -13,8 +13,8 @@ import subprocess
 import sys
 
 PARTS = [
-    ("Trial lines of document 01", lambda n: n < 20),
-    ("False friends of document 01", lambda n: 20 <= n < 30),
+    ("Trial lines", lambda n: n < 20),
+    ("False friends", lambda n: 20 <= n < 30),
     ("The oracle's other cases", lambda n: 30 <= n),
 ]
 SETTINGS = ["now 0", "out 4096", "buffer 254"]
@@ -58,7 +58,7 @@ def main():
     oracle = f"{sys.argv[2] if len(sys.argv) > 2 else sys.argv[1]}/target/release/oracle"
     scripts = {number: open(path).read().splitlines() for number, path in cases.items()}
     scripts[24] = held_ids(cases)
-    lines = ["# Written by tests/write_trials.py. A line that begins with #= is what the call above it answers, by hand from document 01; stdout is what the crate's own Rust answers."]
+    lines = ["# Written by tests/write_trials.py. A line that begins with #= is what the call above it answers, by hand from the scope; stdout is what the crate's own Rust answers."]
     for part, chosen in PARTS:
         lines += ["", f"# ---- {part}"]
         for number in sorted(filter(chosen, scripts)):

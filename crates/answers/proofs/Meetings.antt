@@ -27,7 +27,7 @@ use Rattle.answers.specs.declared.Answer.{Answer}
 use Rattle.answers.specs.Meets.{Meets, turn, Handled, HandledRows, HandledControl, Answered}
 
 -- nothing changed, nothing written
-pub meets-unchanged : (s : Store) (out : List ℕ) (to : Step Load) (o : plan.Outcome) (r : Answer) → Whole s → to ≡ unchanged (session s) o
+pub meets-unchanged : (s : Store) (out : List ℕ) (to : Step Load) (o : plan.Result) (r : Answer) → Whole s → to ≡ unchanged (session s) o
     → outcomeOf (r .outcome) ≡ o → r .count ≡ 0 → Meets s s out out to r
 unfolding unchanged records
 meets-unchanged s out to o r w e told none =

@@ -52,7 +52,7 @@ pub struct Answer {
 }
 
 impl Error {
-    // Document 01's number.
+    // Its number, as docs/REFERENCE.md lists them.
     pub fn number(self) -> u32
         ensures { λ r. ⌜ r ≡ numberOf self ⌝ }
     {

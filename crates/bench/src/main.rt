@@ -1,4 +1,4 @@
-// The turns of the oracle's benchmark, and a few of the store's own, repeated: `bench WORKLOAD N`. It tells how many requests were given; tests/bench.py times it.
+// The turns of the oracle's benchmark, and a few of the queue's own, repeated: `bench WORKLOAD N`. It tells how many requests were given; tests/bench.py times it.
 mod turns;
 
 use control::CONTROL_LENGTH;

@@ -2,7 +2,7 @@
 use converter::request;
 use eiproto::eiproto_enum::DeviceType;
 use handshake::handshake::EisHandshaker;
-use handshake::handshake::Request as Shake;
+use handshake::handshake::HandshakeMessage as Shake;
 
 // The ids that the calls of `begin` give: the seat, then each device with its interfaces behind it.
 pub const SEAT: u64 = 0xff00000000000001;

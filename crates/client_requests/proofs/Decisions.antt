@@ -3,7 +3,7 @@ use Prim.Native.Nat.{ℕ, _≤_, _<_}
 use mathlib.Core.Path.{_≡_, refl, sym, ap, _∙_}
 use mathlib.Core.Logic.{_⊎_, inl}
 use mathlib.Core.Bool.{Bool, true, false, cond, false≢true}
-use mathlib.Core.List.{List, [], _∷_}
+use mathlib.Core.List.{List}
 use mathlib.Core.Option.{Option, none, some}
 use native.Mathlib.Omega.{arith}
 use borrow.Author.Tests.{leb-true, leb-false, le-leb, lt-leb, lt-ltb, le-ltb}
@@ -18,7 +18,7 @@ use Rattle.requests.specs.declared.cell.Cell.{Cell}
 use Rattle.model.specs.Call.{Kind, Input, Sight, sight, touching, Load, Call, Split}
 use Rattle.model.specs.Session.{View, view}
 use Rattle.model.specs.Edit.{Amend}
-use Rattle.model.specs.Plan.{Outcome, Plan, answer, refuse, ignore}
+use Rattle.model.specs.Plan.{Result, Plan, answer, refuse, ignore}
 use Rattle.model.specs.Decide.{Found, Handler, handler, pendAfter, ifHeld, handle, handleTimed, linksIn, deviceForInterface, onFound, decide}
 use Rattle.model.specs.Step.{textsBy, texts, counts, unchanged, carriedOut, step}
 use Rattle.model_steps.proofs.Steps.{step-answer, step-pend-full, step-pend-texts, step-pend}
@@ -98,10 +98,10 @@ module _ (cap : DeviceCapability) (interface version : ℕ) (i : Sight) (valid :
     plan-is : decide (view (session s)) (t .now) (t .call) ≡ onFound (deviceForInterface (capabilityIndex cap) interface (view (session s))) ignore handled
     plan-is = ap (decide (view (session s)) (t .now)) call ∙ planned (view (session s)) (t .now)
 
-    pub step-unknown : linkedSlot cap interface (s .control) ≡ none → step t (session s) ≡ unchanged (session s) Outcome.accepted
+    pub step-unknown : linkedSlot cap interface (s .control) ≡ none → step t (session s) ≡ unchanged (session s) Result.accepted
     unfolding onFound ignore
     step-unknown e =
-        step-answer t (session s) Outcome.accepted (plan-is ∙ ap (λ (o : Option Found). onFound o ignore handled) (no-interface s (capabilityIndex cap) interface e))
+        step-answer t (session s) Result.accepted (plan-is ∙ ap (λ (o : Option Found). onFound o ignore handled) (no-interface s (capabilityIndex cap) interface e))
 
     module _ {k : ℕ} (e : linkedSlot cap interface (s .control) ≡ some k) where
       abbrev seen : Found
@@ -111,7 +111,7 @@ module _ (cap : DeviceCapability) (interface version : ℕ) (i : Sight) (valid :
       unfolding onFound
       plan-found = plan-is ∙ ap (λ (o : Option Found). onFound o ignore handled) (found-interface s (capabilityIndex cap) interface e)
 
-      pub step-told : (o : Outcome) → handled seen ≡ answer o → step t (session s) ≡ unchanged (session s) o
+      pub step-told : (o : Result) → handled seen ≡ answer o → step t (session s) ≡ unchanged (session s) o
       step-told o h = step-answer t (session s) o (plan-found ∙ h)
 
       module _ (amends : List Amend) (h : handled seen ≡ pendAfter amends seen i) where
@@ -121,10 +121,10 @@ module _ (cap : DeviceCapability) (interface version : ℕ) (i : Sight) (valid :
         within : k < length (session s .devices)
         within = rw (devices-length s) known
 
-        pub step-full : 64 ≤ coreAt (s .control) k .pending → step t (session s) ≡ unchanged (session s) (Outcome.refused 16)
+        pub step-full : 64 ≤ coreAt (s .control) k .pending → step t (session s) ≡ unchanged (session s) (Result.refused 16)
         step-full f = step-pend-full t (session s) amends seen i (plan-found ∙ h) within (rw (pending-count s k known) f)
 
-        pub step-texts : coreAt (s .control) k .pending < 64 → texts (i .kind) ≡ 1 → 32 ≤ counts (session s) .texts → step t (session s) ≡ unchanged (session s) (Outcome.refused 18)
+        pub step-texts : coreAt (s .control) k .pending < 64 → texts (i .kind) ≡ 1 → 32 ≤ counts (session s) .texts → step t (session s) ≡ unchanged (session s) (Result.refused 18)
         step-texts f x l = step-pend-texts t (session s) amends seen i (plan-found ∙ h) within (rw (pending-count s k known) f) x l
 
         pub step-queued : coreAt (s .control) k .pending < 64 → (texts (i .kind) ≡ 0) ⊎ (counts (session s) .texts < 32)
@@ -157,7 +157,7 @@ module _ (cap : DeviceCapability) (interface version : ℕ) (i : Sight) (valid :
       unfolding ignore
       ignored h =
           record {
-            step-is = λ s t same call. step-told s t call (found s same) Outcome.accepted (h _ (touches s same));
+            step-is = λ s t same call. step-told s t call (found s same) Result.accepted (h _ (touches s same));
             fits = λ j x y q. absurd (ignored-not q);
             same = λ j x y q. absurd (ignored-not q);
           }

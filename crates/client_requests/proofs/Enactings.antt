@@ -48,7 +48,7 @@ module _ (s : Store) (out : List ℕ) (interface version clock : ℕ) (input : I
   stepped is = dec .step-is s (split (turn asked clock out)) refl refl ∙ ap (λ (x : Decision). decidedStep x (sight input) (load input) (session s)) is
 
   pub met-ignored : d ≡ Decision.Ignored → (r .outcome ≡ Outcome.Accepted) × (r .count ≡ 0) → Handled s s out out asked clock r
-  met-ignored is told = meets-unchanged s out _ plan.Outcome.accepted r whole (stepped is) (ap outcomeOf (told .0)) (told .1)
+  met-ignored is told = meets-unchanged s out _ plan.Result.accepted r whole (stepped is) (ap outcomeOf (told .0)) (told .1)
 
   pub met-refused : {error : Error} → d ≡ Decision.Refused error → (r .outcome ≡ Outcome.Refused error) × (r .count ≡ 0) → Handled s s out out asked clock r
   met-refused is told = meets-unchanged s out _ _ r whole (stepped is) (ap outcomeOf (told .0)) (told .1)
@@ -119,7 +119,7 @@ module _ (s : Store) (out : List ℕ) (interface version clock : ℕ) (text : Li
       → (r .outcome ≡ Outcome.Accepted) × (r .count ≡ 0) → Handled s s out out call clock r
   unfolding split mapCall sight handler
   text-unknown e told =
-      meets-unchanged s out _ plan.Outcome.accepted r whole
+      meets-unchanged s out _ plan.Result.accepted r whole
       (step-unknown DeviceCapability.Text interface version (sight (Input.Utf8 text)) valid refl s (split (turn call clock out)) refl e)
       (ap outcomeOf (told .0)) (told .1)
 
@@ -128,11 +128,11 @@ module _ (s : Store) (out : List ℕ) (interface version clock : ℕ) (text : Li
     pub text-length : (length text ≡ 0) ⊎ (254 < length text) → (r .outcome ≡ Outcome.Refused Error.InvalidTextLength) × (r .count ≡ 0) → Handled s s out out call clock r
     unfolding split mapCall sight handler handle refuse
     text-length h told =
-        meets-unchanged s out _ (plan.Outcome.refused 6) r whole
-        (step-told DeviceCapability.Text interface version (sight (Input.Utf8 text)) valid refl s (split (turn call clock out)) refl e (plan.Outcome.refused 6) (wrong h))
+        meets-unchanged s out _ (plan.Result.refused 6) r whole
+        (step-told DeviceCapability.Text interface version (sight (Input.Utf8 text)) valid refl s (split (turn call clock out)) refl e (plan.Result.refused 6) (wrong h))
         (ap outcomeOf (told .0)) (told .1)
       where
-        wrong : (length text ≡ 0) ⊎ (254 < length text) → handle (handler Kind.TextUtf8 .rule) version (record { slot = k; device = deviceSeen s k }) (sight (Input.Utf8 text)) ≡ answer (plan.Outcome.refused 6)
+        wrong : (length text ≡ 0) ⊎ (254 < length text) → handle (handler Kind.TextUtf8 .rule) version (record { slot = k; device = deviceSeen s k }) (sight (Input.Utf8 text)) ≡ answer (plan.Result.refused 6)
         wrong (inl z) = rw (eq-eqb (length text) 0 z)
         wrong (inr l) = rw (ne-eqb (length text) 0 (λ z. omega arith), lt-ltb 254 (length text) l)
 
@@ -144,7 +144,7 @@ module _ (s : Store) (out : List ℕ) (interface version clock : ℕ) (text : Li
       pub text-full : 64 ≤ coreAt (s .control) k .pending → (r .outcome ≡ Outcome.Refused Error.FullPending) × (r .count ≡ 0) → Handled s s out out call clock r
       unfolding split mapCall sight handler
       text-full h told =
-          meets-unchanged s out _ (plan.Outcome.refused 16) r whole
+          meets-unchanged s out _ (plan.Result.refused 16) r whole
           (step-full DeviceCapability.Text interface version (sight (Input.Utf8 text)) valid refl s (split (turn call clock out)) refl e [] text-plan h)
           (ap outcomeOf (told .0)) (told .1)
 
@@ -152,7 +152,7 @@ module _ (s : Store) (out : List ℕ) (interface version clock : ℕ) (text : Li
         pub text-many : 32 ≤ counts (session s) .texts → (r .outcome ≡ Outcome.Refused Error.FullTexts) × (r .count ≡ 0) → Handled s s out out call clock r
         unfolding split mapCall sight handler texts textsBy
         text-many h told =
-            meets-unchanged s out _ (plan.Outcome.refused 18) r whole
+            meets-unchanged s out _ (plan.Result.refused 18) r whole
             (step-texts DeviceCapability.Text interface version (sight (Input.Utf8 text)) valid refl s (split (turn call clock out)) refl e [] text-plan room refl h)
             (ap outcomeOf (told .0)) (told .1)
 

@@ -20,11 +20,11 @@ use Rattle.wire.specs.Record.{fixedLength, recordLength, textOf, layout}
 use Rattle.wire.proofs.Splices.{splice-none}
 use Rattle.model.specs.Call.{Input, sight, Load, loadOf, Plain, Call, mapCall, split}
 use Rattle.model.specs.Session.{Untimed, Connection, Session, View, view}
-use Rattle.model.specs.Edit.{Amend, Edit, nextSerial, raised, withConnection, withDevices, enact, enactAll}
+use Rattle.model.specs.Edit.{Amend, Edit, nextSerial, withConnection, withDevices, enact, enactAll}
 use Rattle.model.specs.Plan as plan
 use Rattle.model.specs.Plan.{Sent, on, records, answer, refuse, ignore, edit, send, refusal}
 use Rattle.model.specs.Decide.{linksIn, onFound, sendNext, handleSync, handleSeat, handleDevice, handleFrame, handleRelease, destroyed, decidePlain, decide}
-use Rattle.model.specs.Step.{Counts, counts, refuses, step}
+use Rattle.model.specs.Step.{Counts, counts, refuses}
 use Rattle.model_steps.proofs.Counted.{framedLength, afterFrame, counts-frame, quietAll, quiet-none}
 use Rattle.model_steps.proofs.Steps.{step-answer, step-sent, step-sent-short, step-queue, step-queue-full, step-frame, step-frame-full, step-flush, step-flush-full}
 use Rattle.control.specs.Table.{first}
@@ -172,16 +172,16 @@ module _ (s : Store) (out : List ℕ) (call : Call Input) (clock : ℕ) (r : Ans
 -- ---- what is found
 
 module _ (s : Store) (seat caps : ℕ) (u : Untimed) where
-  pub seat-none : first (λ t. eqb (t .id) seat) (connectionOf (s .control) .seats) ≡ none → handleSeat (view (session s)) seat caps u ≡ answer plan.Outcome.accepted
+  pub seat-none : first (λ t. eqb (t .id) seat) (connectionOf (s .control) .seats) ≡ none → handleSeat (view (session s)) seat caps u ≡ answer plan.Result.accepted
   unfolding handleSeat onFound ignore
   seat-none e = rw (no-seat s seat e)
 
   module _ {k : ℕ} (e : first (λ t. eqb (t .id) seat) (connectionOf (s .control) .seats) ≡ some k) where
-    pub seat-strange : unknownBits caps ≡ true → handleSeat (view (session s)) seat caps u ≡ answer (plan.Outcome.refused 3)
+    pub seat-strange : unknownBits caps ≡ true → handleSeat (view (session s)) seat caps u ≡ answer (plan.Result.refused 3)
     unfolding handleSeat onFound refuse
     seat-strange h = rw (found-seat s seat e, h)
 
-    pub seat-lacks : unknownBits caps ≡ false → contains (seatAt (s .control) k .capabilities) caps ≡ false → handleSeat (view (session s)) seat caps u ≡ answer (plan.Outcome.refused 3)
+    pub seat-lacks : unknownBits caps ≡ false → contains (seatAt (s .control) k .capabilities) caps ≡ false → handleSeat (view (session s)) seat caps u ≡ answer (plan.Result.refused 3)
     unfolding handleSeat onFound refuse
     seat-lacks h x = rw (found-seat s seat e, h, x)
 
@@ -191,11 +191,11 @@ module _ (s : Store) (seat caps : ℕ) (u : Untimed) where
 
 module _ (s : Store) (device : ℕ) where
   module _ (e : first (λ d. eqb (d .id) device) (coresOf (s .control)) ≡ none) where
-    pub device-none : (clock : ℕ) (u : Untimed) → handleDevice (view (session s)) clock device u ≡ answer plan.Outcome.accepted
+    pub device-none : (clock : ℕ) (u : Untimed) → handleDevice (view (session s)) clock device u ≡ answer plan.Result.accepted
     unfolding handleDevice onFound ignore
     device-none clock u = rw (no-device s device e)
 
-    pub frame-none : (serial time : ℕ) → handleFrame (view (session s)) device serial time ≡ answer plan.Outcome.accepted
+    pub frame-none : (serial time : ℕ) → handleFrame (view (session s)) device serial time ≡ answer plan.Result.accepted
     unfolding handleFrame onFound ignore
     frame-none serial time = rw (no-device s device e)
 
@@ -213,7 +213,7 @@ module _ (s : Store) (device : ℕ) where
 
 -- "Sync whose callback version is not 1" is 2
 pub sync-version : (v : View) (clock callback version : ℕ) → (version ≡ 1 → ⊥)
-    → decide v clock (mapCall sight (Call.plain (Plain.sync callback version))) ≡ answer (plan.Outcome.refusedVersion eiCallback version)
+    → decide v clock (mapCall sight (Call.plain (Plain.sync callback version))) ≡ answer (plan.Result.refusedVersion eiCallback version)
 unfolding mapCall decide decidePlain handleSync
 sync-version v clock callback version h = rw (ne-eqb version 1 h)
 
@@ -308,7 +308,7 @@ index-is DeviceCapability.Button e q = q ∙ ap lowestBit e
 index-is DeviceCapability.Text e q = q ∙ ap lowestBit e
 
 module _ (s : Store) (cap : DeviceCapability) (id : ℕ) {b : ℕ} (q : b ≡ capabilityIndex cap) where
-  pub release-none : first (λ d. linksIn b id (d .interfaces)) (coresOf (s .control)) ≡ none → handleRelease (view (session s)) (capabilityIndex cap) id ≡ answer plan.Outcome.accepted
+  pub release-none : first (λ d. linksIn b id (d .interfaces)) (coresOf (s .control)) ≡ none → handleRelease (view (session s)) (capabilityIndex cap) id ≡ answer plan.Result.accepted
   unfolding handleRelease onFound ignore
   release-none e = rw (← q, no-interface s b id e)
 

@@ -6,7 +6,7 @@ use mathlib.Core.List.{List, [], _∷_, _++_, map}
 use lib.Dec.{leb}
 use lib.ListN.{length}
 use Rattle.eiproto.specs.declared.event.DeviceCapability.{DeviceCapability}
-use Rattle.touches.specs.Touches.{member}
+use Rattle.touches.specs.Touches.{touchesLimit, member}
 use Rattle.requests.specs.Row.{rowOf}
 use Rattle.requests.specs.declared.cell.Cell.{Cell}
 use Rattle.model.specs.Call.{Kind, Input, Sight, sight, touching, Load, load, Call, Split}
@@ -15,7 +15,7 @@ use Rattle.model.specs.Edit.{Amend, Edit, item}
 use Rattle.model.specs.Plan as plan
 use Rattle.model.specs.Decide.{Found, Rule, handledBy, handler, ifHeld, handle}
 use Rattle.model.specs.Step.{Step, unchanged, carriedOut, step}
-use Rattle.control.specs.Control.{deviceCount, pendingAt, coreAt}
+use Rattle.control.specs.Control.{pendingLimit, deviceCount, pendingAt, coreAt}
 use Rattle.session.specs.View.{Store, session, itemAt}
 use Rattle.session.specs.Slices.{Numbers, Reals}
 use Rattle.answers.specs.Answer.{errorOf}
@@ -39,25 +39,25 @@ goesDown (TouchChange.Up id) = false
 
 -- a touch that goes down is not held, and fewer than 16 are
 abbrev pub CanChange : TouchChange → (held : List ℕ) → Type 0
-CanChange change held = (id : ℕ) → change ≡ TouchChange.Down id → (length held < 16) × (member id held ≡ false)
+CanChange change held = (id : ℕ) → change ≡ TouchChange.Down id → (length held < touchesLimit) × (member id held ≡ false)
 
 -- ---- a decision
 
 -- "16 FULL_PENDING: the device has 64 pending", where nothing else is asked
 unfoldable pub queueOn : List ℕ → ℕ → TouchChange → Cell → Decision
 unfolding coreAt
-queueOn c k change request = cond (leb 64 (coreAt c k .pending)) (Decision.Refused Error.FullPending) (Decision.Queued k change request)
+queueOn c k change request = cond (leb pendingLimit (coreAt c k .pending)) (Decision.Refused Error.FullPending) (Decision.Queued k change request)
 
 -- the step that a decision stands for: the held touches change before the request waits
 abbrev pub decidedStep : Decision → (sight : Sight) (load : Load) → Session Load → Step Load
-decidedStep Decision.Ignored i load s = unchanged s plan.Outcome.accepted
+decidedStep Decision.Ignored i load s = unchanged s plan.Result.accepted
 decidedStep (Decision.Refused e) i load s = unchanged s (errorOf e)
 decidedStep (Decision.Queued k change request) i load s = carriedOut (plan.edit (map (λ a. Edit.amend k a) (amendsOf change) ++ (Edit.pend k i ∷ []))) load s
 
 -- the device in slot k has room for a request that waits
 pub record CanQueue (c : List ℕ) (k : ℕ) (change : TouchChange) : Type 0 where
   pub known : k < deviceCount c
-  pub room : pendingAt c k < 64
+  pub room : pendingAt c k < pendingLimit
   pub touch : CanChange change (coreAt c k .downTouchIds)
 
 abbrev pub Fits : List ℕ → Decision → Type 0

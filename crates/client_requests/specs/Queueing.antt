@@ -4,7 +4,7 @@ use mathlib.Core.Path.{_≡_}
 use mathlib.Core.List.{List, [], _∷_}
 use Rattle.requests.specs.declared.request.EisRequest.{EisRequest}
 use Rattle.model.specs.Call.{Input, sight, Call, mapCall}
-use Rattle.model.specs.Session.{Untimed, Request, View, view}
+use Rattle.model.specs.Session.{Untimed, Queued, View, view}
 use Rattle.model.specs.Edit.{Edit}
 use Rattle.model.specs.Plan.{Plan, edit}
 use Rattle.model.specs.Decide.{decide}
@@ -16,13 +16,13 @@ use Rattle.answers.specs.declared.Answer.{Answer}
 -- the model queues the request at this call, as a handler of it says
 pub record Planned (request : EisRequest) (call : Call Input) (clock : ℕ) (handler : View → Untimed → Plan) : Type 0 where
   pub untimed : Untimed
-  pub is : requestIn request [] ≡ Request.untimed untimed
+  pub is : requestIn request [] ≡ Queued.untimed untimed
   pub plan : (v : View) → decide v clock (mapCall sight call) ≡ handler v untimed
 
 -- the same of a session at hand, where nothing else is asked
 pub record Queues (request : EisRequest) (call : Call Input) (clock : ℕ) (s : Store) : Type 0 where
   pub untimed : Untimed
-  pub is : requestIn request [] ≡ Request.untimed untimed
+  pub is : requestIn request [] ≡ Queued.untimed untimed
   pub plan : decide (view (session s)) clock (mapCall sight call) ≡ edit (Edit.queue untimed ∷ [])
 
 -- the request is queued, or the queue is full

@@ -1,12 +1,12 @@
 // The timed requests. What becomes of one is decided without its payload; then it waits in its device's pending list.
 use answers::Answer;
 use answers::Error;
+use control::PENDING_LIMIT;
 use control::Slot;
 use eiproto::event::DeviceCapability;
-use queue::PENDING_LIMIT;
 use requests::cell::Cell;
+use requests::row::TEXTS_LIMIT;
 use texts::TEXT_LENGTH_LIMIT;
-use texts::TEXTS_LIMIT;
 use touches::EIS_MAX_TOUCHES;
 ghost use mathlib.Core.Path.{_≡_};
 ghost use mathlib.Core.Bool.{true, false};

@@ -31,7 +31,7 @@ module _ (s : Store) (w : Whole s) (out : List ℕ) (clock : ℕ) where
   unfolding decidePlain
   serial-told {n} {r} e told =
       told-handled s out Plain.lastSerial clock (Outcome.Value n) r w
-      (ap (λ (k : ℕ). answer (plan.Outcome.value k)) (ap (λ (c : Connection). c .lastSerial) (view-connection s) ∙ sym e)) told
+      (ap (λ (k : ℕ). answer (plan.Result.value k)) (ap (λ (c : Connection). c .lastSerial) (view-connection s) ∙ sym e)) told
 
   module _ (name : List ℕ) where
     pub has-invalid : {r : Answer} → isUtf8 name ≡ false → (r .outcome ≡ Outcome.Refused Error.BadUtf8) × (r .count ≡ 0)
@@ -54,7 +54,7 @@ module _ (s : Store) (w : Whole s) (out : List ℕ) (clock : ℕ) where
       unfolding decidePlain
       has-told b {r} h told =
           told-handled s out (Plain.hasInterface name) clock (Outcome.Truth b) r w
-          (utf8-fine name _ u ∙ ap (λ (t : Bool). answer (plan.Outcome.truth t)) (ap isSome seen ∙ h)) told
+          (utf8-fine name _ u ∙ ap (λ (t : Bool). answer (plan.Result.truth t)) (ap isSome seen ∙ h)) told
 
       pub version-told : (o : Outcome) {r : Answer} → versionAnswer v ≡ outcomeOf o → (r .outcome ≡ o) × (r .count ≡ 0)
           → Handled s s out out (Call.plain (Plain.interfaceVersion name)) clock r

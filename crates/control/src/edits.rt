@@ -3,7 +3,7 @@
 use crate::CONTROL_LENGTH;
 use crate::layout;
 use touches::DownTouchIds;
-use touches::TOUCHES_LIMIT;
+use touches::EIS_MAX_TOUCHES;
 ghost use mathlib.Core.Path.{_≡_};
 ghost use mathlib.Core.List.{[], _∷_, _++_, map};
 ghost use mathlib.Core.Option.{some};
@@ -142,7 +142,7 @@ pub fn down_touch_ids(control: &[u64], k: usize) -> DownTouchIds
 {
     let at = layout::DEVICES + layout::DEVICE_WORDS * k;
     let count = control[at + layout::HELD] as usize;
-    let mut ids: [u32; TOUCHES_LIMIT] = [0; TOUCHES_LIMIT];
+    let mut ids: [u32; EIS_MAX_TOUCHES] = [0; EIS_MAX_TOUCHES];
     let mut j: usize = 0;
     while j < count {
         ids[j] = (control[at + (layout::TOUCHES + j)] % 4294967296) as u32;

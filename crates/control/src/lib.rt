@@ -4,7 +4,7 @@ pub mod edits;
 mod layout;
 
 use eiproto::event::DeviceCapability;
-use touches::TOUCHES_LIMIT;
+use touches::EIS_MAX_TOUCHES;
 ghost use mathlib.Core.Path.{_≡_};
 ghost use Prim.Native.Nat.{ℕ, _≤_, _<_};
 ghost use mathlib.Core.Bool.{true};
@@ -49,7 +49,7 @@ fn row_sound(control: &[u64], k: usize) -> bool
 {
     let at = layout::DEVICES + layout::DEVICE_WORDS * k;
     control[at + layout::PENDING] <= PENDING_LIMIT as u64
-        && control[at + layout::HELD] <= TOUCHES_LIMIT as u64
+        && control[at + layout::HELD] <= EIS_MAX_TOUCHES as u64
 }
 
 // Whether the counts of the first n rows are so far below their limits, which are powers of two, that their bits together show it: a pass
@@ -67,7 +67,7 @@ fn rows_low(control: &[u64], n: usize) -> bool
         held = held | control[at + layout::HELD];
         k += 1;
     }
-    pending < PENDING_LIMIT as u64 && held < TOUCHES_LIMIT as u64
+    pending < PENDING_LIMIT as u64 && held < EIS_MAX_TOUCHES as u64
 }
 
 // Whether the counts of the first n rows are within their limits.

@@ -14,7 +14,7 @@ use Rattle.requests.specs.Request.{form, given, orNone, textLength}
 use Rattle.requests.specs.Row.{textsLimit, noSlot, Row, entry, rowOf, rowAt, requestOf, cellAt}
 use Rattle.requests.specs.declared.request.EisRequest.{EisRequest}
 use Rattle.model.specs.Call.{sight, Load, loadOf, Plain, Call, mapCall, split}
-use Rattle.model.specs.Session.{Request, mapRequest, mapSession, blank, view}
+use Rattle.model.specs.Session.{Queued, mapQueued, mapSession, blank, view}
 use Rattle.model.specs.Edit.{Edit}
 use Rattle.model.specs.Plan as plan
 use Rattle.model.specs.Plan.{answer, refusal}
@@ -34,10 +34,10 @@ use Rattle.converter.specs.declared.request.NextRequest.{NextRequest}
 
 -- ---- a request's text
 
-given-text : (q : Request Load) → givenText (q ∷ []) ≡ carried q
+given-text : (q : Queued Load) → givenText (q ∷ []) ≡ carried q
 unfolding givenText
-given-text (Request.timed d t i) = append-nil (textIn (i .load))
-given-text (Request.untimed r) = refl
+given-text (Queued.timed d t i) = append-nil (textIn (i .load))
+given-text (Queued.untimed r) = refl
 
 -- a row's text lies within its slot, and so within the texts
 slot-room : (o : Option ℕ) (s n : ℕ) → n ≡ orNone o → n < slotLength → slotLength * cond (given o) (s % textsLimit) noSlot + n ≤ textsLength
@@ -55,7 +55,7 @@ module _ (s : Store) where
   abbrev pub head : Row
   head = rowAt (s .words) (s .reals) (queueRow (queueHead (s .control)) 0)
 
-  abbrev row : ℕ → Request Load
+  abbrev row : ℕ → Queued Load
   row j = requestAt (s .texts) (rowAt (s .words) (s .reals) (queueRow (queueHead (s .control)) j))
 
   none-queued : queueLength (s .control) ≡ 0 → session s .requests ≡ []
@@ -68,14 +68,14 @@ module _ (s : Store) where
       let z : queueLength (s .control) ≡ suc (queueLength (s .control) - 1) = omega arith in
       requests-are s ∙ ap (λ (n : ℕ). tab n row) z
 
-  next-none : (clock : ℕ) → session s .requests ≡ [] → decide (view (session s)) clock (mapCall sight (Call.plain Plain.nextRequest)) ≡ answer plan.Outcome.none
+  next-none : (clock : ℕ) → session s .requests ≡ [] → decide (view (session s)) clock (mapCall sight (Call.plain Plain.nextRequest)) ≡ answer plan.Result.none
   unfolding mapCall decide decidePlain view mapSession nextOf
-  next-none clock e = ap (λ (rs : List (Request Load)). nextOf (map (mapRequest blank) rs)) e
+  next-none clock e = ap (λ (rs : List (Queued Load)). nextOf (map (mapQueued blank) rs)) e
 
-  next-some : (clock : ℕ) {r : Request Load} {rs : List (Request Load)} → session s .requests ≡ r ∷ rs
+  next-some : (clock : ℕ) {r : Queued Load} {rs : List (Queued Load)} → session s .requests ≡ r ∷ rs
       → decide (view (session s)) clock (mapCall sight (Call.plain Plain.nextRequest)) ≡ deliverPlan
   unfolding mapCall decide decidePlain view mapSession nextOf
-  next-some clock e = ap (λ (rs : List (Request Load)). nextOf (map (mapRequest blank) rs)) e
+  next-some clock e = ap (λ (rs : List (Queued Load)). nextOf (map (mapQueued blank) rs)) e
 
   module _ (buffer : List ℕ) (clock : ℕ) where
     abbrev nextStep : Step Load
@@ -97,7 +97,7 @@ module _ (s : Store) where
     unfolding split
     given-none w e =
         gives-unchanged NextRequest.None w refl
-        (step-answer (split (turn (Call.plain Plain.nextRequest) clock buffer)) (session s) plan.Outcome.none (next-none clock (none-queued e)))
+        (step-answer (split (turn (Call.plain Plain.nextRequest) clock buffer)) (session s) plan.Result.none (next-none clock (none-queued e)))
 
     module _ (l : 0 < queueLength (s .control)) {q : EisRequest} {n : ℕ} (is : q ≡ head .request) (size : n ≡ textLength q) where
       needed : textBytes (row 0 ∷ []) ≡ n
@@ -152,7 +152,7 @@ module _ (s : Store) where
               whole = w;
               view = done .view ∙ sym (ap (λ (x : Step Load). x .session) taken);
               outcome = sym (ap (λ (x : Step Load). x .outcome) taken);
-              gave = ap (λ (x : Request Load). x ∷ []) told ∙ sym gave-is;
+              gave = ap (λ (x : Queued Load). x ∷ []) told ∙ sym gave-is;
               bytes = copied ∙ ap (splice buffer 0) (sym (ap givenText gave-is ∙ held));
               kept = λ h. absurd (false≢true (sym (ap (λ (x : Step Load). refuses (x .outcome)) taken) ∙ h));
             }

@@ -7,7 +7,7 @@ use lib.Ieee.{Float}
 use lib.ListN.{length, take}
 use Rattle.wire.specs.Bits.{splice}
 use Rattle.model.specs.Call.{Load, Plain, Call, split}
-use Rattle.model.specs.Session.{Request, fresh}
+use Rattle.model.specs.Session.{Queued, fresh}
 use Rattle.model.specs.Plan as plan
 use Rattle.model.specs.Step.{Step, refuses, step}
 use Rattle.requests.specs.Request.{textLength}
@@ -23,22 +23,22 @@ use Rattle.answers.specs.declared.Outcome.{Outcome}
 use Rattle.answers.specs.declared.Answer.{Answer}
 use Rattle.converter.specs.declared.request.NextRequest.{NextRequest}
 
-abbrev pub nextOutcome : NextRequest → plan.Outcome
-nextOutcome (NextRequest.Given r) = plan.Outcome.given
-nextOutcome NextRequest.None = plan.Outcome.none
+abbrev pub nextOutcome : NextRequest → plan.Result
+nextOutcome (NextRequest.Given r) = plan.Result.given
+nextOutcome NextRequest.None = plan.Result.none
 nextOutcome (NextRequest.Refused e) = errorOf e
 
 -- what the answer and the buffer tell of the request that was given: a text is the buffer's first bytes
-abbrev pub givenIn : NextRequest → (buffer : List ℕ) → List (Request Load)
+abbrev pub givenIn : NextRequest → (buffer : List ℕ) → List (Queued Load)
 givenIn (NextRequest.Given r) buffer = requestIn r (take (textLength r) buffer) ∷ []
 givenIn NextRequest.None buffer = []
 givenIn (NextRequest.Refused e) buffer = []
 
 -- the text of what is given
-unfoldable pub givenText : List (Request Load) → List ℕ
+unfoldable pub givenText : List (Queued Load) → List ℕ
 givenText [] = []
-givenText (Request.timed d t i ∷ rs) = textIn (i .load) ++ givenText rs
-givenText (Request.untimed r ∷ rs) = givenText rs
+givenText (Queued.timed d t i ∷ rs) = textIn (i .load) ++ givenText rs
+givenText (Queued.untimed r ∷ rs) = givenText rs
 
 -- the answer is the step's
 pub record Gives (s e : Store) (buffer later : List ℕ) (to : Step Load) (r : NextRequest) : Type 0 where

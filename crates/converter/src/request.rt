@@ -1,5 +1,5 @@
 // `EisRequestConverter` of src/request.rs: what a client sends, gathered into timed frames, and handed over one by one.
-// A session lies in four lent slices; `store` says what they mean.
+// A session lies in four lent slices; `session` says what they mean.
 use answers::Answer;
 use answers::Error;
 use control::CONTROL_LENGTH;
@@ -64,62 +64,8 @@ pub fn handle_request(
     }
 }
 
-// A session as a Finish that succeeds leaves it: no seats, no devices, nothing queued. What is in the other slices does not count, so
-// that it is begun in the control words alone.
-pub fn new(control: &mut [u64], response: EisHandshakeResp) -> Answer
-    ensures { λ r. ⌜ Begins (now (control .entry)) (now (control .exit)) response r ⌝ }
-{
-    if control.len() != CONTROL_LENGTH {
-        return Answer::refused(Error::BadState);
-    }
-    control::edits::new(control, response.connection, response.serial, response.next);
-    let mut place: usize = 0;
-    while place < 12 {
-        let row = response.interfaces[place];
-        let at = place;
-        place += 1;
-        if row.negotiated {
-            control::edits::set_version(control, at, row.version);
-        }
-    }
-    Answer::accepted()
-}
-
-// What `next_request` gives: the oldest queued request, or that none is queued.
-pub enum NextRequest {
-    Given(EisRequest),
-    None,
-    Refused(Error),
-}
-
-// The oldest queued request, taken out of the queue. A text goes to the buffer: so many bytes as the request says.
-pub fn next_request(
-    control: &mut [u64],
-    words: &[u64],
-    reals: &[f32],
-    texts: &[u8],
-    buffer: &mut [u8],
-) -> NextRequest
-    ensures { λ r. ⌜ Delivers control words reals texts buffer r ⌝ }
-{
-    if !session::whole(control, words, reals, texts) {
-        return NextRequest::Refused(Error::BadState);
-    }
-    if control::queue_length(control) == 0 {
-        return NextRequest::None;
-    }
-    let request = queue::oldest(control, words, reals);
-    let n = request.text_length() as usize;
-    if buffer.len() < n {
-        return NextRequest::Refused(Error::ShortOut);
-    }
-    texts::copy_text(texts, queue::oldest_slot(control, words, reals), n, buffer);
-    queue::pop(control);
-    NextRequest::Given(request)
-}
-
 // A request on an interface of a device.
-pub fn handle_interface_request(
+fn handle_interface_request(
     control: &mut [u64],
     words: &mut [u64],
     reals: &mut [f32],
@@ -194,4 +140,58 @@ pub fn handle_interface_request(
             out,
         ),
     }
+}
+
+// A session as a Finish that succeeds leaves it: no seats, no devices, nothing queued. What is in the other slices does not count, so
+// that it is begun in the control words alone.
+pub fn new(control: &mut [u64], response: EisHandshakeResp) -> Answer
+    ensures { λ r. ⌜ Begins (now (control .entry)) (now (control .exit)) response r ⌝ }
+{
+    if control.len() != CONTROL_LENGTH {
+        return Answer::refused(Error::BadState);
+    }
+    control::edits::new(control, response.connection, response.serial, response.next);
+    let mut place: usize = 0;
+    while place < 12 {
+        let row = response.interfaces[place];
+        let at = place;
+        place += 1;
+        if row.negotiated {
+            control::edits::set_version(control, at, row.version);
+        }
+    }
+    Answer::accepted()
+}
+
+// What `next_request` gives: the oldest queued request, or that none is queued.
+pub enum NextRequest {
+    Given(EisRequest),
+    None,
+    Refused(Error),
+}
+
+// The oldest queued request, taken out of the queue. A text goes to the buffer: so many bytes as the request says.
+pub fn next_request(
+    control: &mut [u64],
+    words: &[u64],
+    reals: &[f32],
+    texts: &[u8],
+    buffer: &mut [u8],
+) -> NextRequest
+    ensures { λ r. ⌜ Delivers control words reals texts buffer r ⌝ }
+{
+    if !session::whole(control, words, reals, texts) {
+        return NextRequest::Refused(Error::BadState);
+    }
+    if control::queue_length(control) == 0 {
+        return NextRequest::None;
+    }
+    let request = queue::oldest(control, words, reals);
+    let n = request.text_length() as usize;
+    if buffer.len() < n {
+        return NextRequest::Refused(Error::ShortOut);
+    }
+    texts::copy_text(texts, queue::oldest_slot(control, words, reals), n, buffer);
+    queue::pop(control);
+    NextRequest::Given(request)
 }

@@ -123,4 +123,4 @@ module _ (s : Store) (whole : Whole s) (out : List ℕ) (device clock : ℕ) (ca
       let i = l ∙ ap lowestBit m ∙ mask-lowest capability in
       told-handled s out (Plain.hasCapability device capability) clock (Outcome.Truth b) r whole
       (capability-plan s device clock e capability
-      ∙ ap (λ (v : Bool). answer (plan.Outcome.truth v)) (sym (h ∙ ap (λ (n : ℕ). lists n (coreAt (s .control) k .interfaces)) i))) a
+      ∙ ap (λ (v : Bool). answer (plan.Result.truth v)) (sym (h ∙ ap (λ (n : ℕ). lists n (coreAt (s .control) k .interfaces)) i))) a

@@ -12,7 +12,7 @@ use Rattle.wire.specs.Record.{layout, textOf, fixedLength, recordLength}
 use Rattle.model.specs.Call.{Plain}
 use Rattle.model.specs.Session.{View, view}
 use Rattle.model.specs.Edit.{Edit, nextSerial}
-use Rattle.model.specs.Plan.{on, answer, refuse, send, Outcome}
+use Rattle.model.specs.Plan.{on, answer, refuse, send, Result}
 use Rattle.model.specs.Decide.{onFound, sendNext, notify, objectsOf, sendDestroyed, removeDevice, lists, decidePlain}
 use Rattle.model_steps.proofs.Counted.{quietAll, quiet-raise, quiet-amend}
 use Rattle.control.specs.Table.{first}
@@ -34,15 +34,15 @@ module _ (s : Store) (device clock : ℕ) where
   -- ---- unknown
 
   module _ (e : first (λ d. eqb (d .id) device) (coresOf (s .control)) ≡ none) where
-    pub remove-unknown : decidePlain (view (session s)) clock (Plain.removeDevice device) ≡ answer (Outcome.refused 12)
+    pub remove-unknown : decidePlain (view (session s)) clock (Plain.removeDevice device) ≡ answer (Result.refused 12)
     unfolding decidePlain removeDevice onFound refuse
     remove-unknown = rw (no-device s device e)
 
-    pub notice-unknown : (n : Notice) → decidePlain (view (session s)) clock (noticeCall n device) ≡ answer (Outcome.refused 12)
+    pub notice-unknown : (n : Notice) → decidePlain (view (session s)) clock (noticeCall n device) ≡ answer (Result.refused 12)
     unfolding notify onFound refuse
     notice-unknown n = notice-is (view (session s)) clock device n ∙ rw (no-device s device e)
 
-    pub capability-unknown : (capability : DeviceCapability) → decidePlain (view (session s)) clock (Plain.hasCapability device capability) ≡ answer (Outcome.refused 12)
+    pub capability-unknown : (capability : DeviceCapability) → decidePlain (view (session s)) clock (Plain.hasCapability device capability) ≡ answer (Result.refused 12)
     unfolding decidePlain onFound refuse
     capability-unknown capability = rw (no-device s device e)
 
@@ -60,7 +60,7 @@ module _ (s : Store) (device clock : ℕ) where
     notice-plan n = notice-is (view (session s)) clock device n ∙ rw (found-device s device e, view-connection s)
 
     pub capability-plan : (capability : DeviceCapability) → decidePlain (view (session s)) clock (Plain.hasCapability device capability)
-        ≡ answer (Outcome.truth (lists (capabilityIndex capability) (coreAt (s .control) k .interfaces)))
+        ≡ answer (Result.truth (lists (capabilityIndex capability) (coreAt (s .control) k .interfaces)))
     unfolding decidePlain onFound
     capability-plan capability = rw (found-device s device e, device-interfaces s k)
 

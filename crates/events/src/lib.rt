@@ -1,5 +1,5 @@
-// The events of the station's calls that are more than one record, written to the lent `out` from control words that no writer changes: what goes
-// is destroyed, what is new is announced. Each writer asks for room; how much it needs is told by a function beside it, before the first byte is
+// The events of a running session, written to the lent `out` from control words that no writer changes: what goes is destroyed, what is new is
+// announced. Each writer asks for room; how much it needs is told by a function beside it, before the first byte is
 // written.
 use control::Negotiated;
 use eiproto::event::DeviceCapability;

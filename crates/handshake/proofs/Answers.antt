@@ -25,8 +25,8 @@ use Rattle.handshake.specs.declared.handshake.InterfaceVersion.{Interfac
 use Rattle.handshake.specs.declared.handshake.EisHandshakeResp.{EisHandshakeResp}
 use Rattle.handshake.specs.declared.handshake.EisHandshaker.{EisHandshaker}
 use Rattle.handshake.specs.declared.handshake.HandshakeError.{HandshakeError}
-use Rattle.handshake.specs.declared.handshake.Outcome.{Outcome}
-use Rattle.handshake.specs.declared.handshake.Answer.{Answer}
+use Rattle.handshake.specs.declared.handshake.HandshakeOutcome.{HandshakeOutcome}
+use Rattle.handshake.specs.declared.handshake.HandshakeAnswer.{HandshakeAnswer}
 
 -- the blank response's name
 blank-named : noResponse .name .length ≤ 254
@@ -34,18 +34,18 @@ unfolding noResponse noName
 blank-named = omega arith
 
 -- a refusal, and an acceptance of which the handshake is g; nothing is written
-pub refused-meets : (h : EisHandshaker) (e : HandshakeError) {s : paper.Step} {r : Answer} → isSound h ≡ true → s ≡ paper.refuse (viewOf h) (number e)
-    → r ≡ unfinished h (Outcome.Refused e) 0 → (out : List ℕ) → Meets out out s r
+pub refused-meets : (h : EisHandshaker) (e : HandshakeError) {s : paper.Step} {r : HandshakeAnswer} → isSound h ≡ true → s ≡ paper.refuse (viewOf h) (number e)
+    → r ≡ unfinished h (HandshakeOutcome.Refused e) 0 → (out : List ℕ) → Meets out out s r
 unfolding paper.refuse outcomeOf
 refused-meets h e sound p q out =
     rw (p, q) (record { handshake = refl; outcome = refl; count = refl; buffer = sym (splice-none out 0); sound = sound; blank = λ _. refl; named = blank-named })
 
-pub refused-done : (h : EisHandshaker) (e : HandshakeError) {s : paper.Step} {r : Answer} → isSound h ≡ true → s ≡ paper.refuse (viewOf h) (number e)
-    → r ≡ unfinished h (Outcome.Refused e) 0 → (out : List ℕ) → Done h out out s r
-refused-done h e sound p q out = record { meets = refused-meets h e sound p q out; kept = λ _. ap (λ (a : Answer). a .handshaker) q }
+pub refused-done : (h : EisHandshaker) (e : HandshakeError) {s : paper.Step} {r : HandshakeAnswer} → isSound h ≡ true → s ≡ paper.refuse (viewOf h) (number e)
+    → r ≡ unfinished h (HandshakeOutcome.Refused e) 0 → (out : List ℕ) → Done h out out s r
+refused-done h e sound p q out = record { meets = refused-meets h e sound p q out; kept = λ _. ap (λ (a : HandshakeAnswer). a .handshaker) q }
 
-pub accepted-done : (h g : EisHandshaker) {s : paper.Step} {r : Answer} → isSound g ≡ true → s ≡ paper.accept (viewOf g)
-    → r ≡ unfinished g Outcome.Accepted 0 → (out : List ℕ) → Done h out out s r
+pub accepted-done : (h g : EisHandshaker) {s : paper.Step} {r : HandshakeAnswer} → isSound g ≡ true → s ≡ paper.accept (viewOf g)
+    → r ≡ unfinished g HandshakeOutcome.Accepted 0 → (out : List ℕ) → Done h out out s r
 unfolding paper.accept outcomeOf
 accepted-done h g sound p q out =
     rw (p, q)
@@ -65,8 +65,8 @@ abbrev freshly : Name → List InterfaceVersion → (serial : ℕ) → EisHandsh
 freshly name interfaces serial = record { name = name; context = Context.Unknown; interfaces = interfaces; serial = serial; next = firstServerId }
 
 pub fresh-view : (serial : ℕ) {name : Name} {interfaces : List InterfaceVersion} → name ≡ noName → interfaces ≡ noInterfaces
-    → viewOf (freshly name interfaces serial) ≡ paper.fresh serial
-unfolding viewOf noName paper.fresh
+    → viewOf (freshly name interfaces serial) ≡ paper.freshHandshake serial
+unfolding viewOf noName paper.freshHandshake
 fresh-view serial unnamed e = rw (unnamed, e, versions-none)
 
 pub fresh-sound : (serial : ℕ) {name : Name} (interfaces : List InterfaceVersion) → name ≡ noName → isSound (freshly name interfaces serial) ≡ true
@@ -81,9 +81,9 @@ unfolding event
 event-some = rw length-sent (omega (arith, fixed-least (Event.HandshakeVersion 1)))
 
 -- its event was put, or there was no room for it
-module _ (h : EisHandshaker) (serial : ℕ) (is : viewOf h ≡ paper.fresh serial) (sound : isSound h ≡ true) {out later : List ℕ} {n : ℕ}
-    (put : PutWhole out later 0 (paper.sent (Event.HandshakeVersion 1)) n) {r : Answer} where
-  pub start-refused : n ≡ 0 → r ≡ unfinished h (Outcome.Refused HandshakeError.ShortOut) 0 → Meets out later (paper.start serial (length out)) r
+module _ (h : EisHandshaker) (serial : ℕ) (is : viewOf h ≡ paper.freshHandshake serial) (sound : isSound h ≡ true) {out later : List ℕ} {n : ℕ}
+    (put : PutWhole out later 0 (paper.sent (Event.HandshakeVersion 1)) n) {r : HandshakeAnswer} where
+  pub start-refused : n ≡ 0 → r ≡ unfinished h (HandshakeOutcome.Refused HandshakeError.ShortOut) 0 → Meets out later (paper.start serial (length out)) r
   unfolding event paper.start
   start-refused e q =
       dite (decLe (0 + length event) (length out))
@@ -91,23 +91,23 @@ module _ (h : EisHandshaker) (serial : ℕ) (is : viewOf h ≡ paper.fresh seria
       (λ l.
       let none-fits = fitted-none out 0 event (omega arith) in
       rw (put .buffer, none-fits, splice-none)
-      (refused-meets h HandshakeError.ShortOut sound (room-short (paper.fresh serial) (length out) (paper.begun serial) (omega arith) ∙ rw is) q out))
+      (refused-meets h HandshakeError.ShortOut sound (room-short (paper.freshHandshake serial) (length out) (paper.begun serial) (omega arith) ∙ rw is) q out))
 
-  pub start-accepted : (n ≡ 0 → ⊥) → r ≡ unfinished h Outcome.Accepted n → Meets out later (paper.start serial (length out)) r
+  pub start-accepted : (n ≡ 0 → ⊥) → r ≡ unfinished h HandshakeOutcome.Accepted n → Meets out later (paper.start serial (length out)) r
   unfolding event paper.start outcomeOf
   start-accepted e q =
       dite (decLe (0 + length event) (length out))
       (λ l.
       let fits = fitted-all out 0 event l in
-      rw (room-enough (paper.fresh serial) (length out) (paper.begun serial) (omega arith), q)
+      rw (room-enough (paper.freshHandshake serial) (length out) (paper.begun serial) (omega arith), q)
       (record { handshake = is; outcome = refl; count = put .count ∙ ap length fits; buffer = put .buffer ∙ ap (splice out 0) fits; sound = sound; blank = λ _. refl; named = blank-named }))
       (λ l. absurd (e (put .count ∙ ap length (fitted-none out 0 event (omega arith)))))
 
 -- ---- Finish
 
 -- 9, behind its report
-pub missing-done : (h : EisHandshaker) {out later : List ℕ} {n : ℕ} {s : paper.Step} {r : Answer} → isSound h ≡ true → s ≡ paper.missing (viewOf h)
-    → Wrote out later 0 n (paper.report 1 (versionsOf (h .interfaces))) n → r ≡ unfinished h (Outcome.Refused HandshakeError.MissingInterface) n → Done h out later s r
+pub missing-done : (h : EisHandshaker) {out later : List ℕ} {n : ℕ} {s : paper.Step} {r : HandshakeAnswer} → isSound h ≡ true → s ≡ paper.missing (viewOf h)
+    → Wrote out later 0 n (paper.report 1 (versionsOf (h .interfaces))) n → r ≡ unfinished h (HandshakeOutcome.Refused HandshakeError.MissingInterface) n → Done h out later s r
 unfolding paper.missing viewOf outcomeOf
 missing-done h sound p w q =
     rw (p, q)
@@ -117,11 +117,11 @@ missing-done h sound p w q =
     })
 
 -- the answer to a Finish that succeeds
-abbrev pub finished : EisHandshaker → List InterfaceVersion → (next : ℕ) → EisHandshakeResp → (count : ℕ) → Answer
+abbrev pub finished : EisHandshaker → List InterfaceVersion → (next : ℕ) → EisHandshakeResp → (count : ℕ) → HandshakeAnswer
 finished h none next response count =
     record {
       handshaker = record { name = h .name; context = h .context; interfaces = none; serial = h .serial; next = next };
-      outcome = Outcome.Finished;
+      outcome = HandshakeOutcome.Finished;
       response = response;
       count = count;
     }
@@ -138,7 +138,7 @@ concluded-done h sound p e none-is settles names w put fits =
       meets =
           record {
             handshake = rw (e, none-is, versions-none);
-            outcome = ap paper.Outcome.finished settles;
+            outcome = ap paper.Result.finished settles;
             count = omega (arith, v .next, v .long);
             buffer = v .buffer;
             sound = sound;
@@ -154,11 +154,11 @@ pub sound-is : (h : EisHandshaker) → h .name .length ≤ 254 → isSound h ≡
 unfolding isSound
 sound-is h l = le-leb (h .name .length) 254 l
 
-pub handled : (h : EisHandshaker) (request : paper.Request) {out later : List ℕ} {r : Answer} → h .name .length ≤ 254
+pub handled : (h : EisHandshaker) (request : paper.Message) {out later : List ℕ} {r : HandshakeAnswer} → h .name .length ≤ 254
     → Done h out later (paper.handleRequest (viewOf h) request (length out)) r → Handled h request out later r
 handled h request l d = record { damaged = λ t. absurd (false≢true (sym t ∙ sound-is h l)); done = λ _. d }
 
-pub handled-damaged : (h : EisHandshaker) (request : paper.Request) {r : Answer} → 254 < h .name .length
-    → r ≡ unfinished h (Outcome.Refused HandshakeError.BadState) 0 → (out : List ℕ) → Handled h request out out r
+pub handled-damaged : (h : EisHandshaker) (request : paper.Message) {r : HandshakeAnswer} → 254 < h .name .length
+    → r ≡ unfinished h (HandshakeOutcome.Refused HandshakeError.BadState) 0 → (out : List ℕ) → Handled h request out out r
 unfolding isSound
 handled-damaged h request l q out = record { damaged = λ _. (q, refl); done = λ t. absurd (false≢true (sym (lt-leb (h .name .length) 254 l) ∙ t)) }

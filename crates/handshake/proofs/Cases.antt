@@ -15,7 +15,7 @@ use Rattle.eiproto.proofs.Interface.{lookup-some}
 use Rattle.utf8.specs.Rfc3629.{isUtf8}
 use Rattle.wire.specs.Ids.{newObjects}
 use Rattle.wire.specs.declared.backend.NewObjects.{NewObjects}
-use Rattle.handshake.specs.Handshake.{Handshake, Request, Step, refuse, accept, checkUtf8, checkRoom, setName, setContext, negotiate, complete, concluded, missing, finish, handleRequest}
+use Rattle.handshake.specs.Handshake.{Handshake, Message, Step, refuse, accept, checkUtf8, checkRoom, setName, setContext, negotiate, complete, concluded, missing, finish, handleRequest}
 
 module _ (h : Handshake) (room : ℕ) where
   pub room-short : (s : Step) → room < length (s .bytes) → checkRoom h room s ≡ refuse h 19
@@ -27,49 +27,49 @@ module _ (h : Handshake) (room : ℕ) where
   room-enough s l = rw (le-ltb room (length (s .bytes)) l)
 
   module _ (text : List ℕ) where
-    pub name-bad : isUtf8 text ≡ false → handleRequest h (Request.Name text) room ≡ refuse h 10
+    pub name-bad : isUtf8 text ≡ false → handleRequest h (Message.Name text) room ≡ refuse h 10
     unfolding handleRequest checkUtf8
     name-bad e = rw e
 
-    pub version-bad : (v : ℕ) → isUtf8 text ≡ false → handleRequest h (Request.InterfaceVersion text v) room ≡ refuse h 10
+    pub version-bad : (v : ℕ) → isUtf8 text ≡ false → handleRequest h (Message.InterfaceVersion text v) room ≡ refuse h 10
     unfolding handleRequest checkUtf8
     version-bad v e = rw e
 
-    pub other-bad : isUtf8 text ≡ false → handleRequest h (Request.Other text) room ≡ refuse h 10
+    pub other-bad : isUtf8 text ≡ false → handleRequest h (Message.Other text) room ≡ refuse h 10
     unfolding handleRequest checkUtf8
     other-bad e = rw e
 
     module _ (valid : isUtf8 text ≡ true) where
-      pub name-long : 254 < length text → handleRequest h (Request.Name text) room ≡ refuse h 11
+      pub name-long : 254 < length text → handleRequest h (Message.Name text) room ≡ refuse h 11
       unfolding handleRequest checkUtf8
       name-long l = rw (valid, lt-ltb 254 (length text) l)
 
-      pub name-twice : length text ≤ 254 → {old : List ℕ} → h .name ≡ some old → handleRequest h (Request.Name text) room ≡ refuse h 8
+      pub name-twice : length text ≤ 254 → {old : List ℕ} → h .name ≡ some old → handleRequest h (Message.Name text) room ≡ refuse h 8
       unfolding handleRequest checkUtf8 setName
       name-twice l e = rw (valid, le-ltb 254 (length text) l, e)
 
       pub name-first : length text ≤ 254 → h .name ≡ none
-          → handleRequest h (Request.Name text) room
+          → handleRequest h (Message.Name text) room
           ≡ accept (record { name = some text; contextType = h .contextType; versions = h .versions; initialSerial = h .initialSerial; nextId = h .nextId })
       unfolding handleRequest checkUtf8 setName
       name-first l e = rw (valid, le-ltb 254 (length text) l, e)
 
       pub version-set : (v : ℕ) {found : Option ℕ} → found ≡ lookup text
-          → handleRequest h (Request.InterfaceVersion text v) room
+          → handleRequest h (Message.InterfaceVersion text v) room
           ≡ accept (record { name = h .name; contextType = h .contextType; versions = negotiate found v (h .versions); initialSerial = h .initialSerial; nextId = h .nextId })
       unfolding handleRequest checkUtf8
       version-set v e = rw (valid, ← e)
 
-      pub other-away : handleRequest h (Request.Other text) room ≡ refuse h 7
+      pub other-away : handleRequest h (Message.Other text) room ≡ refuse h 7
       unfolding handleRequest checkUtf8
       other-away = rw valid
 
-  pub context-twice : (c : ContextType) {old : ContextType} → h .contextType ≡ some old → handleRequest h (Request.Context c) room ≡ refuse h 8
+  pub context-twice : (c : ContextType) {old : ContextType} → h .contextType ≡ some old → handleRequest h (Message.Context c) room ≡ refuse h 8
   unfolding handleRequest setContext
   context-twice c e = rw e
 
   pub context-first : (c : ContextType) → h .contextType ≡ none
-      → handleRequest h (Request.Context c) room
+      → handleRequest h (Message.Context c) room
       ≡ accept (record { name = h .name; contextType = some c; versions = h .versions; initialSerial = h .initialSerial; nextId = h .nextId })
   unfolding handleRequest setContext
   context-first c e = rw e

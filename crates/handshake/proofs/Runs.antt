@@ -15,9 +15,9 @@ use Rattle.wire.specs.Bits.{splice}
 use Rattle.handshake.specs.Handshake as paper
 use Rattle.handshake.specs.Handshake.{Handshake, Step, refuse, accept, checkUtf8, checkRoom, setName, setContext, complete, concluded, missing, finish, handleRequest}
 use Rattle.handshake.specs.View.{viewOf, isSound, Meets}
-use Rattle.handshake.specs.Run.{Call, run, trail, Equal-calls, given, ids, Ids-rise, Second-finish, Exchange, callOf, seenIn, seen, Made, Seen-is-trail, Equal-seen}
+use Rattle.handshake.specs.Run.{Call, run, trail, Equal-calls, given, ids, Ids-rise, Second-finish, HandshakeExchange, callOf, seenIn, seen, HandshakeCalls, Seen-is-trail, Equal-handshakes}
 use Rattle.handshake.specs.declared.handshake.EisHandshaker.{EisHandshaker}
-use Rattle.handshake.specs.declared.handshake.Answer.{Answer}
+use Rattle.handshake.specs.declared.handshake.HandshakeAnswer.{HandshakeAnswer}
 
 -- a trail is a function of the serial, the first room and the calls, and of nothing else: so it is congruence
 pub equal-calls : Equal-calls
@@ -60,15 +60,15 @@ module _ (h : Handshake) where
   context-gives c none = Gives.nothing refl refl
   context-gives c (some old) = refuse-gives 8
 
-  step-gives : (r : paper.Request) (room : ℕ) → Gives h (handleRequest h r room)
+  step-gives : (r : paper.Message) (room : ℕ) → Gives h (handleRequest h r room)
   unfolding handleRequest checkUtf8 accept given
-  step-gives (paper.Request.HandshakeVersion v) room = Gives.nothing refl refl
-  step-gives paper.Request.Finish room = finish-gives room
-  step-gives (paper.Request.Context c) room = context-gives c (h .contextType)
-  step-gives (paper.Request.Name name) room =
+  step-gives (paper.Message.HandshakeVersion v) room = Gives.nothing refl refl
+  step-gives paper.Message.Finish room = finish-gives room
+  step-gives (paper.Message.Context c) room = context-gives c (h .contextType)
+  step-gives (paper.Message.Name name) room =
       cond-gives (isUtf8 name) (cond-gives (ltb 254 (length name)) (refuse-gives 11) (name-gives name (h .name))) (refuse-gives 10)
-  step-gives (paper.Request.InterfaceVersion name v) room = cond-gives (isUtf8 name) (Gives.nothing refl refl) (refuse-gives 10)
-  step-gives (paper.Request.Other text) room = cond-gives (isUtf8 text) (refuse-gives 7) (refuse-gives 10)
+  step-gives (paper.Message.InterfaceVersion name v) room = cond-gives (isUtf8 name) (Gives.nothing refl refl) (refuse-gives 10)
+  step-gives (paper.Message.Other text) room = cond-gives (isUtf8 text) (refuse-gives 7) (refuse-gives 10)
 
 -- from n on, each above the one before
 data Rising : ℕ → List ℕ → Type 0 where
@@ -101,12 +101,12 @@ ids-rise cs h = rising-order (run-rises cs h)
 -- ---- a second Finish
 
 -- a Finish that succeeds is concluded
-finished-is : (h : Handshake) (room : ℕ) (r : paper.Response) → finish h room .outcome ≡ paper.Outcome.finished r → finish h room ≡ concluded h
+finished-is : (h : Handshake) (room : ℕ) (r : paper.Response) → finish h room .outcome ≡ paper.Result.finished r → finish h room ≡ concluded h
 unfolding finish checkRoom refuse missing
 finished-is h room r =
     go (complete (h .versions)) (ltb 0xffff_ffff_ffff_ffff (h .nextId + 1)) (ltb room (length (concluded h .bytes))) (ltb room (length (missing h .bytes)))
   where
-    go : (a b c d : Bool) → cond a (cond b (refuse h 20) (cond c (refuse h 19) (concluded h))) (cond d (refuse h 19) (missing h)) .outcome ≡ paper.Outcome.finished r
+    go : (a b c d : Bool) → cond a (cond b (refuse h 20) (cond c (refuse h 19) (concluded h))) (cond d (refuse h 19) (missing h)) .outcome ≡ paper.Result.finished r
         → cond a (cond b (refuse h 20) (cond c (refuse h 19) (concluded h))) (cond d (refuse h 19) (missing h)) ≡ concluded h
     go true true c d e = absurd (let z : _≡_ {A = ℕ} 0 1 = cc in omega arith)
     go true false true d e = absurd (let z : _≡_ {A = ℕ} 0 1 = cc in omega arith)
@@ -124,16 +124,16 @@ second-finish h room room′ r e = rw (finished-is h room r e) (after-conclusion
 -- ---- the code
 
 -- the bytes at the start of the buffer, as many as the count says, are the step's
-meets-seen : (out : List ℕ) {later : List ℕ} {s : Step} {r : Answer} → Meets out later s r → seenIn r later ≡ s
+meets-seen : (out : List ℕ) {later : List ℕ} {s : Step} {r : HandshakeAnswer} → Meets out later s r → seenIn r later ≡ s
 unfolding splice
 meets-seen out {later} {s} {r} m =
     let e : take (r .count) later ≡ s .bytes = rw (m .count, m .buffer) (take-append-seam (s .bytes) (drop (0 + length (s .bytes)) out)) in
     λ i. record { handshake = m .handshake i; outcome = m .outcome i; bytes = e i }
 
-seen-is-run : (h : EisHandshaker) (xs : List Exchange) → isSound h ≡ true → Made h xs → map seen xs ≡ run (map callOf xs) (viewOf h)
+seen-is-run : (h : EisHandshaker) (xs : List HandshakeExchange) → isSound h ≡ true → HandshakeCalls h xs → map seen xs ≡ run (map callOf xs) (viewOf h)
 unfolding run
-seen-is-run h [] sound Made.none = refl
-seen-is-run h (x ∷ xs) sound (Made.next d rest) =
+seen-is-run h [] sound HandshakeCalls.none = refl
+seen-is-run h (x ∷ xs) sound (HandshakeCalls.next d rest) =
     let m = d .done sound .meets in
     ap₂ (λ (s : Step) (l : List Step). s ∷ l) (meets-seen (x .out) m) (seen-is-run (x .answer .handshaker) xs (m .sound) rest ∙ ap (run (map callOf xs)) (m .handshake))
 
@@ -142,6 +142,6 @@ unfolding trail
 seen-is-trail serial out later r xs m made =
     ap₂ (λ (s : Step) (l : List Step). s ∷ l) (meets-seen out m) (seen-is-run (r .handshaker) xs (m .sound) made ∙ ap (run (map callOf xs)) (m .handshake))
 
-pub equal-seen : Equal-seen
-equal-seen serial out out′ later later′ r r′ xs xs′ m m′ made made′ e f =
+pub equal-handshakes : Equal-handshakes
+equal-handshakes serial out out′ later later′ r r′ xs xs′ m m′ made made′ e f =
     seen-is-trail serial out later r xs m made ∙ (λ i. trail serial (e i) (f i)) ∙ sym (seen-is-trail serial out′ later′ r′ xs′ m′ made′)

@@ -1,4 +1,4 @@
--- Worked cases: a whole handshake, call by call, as document 01 has it answered; and the last ids. Assumes nothing.
+-- Worked cases: a whole handshake, call by call, as the scope has it answered; and the last ids. Assumes nothing.
 use Prim.Native.Nat.{ℕ}
 use mathlib.Core.List.{List, [], _∷_, _++_, map}
 use mathlib.Core.Option.{none, some}
@@ -6,33 +6,33 @@ use mathlib.Core.Path.{_≡_, refl}
 use lib.ListN.{replicate}
 use Rattle.eiproto.specs.Interface.{ascii}
 use Rattle.eiproto.specs.declared.eiproto_enum.ContextType.{ContextType}
-use Rattle.handshake.specs.Handshake.{Handshake, Request, Outcome, Step, finish}
+use Rattle.handshake.specs.Handshake.{Handshake, Message, Result, Step, finish}
 use Rattle.handshake.specs.Run.{Call, trail}
 
 abbrev Answered : Type 0
-Answered = Outcome × List ℕ
+Answered = Result × List ℕ
 
 answers : List Step → List Answered
 answers ss = map (λ (s : Step). (s .outcome, s .bytes)) ss
 
-call : ℕ → Request → Call
+call : ℕ → Message → Call
 call room r = record { request = r; room = room }
 
-version : List ℕ → ℕ → Request
-version name v = Request.InterfaceVersion name v
+version : List ℕ → ℕ → Message
+version name v = Message.InterfaceVersion name v
 
 -- the record of kind 17, 15 bytes long, of object 0: interface i at version v
 versionRecord : (i v : ℕ) → List ℕ
 versionRecord i v = 0x88 ∷ 0x0f ∷ 0 ∷ 0 ∷ 0 ∷ 0 ∷ 0 ∷ 0 ∷ 0 ∷ 0 ∷ i ∷ 0 ∷ 0 ∷ 0 ∷ v ∷ []
 
 refused : ℕ → Answered
-refused n = (Outcome.refused n, [])
+refused n = (Result.refused n, [])
 
 accepted : Answered
-accepted = (Outcome.accepted, [])
+accepted = (Result.accepted, [])
 
 -- a start that has room: kind 16, 14 bytes, object 0, version 1
-starts : answers (trail 7 14 []) ≡ (Outcome.accepted, 0x80 ∷ 0x0e ∷ 0 ∷ 0 ∷ 0 ∷ 0 ∷ 0 ∷ 0 ∷ 0 ∷ 0 ∷ 0 ∷ 0 ∷ 0 ∷ 1 ∷ []) ∷ []
+starts : answers (trail 7 14 []) ≡ (Result.accepted, 0x80 ∷ 0x0e ∷ 0 ∷ 0 ∷ 0 ∷ 0 ∷ 0 ∷ 0 ∷ 0 ∷ 0 ∷ 0 ∷ 0 ∷ 0 ∷ 1 ∷ []) ∷ []
 unfolding answers trail
 starts = refl
 
@@ -42,21 +42,21 @@ calls : List Call
 unfolding call version ascii
 calls =
     map (call 4096)
-    (Request.Other [] ∷ Request.Other [] ∷ Request.Other [] ∷ Request.Other (0x80 ∷ []) ∷ Request.Finish ∷ Request.HandshakeVersion 1 ∷ Request.HandshakeVersion 77
-    ∷ Request.Name (replicate 255 0x61) ∷ Request.Name (replicate 255 0x80) ∷ Request.Name [] ∷ Request.Name (0x61 ∷ [])
-    ∷ Request.Name (replicate 255 0x61) ∷ Request.Context ContextType.Sender ∷ Request.Context ContextType.Sender
+    (Message.Other [] ∷ Message.Other [] ∷ Message.Other [] ∷ Message.Other (0x80 ∷ []) ∷ Message.Finish ∷ Message.HandshakeVersion 1 ∷ Message.HandshakeVersion 77
+    ∷ Message.Name (replicate 255 0x61) ∷ Message.Name (replicate 255 0x80) ∷ Message.Name [] ∷ Message.Name (0x61 ∷ [])
+    ∷ Message.Name (replicate 255 0x61) ∷ Message.Context ContextType.Sender ∷ Message.Context ContextType.Sender
     ∷ version (ascii "ei_connection") 1 ∷ version (ascii "ei_handshake") 1 ∷ version (replicate 300 0x61) 1 ∷ version (0xff ∷ []) 1
     ∷ version (ascii "ei_device") 100 ∷ version (ascii "ei_device") 2 ∷ version (ascii "ei_touchscreen") 0 ∷ version (ascii "ei_callback") 1 ∷ [])
-    ++ (call 59 Request.Finish ∷ call 60 Request.Finish ∷ call 0 (version (ascii "ei_pingpong") 0xffff_ffff) ∷ call 100 Request.Finish
-    ∷ call 101 Request.Finish ∷ call 0 Request.Finish ∷ [])
+    ++ (call 59 Message.Finish ∷ call 60 Message.Finish ∷ call 0 (version (ascii "ei_pingpong") 0xffff_ffff) ∷ call 100 Message.Finish
+    ∷ call 101 Message.Finish ∷ call 0 Message.Finish ∷ [])
 
 whole-handshake : answers (trail 1000 13 calls)
     ≡ refused 19
     ∷ (refused 7 ∷ refused 7 ∷ refused 7 ∷ refused 10 ∷ refused 9 ∷ accepted ∷ accepted ∷ refused 11 ∷ refused 10 ∷ accepted ∷ refused 8 ∷ refused 11 ∷ accepted ∷ refused 8
     ∷ accepted ∷ accepted ∷ accepted ∷ refused 10 ∷ accepted ∷ accepted ∷ accepted ∷ accepted ∷ [])
-    ++ (refused 19 ∷ (Outcome.refused 9, versionRecord 1 1 ++ (versionRecord 2 1 ++ (versionRecord 5 2 ++ versionRecord 11 0))) ∷ accepted ∷ refused 19
+    ++ (refused 19 ∷ (Result.refused 9, versionRecord 1 1 ++ (versionRecord 2 1 ++ (versionRecord 5 2 ++ versionRecord 11 0))) ∷ accepted ∷ refused 19
     ∷ (
-      Outcome.finished
+      Result.finished
           (record {
             connection = 0xff00_0000_0000_0000;
             name = some [];
@@ -77,7 +77,7 @@ ready : (nextId : ℕ) → Handshake
 ready n = record { name = none; contextType = none; versions = some 1 ∷ some 1 ∷ some 1 ∷ replicate 9 none; initialSerial = 5; nextId = n }
 
 last-id : finish (ready 0xffff_ffff_ffff_fffe) 71 .outcome
-    ≡ Outcome.finished
+    ≡ Result.finished
     (record {
       connection = 0xffff_ffff_ffff_fffe;
       name = none;
@@ -89,6 +89,6 @@ last-id : finish (ready 0xffff_ffff_ffff_fffe) 71 .outcome
 unfolding finish ready
 last-id = refl
 
-ids-spent : finish (ready 0xffff_ffff_ffff_ffff) 0 .outcome ≡ Outcome.refused 20
+ids-spent : finish (ready 0xffff_ffff_ffff_ffff) 0 .outcome ≡ Result.refused 20
 unfolding finish ready
 ids-spent = refl

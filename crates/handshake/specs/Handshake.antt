@@ -1,4 +1,4 @@
--- The server half of the handshake: `EisHandshaker` of src/handshake.rs, under document 01's refusals. Assumes nothing.
+-- The server half of the handshake: `EisHandshaker` of src/handshake.rs, with its refusals. Assumes nothing.
 use Prim.Native.Nat.{ℕ, _+_, _-_, min}
 use mathlib.Core.Bool.{Bool, true, false, _&&_, cond}
 use mathlib.Core.List.{List, [], _∷_, _++_}
@@ -16,20 +16,20 @@ use Rattle.wire.specs.declared.event.Event.{Event}
 pub record Handshake : Type 0 where
   pub name : Option (List ℕ)
   pub contextType : Option ContextType
-  -- of the twelve interfaces, in document 01's order: the negotiated version, or none
+  -- of the twelve interfaces, in the order of their numbers: the negotiated version, or none
   pub versions : List (Option ℕ)
   pub initialSerial : ℕ
   pub nextId : ℕ
 
 -- what a client may send
-pub data Request : Type 0 where
-  HandshakeVersion : (version : ℕ) → Request
-  Finish : Request
-  Context : (contextType : ContextType) → Request
-  Name : (name : List ℕ) → Request
-  InterfaceVersion : (name : List ℕ) (version : ℕ) → Request
+pub data Message : Type 0 where
+  HandshakeVersion : (version : ℕ) → Message
+  Finish : Message
+  Context : (contextType : ContextType) → Message
+  Name : (name : List ℕ) → Message
+  InterfaceVersion : (name : List ℕ) (version : ℕ) → Message
   -- a request of another interface, with the text that it carries, if any
-  Other : (text : List ℕ) → Request
+  Other : (text : List ℕ) → Message
 
 -- what a successful Finish settles (`EisHandshakeResp`): the session goes on after its connection's id
 pub record Response : Type 0 where
@@ -40,15 +40,15 @@ pub record Response : Type 0 where
   pub serial : ℕ
   pub nextId : ℕ
 
-pub data Outcome : Type 0 where
-  accepted : Outcome
-  refused : (number : ℕ) → Outcome
-  finished : Response → Outcome
+pub data Result : Type 0 where
+  accepted : Result
+  refused : (number : ℕ) → Result
+  finished : Response → Result
 
 -- what a call comes to: the handshake after it, the answer, the event bytes
 pub record Step : Type 0 where
   pub handshake : Handshake
-  pub outcome : Outcome
+  pub outcome : Result
   pub bytes : List ℕ
 
 -- ---- the interfaces
@@ -90,10 +90,10 @@ report i (v ∷ vs) = reportOne i v ++ report (i + 1) vs
 -- ---- the calls
 
 unfoldable pub refuse : Handshake → ℕ → Step
-refuse h n = record { handshake = h; outcome = Outcome.refused n; bytes = [] }
+refuse h n = record { handshake = h; outcome = Result.refused n; bytes = [] }
 
 unfoldable pub accept : Handshake → Step
-accept h = record { handshake = h; outcome = Outcome.accepted; bytes = [] }
+accept h = record { handshake = h; outcome = Result.accepted; bytes = [] }
 
 -- "10 BAD_UTF8: a lent text that is not UTF-8", with every request that carries one
 unfoldable pub checkUtf8 : Handshake → List ℕ → Step → Step
@@ -105,19 +105,19 @@ unfoldable pub checkRoom : Handshake → (room : ℕ) → Step → Step
 unfolding refuse
 checkRoom h room step = cond (ltb room (length (step .bytes))) (refuse h 19) step
 
-unfoldable pub fresh : (serial : ℕ) → Handshake
+unfoldable pub freshHandshake : (serial : ℕ) → Handshake
 unfolding noVersions
-fresh serial = record { name = none; contextType = none; versions = noVersions; initialSerial = serial; nextId = firstServerId }
+freshHandshake serial = record { name = none; contextType = none; versions = noVersions; initialSerial = serial; nextId = firstServerId }
 
 -- "starting sends handshake version 1"
 unfoldable pub begun : (serial : ℕ) → Step
-unfolding fresh sent
-begun serial = record { handshake = fresh serial; outcome = Outcome.accepted; bytes = sent (Event.HandshakeVersion 1) }
+unfolding freshHandshake sent
+begun serial = record { handshake = freshHandshake serial; outcome = Result.accepted; bytes = sent (Event.HandshakeVersion 1) }
 
 -- "refused with 19, it still hands back a fresh handshake"
 unfoldable pub start : (serial room : ℕ) → Step
 unfolding checkRoom begun
-start serial room = checkRoom (fresh serial) room (begun serial)
+start serial room = checkRoom (freshHandshake serial) room (begun serial)
 
 -- "8 DUPLICATE_EVENT: a second Name or ContextType"
 unfoldable pub setName : Handshake → List ℕ → Option (List ℕ) → Step
@@ -161,7 +161,7 @@ unfolding noVersions report sent settled
 concluded h =
     record {
       handshake = record { name = h .name; contextType = h .contextType; versions = noVersions; initialSerial = h .initialSerial; nextId = h .nextId + 1 };
-      outcome = Outcome.finished (settled h);
+      outcome = Result.finished (settled h);
       bytes = report 1 (h .versions) ++ sent (Event.Connection (h .nextId) (h .initialSerial) 1);
     }
 
@@ -169,7 +169,7 @@ concluded h =
 -- that a later Finish reports them again
 unfoldable pub missing : Handshake → Step
 unfolding report
-missing h = record { handshake = h; outcome = Outcome.refused 9; bytes = report 1 (h .versions) }
+missing h = record { handshake = h; outcome = Result.refused 9; bytes = report 1 (h .versions) }
 
 -- 20, then 19, then 9. "20 IDS_SPENT: the next object id after the call would exceed 2^64 − 1", so the id 2^64 − 1 is never given.
 -- A Finish that ends in 9 gives no id, and needs room for its own records alone
@@ -181,16 +181,16 @@ finish h room =
     (checkRoom h room (missing h))
 
 -- `EisHandshaker::handle_request`, on a handshake whose stored count is within its limit
-unfoldable pub handleRequest : Handshake → Request → (room : ℕ) → Step
+unfoldable pub handleRequest : Handshake → Message → (room : ℕ) → Step
 unfolding accept refuse finish setName setContext checkUtf8 negotiate lookup
-handleRequest h (Request.HandshakeVersion v) room = accept h
-handleRequest h Request.Finish room = finish h room
-handleRequest h (Request.Context c) room = setContext h c (h .contextType)
+handleRequest h (Message.HandshakeVersion v) room = accept h
+handleRequest h Message.Finish room = finish h room
+handleRequest h (Message.Context c) room = setContext h c (h .contextType)
 -- "11 NAME_LONG: a client .. name .. above 254 bytes"
-handleRequest h (Request.Name name) room = checkUtf8 h name (cond (ltb 254 (length name)) (refuse h 11) (setName h name (h .name)))
+handleRequest h (Message.Name name) room = checkUtf8 h name (cond (ltb 254 (length name)) (refuse h 11) (setName h name (h .name)))
 -- a name of any length is looked up: 11 is not for interfaces
-handleRequest h (Request.InterfaceVersion name v) room =
+handleRequest h (Message.InterfaceVersion name v) room =
     checkUtf8 h name
     (accept (record { name = h .name; contextType = h .contextType; versions = negotiate (lookup name) v (h .versions); initialSerial = h .initialSerial; nextId = h .nextId }))
 -- "7 NON_HANDSHAKE: another request during the handshake"
-handleRequest h (Request.Other text) room = checkUtf8 h text (refuse h 7)
+handleRequest h (Message.Other text) room = checkUtf8 h text (refuse h 7)

@@ -6,14 +6,14 @@ use lib.ListN.{length, getD, take}
 use Rattle.handshake.specs.Handshake as paper
 use Rattle.handshake.specs.View.{viewOf, requestOf, outcomeOf, Meets, Handled}
 use Rattle.handshake.specs.declared.handshake.EisHandshaker.{EisHandshaker}
-use Rattle.handshake.specs.declared.handshake.Request.{Request}
-use Rattle.handshake.specs.declared.handshake.Answer.{Answer}
+use Rattle.handshake.specs.declared.handshake.HandshakeMessage.{HandshakeMessage}
+use Rattle.handshake.specs.declared.handshake.HandshakeAnswer.{HandshakeAnswer}
 
 -- ---- the definitions
 
 -- a request, and the length of the `out` that is lent with it
 pub record Call : Type 0 where
-  pub request : paper.Request
+  pub request : paper.Message
   pub room : ℕ
 
 -- each call gets the handshake that the one before returned
@@ -34,10 +34,10 @@ Equal-calls =
     → trail serial room cs ≡ trail serial′ room′ cs′
 
 -- the ids that are given, in order
-unfoldable pub given : paper.Outcome → List ℕ
-given paper.Outcome.accepted = []
-given (paper.Outcome.refused n) = []
-given (paper.Outcome.finished r) = r .connection ∷ []
+unfoldable pub given : paper.Result → List ℕ
+given paper.Result.accepted = []
+given (paper.Result.refused n) = []
+given (paper.Result.finished r) = r .connection ∷ []
 
 unfoldable pub ids : List paper.Step → List ℕ
 unfolding given
@@ -51,45 +51,45 @@ Ids-rise = (cs : List Call) (h : paper.Handshake) (i j : ℕ) → i < j → j < 
 -- "A second Finish after success finds no interfaces": it is 9, and nothing is written
 abbrev pub Second-finish : Type 0
 Second-finish =
-    (h : paper.Handshake) (room room′ : ℕ) (r : paper.Response) → paper.finish h room .outcome ≡ paper.Outcome.finished r
+    (h : paper.Handshake) (room room′ : ℕ) (r : paper.Response) → paper.finish h room .outcome ≡ paper.Result.finished r
     → paper.finish (paper.finish h room .handshake) room′ ≡ paper.refuse (paper.finish h room .handshake) 9
 
 -- ---- the code
 
 -- a call of `handle_request`: what it is given, and what it leaves
-pub record Exchange : Type 0 where
-  pub request : Request
+pub record HandshakeExchange : Type 0 where
+  pub request : HandshakeMessage
   pub text : List ℕ
   pub out : List ℕ
   pub later : List ℕ
-  pub answer : Answer
+  pub answer : HandshakeAnswer
 
-abbrev pub callOf : Exchange → Call
+abbrev pub callOf : HandshakeExchange → Call
 callOf x = record { request = requestOf (x .request) (x .text); room = length (x .out) }
 
 -- the session, outcome and event bytes of an answer
-abbrev pub seenIn : Answer → (later : List ℕ) → paper.Step
+abbrev pub seenIn : HandshakeAnswer → (later : List ℕ) → paper.Step
 seenIn r later = record { handshake = viewOf (r .handshaker); outcome = outcomeOf (r .outcome) (r .response); bytes = take (r .count) later }
 
-abbrev pub seen : Exchange → paper.Step
+abbrev pub seen : HandshakeExchange → paper.Step
 seen x = seenIn (x .answer) (x .later)
 
 -- calls made one after another, each as its contract has it
-pub data Made : EisHandshaker → List Exchange → Type 0 where
-  none : {h : EisHandshaker} → Made h []
-  next : {h : EisHandshaker} {x : Exchange} {xs : List Exchange} → Handled h (requestOf (x .request) (x .text)) (x .out) (x .later) (x .answer)
-      → Made (x .answer .handshaker) xs → Made h (x ∷ xs)
+pub data HandshakeCalls : EisHandshaker → List HandshakeExchange → Type 0 where
+  none : {h : EisHandshaker} → HandshakeCalls h []
+  next : {h : EisHandshaker} {x : HandshakeExchange} {xs : List HandshakeExchange} → Handled h (requestOf (x .request) (x .text)) (x .out) (x .later) (x .answer)
+      → HandshakeCalls (x .answer .handshaker) xs → HandshakeCalls h (x ∷ xs)
 
 -- what is seen of a handshake that `new` starts is what the definitions say of the calls, and nothing else has a part in it
 abbrev pub Seen-is-trail : Type 0
 Seen-is-trail =
-    (serial : ℕ) (out later : List ℕ) (r : Answer) (xs : List Exchange) → Meets out later (paper.start serial (length out)) r → Made (r .handshaker) xs
+    (serial : ℕ) (out later : List ℕ) (r : HandshakeAnswer) (xs : List HandshakeExchange) → Meets out later (paper.start serial (length out)) r → HandshakeCalls (r .handshaker) xs
     → seenIn r later ∷ map seen xs ≡ trail serial (length out) (map callOf xs)
 
 -- so two of them that get equal calls, in buffers of equal lengths, are seen as equal
-abbrev pub Equal-seen : Type 0
-Equal-seen =
-    (serial : ℕ) (out out′ later later′ : List ℕ) (r r′ : Answer) (xs xs′ : List Exchange)
+abbrev pub Equal-handshakes : Type 0
+Equal-handshakes =
+    (serial : ℕ) (out out′ later later′ : List ℕ) (r r′ : HandshakeAnswer) (xs xs′ : List HandshakeExchange)
     → Meets out later (paper.start serial (length out)) r → Meets out′ later′ (paper.start serial (length out′)) r′
-    → Made (r .handshaker) xs → Made (r′ .handshaker) xs′ → length out ≡ length out′ → map callOf xs ≡ map callOf xs′
+    → HandshakeCalls (r .handshaker) xs → HandshakeCalls (r′ .handshaker) xs′ → length out ≡ length out′ → map callOf xs ≡ map callOf xs′
     → seenIn r later ∷ map seen xs ≡ seenIn r′ later′ ∷ map seen xs′

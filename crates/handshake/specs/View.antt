@@ -13,11 +13,11 @@ use Rattle.handshake.specs.declared.handshake.Name.{Name}
 use Rattle.handshake.specs.declared.handshake.Context.{Context}
 use Rattle.handshake.specs.declared.handshake.InterfaceVersion.{InterfaceVersion}
 use Rattle.handshake.specs.declared.handshake.EisHandshaker.{EisHandshaker}
-use Rattle.handshake.specs.declared.handshake.Request.{Request}
+use Rattle.handshake.specs.declared.handshake.HandshakeMessage.{HandshakeMessage}
 use Rattle.handshake.specs.declared.handshake.EisHandshakeResp.{EisHandshakeResp}
 use Rattle.handshake.specs.declared.handshake.HandshakeError.{HandshakeError}
-use Rattle.handshake.specs.declared.handshake.Outcome.{Outcome}
-use Rattle.handshake.specs.declared.handshake.Answer.{Answer}
+use Rattle.handshake.specs.declared.handshake.HandshakeOutcome.{HandshakeOutcome}
+use Rattle.handshake.specs.declared.handshake.HandshakeAnswer.{HandshakeAnswer}
 
 -- ---- a handshake
 
@@ -52,15 +52,15 @@ isSound h = leb (h .name .length) 254
 -- ---- requests and answers
 
 -- the lent text counts for Name, InterfaceVersion and Other alone
-abbrev pub requestOf : Request → (text : List ℕ) → paper.Request
-requestOf (Request.HandshakeVersion v) text = paper.Request.HandshakeVersion v
-requestOf Request.Name text = paper.Request.Name text
-requestOf (Request.ContextType c) text = paper.Request.Context c
-requestOf (Request.InterfaceVersion v) text = paper.Request.InterfaceVersion text v
-requestOf Request.Finish text = paper.Request.Finish
-requestOf Request.Other text = paper.Request.Other text
+abbrev pub requestOf : HandshakeMessage → (text : List ℕ) → paper.Message
+requestOf (HandshakeMessage.HandshakeVersion v) text = paper.Message.HandshakeVersion v
+requestOf HandshakeMessage.Name text = paper.Message.Name text
+requestOf (HandshakeMessage.ContextType c) text = paper.Message.Context c
+requestOf (HandshakeMessage.InterfaceVersion v) text = paper.Message.InterfaceVersion text v
+requestOf HandshakeMessage.Finish text = paper.Message.Finish
+requestOf HandshakeMessage.Other text = paper.Message.Other text
 
--- document 01's numbers
+-- the numbers of the refusals
 abbrev pub number : HandshakeError → ℕ
 number HandshakeError.NonHandshakeEvent = 7
 number HandshakeError.DuplicateEvent = 8
@@ -83,21 +83,21 @@ responseOf s =
       nextId = s .next;
     }
 
-unfoldable pub outcomeOf : Outcome → EisHandshakeResp → paper.Outcome
+unfoldable pub outcomeOf : HandshakeOutcome → EisHandshakeResp → paper.Result
 unfolding responseOf
-outcomeOf Outcome.Accepted s = paper.Outcome.accepted
-outcomeOf Outcome.Finished s = paper.Outcome.finished (responseOf s)
-outcomeOf (Outcome.Refused e) s = paper.Outcome.refused (number e)
+outcomeOf HandshakeOutcome.Accepted s = paper.Result.accepted
+outcomeOf HandshakeOutcome.Finished s = paper.Result.finished (responseOf s)
+outcomeOf (HandshakeOutcome.Refused e) s = paper.Result.refused (number e)
 
-abbrev pub isRefusal : Outcome → Bool
-isRefusal Outcome.Accepted = false
-isRefusal Outcome.Finished = false
-isRefusal (Outcome.Refused e) = true
+abbrev pub isRefusal : HandshakeOutcome → Bool
+isRefusal HandshakeOutcome.Accepted = false
+isRefusal HandshakeOutcome.Finished = false
+isRefusal (HandshakeOutcome.Refused e) = true
 
-abbrev pub isFinished : Outcome → Bool
-isFinished Outcome.Accepted = false
-isFinished Outcome.Finished = true
-isFinished (Outcome.Refused e) = false
+abbrev pub isFinished : HandshakeOutcome → Bool
+isFinished HandshakeOutcome.Accepted = false
+isFinished HandshakeOutcome.Finished = true
+isFinished (HandshakeOutcome.Refused e) = false
 
 -- the blank response, of a call that settles nothing
 unfoldable pub noName : Name
@@ -110,13 +110,13 @@ unfoldable pub noResponse : EisHandshakeResp
 unfolding noName noInterfaces
 noResponse = record { connection = 0; name = noName; context = ContextType.Receiver; interfaces = noInterfaces; serial = 0; next = 0 }
 
-abbrev pub unfinished : EisHandshaker → Outcome → (count : ℕ) → Answer
+abbrev pub unfinished : EisHandshaker → HandshakeOutcome → (count : ℕ) → HandshakeAnswer
 unfinished h outcome count = record { handshaker = h; outcome = outcome; response = noResponse; count = count }
 
 -- ---- promises
 
 -- the answer is the step's, and so is every byte of the buffer: the step's bytes stand at its start, and the rest is as it was
-pub record Meets (out later : List ℕ) (s : paper.Step) (r : Answer) : Type 0 where
+pub record Meets (out later : List ℕ) (s : paper.Step) (r : HandshakeAnswer) : Type 0 where
   pub handshake : viewOf (r .handshaker) ≡ s .handshake
   pub outcome : outcomeOf (r .outcome) (r .response) ≡ s .outcome
   pub count : r .count ≡ length (s .bytes)
@@ -126,15 +126,15 @@ pub record Meets (out later : List ℕ) (s : paper.Step) (r : Answer) : Type 0 w
   pub named : r .response .name .length ≤ 254
 
 -- of a call on a handshake: besides, "a refusal returns the session unchanged", and that is the very handshake
-pub record Done (h : EisHandshaker) (out later : List ℕ) (s : paper.Step) (r : Answer) : Type 0 where
+pub record Done (h : EisHandshaker) (out later : List ℕ) (s : paper.Step) (r : HandshakeAnswer) : Type 0 where
   pub meets : Meets out later s r
   pub kept : isRefusal (r .outcome) ≡ true → r .handshaker ≡ h
 
 -- a request that writes nothing, whatever the buffer
-abbrev pub Quiet : EisHandshaker → paper.Request → Answer → Type 0
+abbrev pub Quiet : EisHandshaker → paper.Message → HandshakeAnswer → Type 0
 Quiet h request r = (out : List ℕ) → Done h out out (paper.handleRequest (viewOf h) request (length out)) r
 
 -- 21 before all else
-pub record Handled (h : EisHandshaker) (request : paper.Request) (out later : List ℕ) (r : Answer) : Type 0 where
-  pub damaged : isSound h ≡ false → (r ≡ unfinished h (Outcome.Refused HandshakeError.BadState) 0) × (later ≡ out)
+pub record Handled (h : EisHandshaker) (request : paper.Message) (out later : List ℕ) (r : HandshakeAnswer) : Type 0 where
+  pub damaged : isSound h ≡ false → (r ≡ unfinished h (HandshakeOutcome.Refused HandshakeError.BadState) 0) × (later ≡ out)
   pub done : isSound h ≡ true → Done h out later (paper.handleRequest (viewOf h) request (length out)) r

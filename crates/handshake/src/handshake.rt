@@ -17,9 +17,12 @@ ghost use Rattle.handshake.specs.Handshake as paper;
 ghost use Rattle.handshake.specs.View.{viewOf, versionsOf, nameOf, contextOf, isSound, requestOf, number, responseOf};
 ghost use Rattle.handshake.specs.View.{noName, noInterfaces, noResponse, unfinished, Meets, Done, Quiet, Handled};
 
+// The most bytes of a name; a longer one is `NameLong`.
+pub const NAME_LENGTH_LIMIT: usize = 254;
+
 // The client's name, or that it has not been said. The bytes past its length say nothing.
 pub struct Name {
-    pub bytes: [u8; 254],
+    pub bytes: [u8; NAME_LENGTH_LIMIT],
     pub length: usize,
     pub given: bool,
 }
@@ -46,7 +49,7 @@ pub struct EisHandshaker {
 }
 
 // What a client may send. The text of Name, of InterfaceVersion and of another request that has one is lent beside it.
-pub enum Request {
+pub enum HandshakeMessage {
     HandshakeVersion { version: u32 },
     Name,
     ContextType { context: ContextType },
@@ -79,7 +82,7 @@ pub enum HandshakeError {
 }
 
 // How a call ends: `Ok(None)`, `Ok(Some(..))` and `Err(..)` of the source.
-pub enum Outcome {
+pub enum HandshakeOutcome {
     Accepted,
     Finished,
     Refused(HandshakeError),
@@ -87,15 +90,15 @@ pub enum Outcome {
 
 // What a call gives: the handshake after it, its outcome, what a Finish settled (blank but for Finished), and how many bytes
 // of events were written.
-pub struct Answer {
+pub struct HandshakeAnswer {
     pub handshaker: EisHandshaker,
-    pub outcome: Outcome,
+    pub outcome: HandshakeOutcome,
     pub response: EisHandshakeResp,
     pub count: usize,
 }
 
 impl HandshakeError {
-    // Document 01's number.
+    // Its number, as docs/REFERENCE.md lists them.
     pub fn number(self) -> u32
         ensures { λ r. ⌜ r ≡ number self ⌝ }
     {
@@ -116,7 +119,7 @@ fn no_name() -> Name
     ensures { λ r. ⌜ r ≡ noName ⌝ }
 {
     Name {
-        bytes: [0; 254],
+        bytes: [0; NAME_LENGTH_LIMIT],
         length: 0,
         given: false,
     }
@@ -146,10 +149,10 @@ fn no_response() -> EisHandshakeResp
 }
 
 // The answer of a call that settles nothing.
-fn unfinished(h: EisHandshaker, outcome: Outcome, count: usize) -> Answer
+fn unfinished(h: EisHandshaker, outcome: HandshakeOutcome, count: usize) -> HandshakeAnswer
     ensures { λ r. ⌜ r ≡ unfinished h outcome count ⌝ }
 {
-    Answer {
+    HandshakeAnswer {
         handshaker: h,
         outcome,
         response: no_response(),
@@ -157,16 +160,16 @@ fn unfinished(h: EisHandshaker, outcome: Outcome, count: usize) -> Answer
     }
 }
 
-fn accepted(h: EisHandshaker) -> Answer
-    ensures { λ r. ⌜ r ≡ unfinished h Outcome.Accepted 0 ⌝ }
+fn accepted(h: EisHandshaker) -> HandshakeAnswer
+    ensures { λ r. ⌜ r ≡ unfinished h HandshakeOutcome.Accepted 0 ⌝ }
 {
-    unfinished(h, Outcome::Accepted, 0)
+    unfinished(h, HandshakeOutcome::Accepted, 0)
 }
 
-fn refused(h: EisHandshaker, e: HandshakeError) -> Answer
-    ensures { λ r. ⌜ r ≡ unfinished h (Outcome.Refused e) 0 ⌝ }
+fn refused(h: EisHandshaker, e: HandshakeError) -> HandshakeAnswer
+    ensures { λ r. ⌜ r ≡ unfinished h (HandshakeOutcome.Refused e) 0 ⌝ }
 {
-    unfinished(h, Outcome::Refused(e), 0)
+    unfinished(h, HandshakeOutcome::Refused(e), 0)
 }
 
 // A text that fits, as a name.
@@ -174,7 +177,7 @@ fn name_of(text: &[u8]) -> Name
     requires { ⌜ length (now text) ≤ 254 ⌝ }
     ensures { λ r. ⌜ (nameOf r ≡ some (now (text .entry))) × (r .length ≤ 254) ⌝ }
 {
-    let mut bytes = [0u8; 254];
+    let mut bytes = [0u8; NAME_LENGTH_LIMIT];
     let mut i: usize = 0;
     while i < text.len() {
         bytes[i] = text[i];
@@ -188,14 +191,14 @@ fn name_of(text: &[u8]) -> Name
 }
 
 // Name.
-fn set_name(h: EisHandshaker, text: &[u8]) -> Answer
+fn set_name(h: EisHandshaker, text: &[u8]) -> HandshakeAnswer
     requires { ⌜ isSound h ≡ true ⌝ }
-    ensures { λ r. ⌜ Quiet h (paper.Request.Name (now (text .entry))) r ⌝ }
+    ensures { λ r. ⌜ Quiet h (paper.Message.Name (now (text .entry))) r ⌝ }
 {
     if !utf8::valid(text) {
         return refused(h, HandshakeError::BadUtf8);
     }
-    if 254 < text.len() {
+    if NAME_LENGTH_LIMIT < text.len() {
         return refused(h, HandshakeError::NameLong);
     }
     if h.name.given {
@@ -207,9 +210,9 @@ fn set_name(h: EisHandshaker, text: &[u8]) -> Answer
 }
 
 // ContextType.
-fn set_context(h: EisHandshaker, context: ContextType) -> Answer
+fn set_context(h: EisHandshaker, context: ContextType) -> HandshakeAnswer
     requires { ⌜ isSound h ≡ true ⌝ }
-    ensures { λ r. ⌜ Quiet h (paper.Request.Context context) r ⌝ }
+    ensures { λ r. ⌜ Quiet h (paper.Message.Context context) r ⌝ }
 {
     let said = h.context;
     match said {
@@ -235,9 +238,9 @@ fn lower(a: u32, b: u32) -> u32
 }
 
 // InterfaceVersion. A name may have any length; one that is no interface's is ignored.
-fn negotiate(h: EisHandshaker, text: &[u8], version: u32) -> Answer
+fn negotiate(h: EisHandshaker, text: &[u8], version: u32) -> HandshakeAnswer
     requires { ⌜ isSound h ≡ true ⌝ }
-    ensures { λ r. ⌜ Quiet h (paper.Request.InterfaceVersion (now (text .entry)) version) r ⌝ }
+    ensures { λ r. ⌜ Quiet h (paper.Message.InterfaceVersion (now (text .entry)) version) r ⌝ }
 {
     if !utf8::valid(text) {
         return refused(h, HandshakeError::BadUtf8);
@@ -257,9 +260,9 @@ fn negotiate(h: EisHandshaker, text: &[u8], version: u32) -> Answer
 }
 
 // A request of another interface, which has no place in a handshake.
-fn turn_away(h: EisHandshaker, text: &[u8]) -> Answer
+fn turn_away(h: EisHandshaker, text: &[u8]) -> HandshakeAnswer
     requires { ⌜ isSound h ≡ true ⌝ }
-    ensures { λ r. ⌜ Quiet h (paper.Request.Other (now (text .entry))) r ⌝ }
+    ensures { λ r. ⌜ Quiet h (paper.Message.Other (now (text .entry))) r ⌝ }
 {
     if !utf8::valid(text) {
         return refused(h, HandshakeError::BadUtf8);
@@ -337,7 +340,7 @@ fn report(interfaces: [InterfaceVersion; 12], out: &mut [u8]) -> usize
 }
 
 // A Finish that lacks an interface: it reports those that there are.
-fn finish_missing(h: EisHandshaker, out: &mut [u8]) -> Answer
+fn finish_missing(h: EisHandshaker, out: &mut [u8]) -> HandshakeAnswer
     requires { ⌜ (isSound h ≡ true) × (paper.complete (versionsOf (h .interfaces)) ≡ false) ⌝ }
     ensures { λ r. ⌜ Done h (now (out .entry)) (now (out .exit)) (paper.finish (viewOf h) (length (now (out .entry)))) r ⌝ }
 {
@@ -346,7 +349,11 @@ fn finish_missing(h: EisHandshaker, out: &mut [u8]) -> Answer
         return refused(h, HandshakeError::ShortOut);
     }
     let count = report(interfaces, out);
-    unfinished(h, Outcome::Refused(HandshakeError::MissingInterface), count)
+    unfinished(
+        h,
+        HandshakeOutcome::Refused(HandshakeError::MissingInterface),
+        count,
+    )
 }
 
 // "Protocol spec says `context_type` is optional, defaults to receiver" (src/handshake.rs).
@@ -379,7 +386,7 @@ fn response_of(h: EisHandshaker, next: u64) -> EisHandshakeResp
 }
 
 // A Finish that has all it needs but room.
-fn conclude(h: EisHandshaker, next: u64, out: &mut [u8]) -> Answer
+fn conclude(h: EisHandshaker, next: u64, out: &mut [u8]) -> HandshakeAnswer
     requires { ⌜ (isSound h ≡ true) × ((paper.complete (versionsOf (h .interfaces)) ≡ true) × (next ≡ h .next + 1)) ⌝ }
     ensures { λ r. ⌜ Done h (now (out .entry)) (now (out .exit)) (paper.finish (viewOf h) (length (now (out .entry)))) r ⌝ }
 {
@@ -398,16 +405,16 @@ fn conclude(h: EisHandshaker, next: u64, out: &mut [u8]) -> Answer
     let none = no_interfaces();
     after.interfaces = none;
     after.next = next;
-    Answer {
+    HandshakeAnswer {
         handshaker: after,
-        outcome: Outcome::Finished,
+        outcome: HandshakeOutcome::Finished,
         response: response_of(h, next),
         count: at + sent,
     }
 }
 
 // Finish.
-fn finish(h: EisHandshaker, out: &mut [u8]) -> Answer
+fn finish(h: EisHandshaker, out: &mut [u8]) -> HandshakeAnswer
     requires { ⌜ isSound h ≡ true ⌝ }
     ensures { λ r. ⌜ Done h (now (out .entry)) (now (out .exit)) (paper.finish (viewOf h) (length (now (out .entry)))) r ⌝ }
 {
@@ -423,7 +430,7 @@ fn finish(h: EisHandshaker, out: &mut [u8]) -> Answer
 
 impl EisHandshaker {
     // Starts a handshake: sends handshake version 1. Refused or not, the handshake is fresh.
-    pub fn new(serial: u32, out: &mut [u8]) -> Answer
+    pub fn new(serial: u32, out: &mut [u8]) -> HandshakeAnswer
         ensures { λ r. ⌜ Meets (now (out .entry)) (now (out .exit)) (paper.start serial (length (now (out .entry)))) r ⌝ }
     {
         let h = EisHandshaker {
@@ -437,23 +444,28 @@ impl EisHandshaker {
         if sent == 0 {
             return refused(h, HandshakeError::ShortOut);
         }
-        unfinished(h, Outcome::Accepted, sent)
+        unfinished(h, HandshakeOutcome::Accepted, sent)
     }
 
     // Handles a request, with the text that it carries.
-    pub fn handle_request(self, request: Request, text: &[u8], out: &mut [u8]) -> Answer
+    pub fn handle_request(
+        self,
+        request: HandshakeMessage,
+        text: &[u8],
+        out: &mut [u8],
+    ) -> HandshakeAnswer
         ensures { λ r. ⌜ Handled self (requestOf request (now (text .entry))) (now (out .entry)) (now (out .exit)) r ⌝ }
     {
-        if 254 < self.name.length {
+        if NAME_LENGTH_LIMIT < self.name.length {
             return refused(self, HandshakeError::BadState);
         }
         match request {
-            Request::HandshakeVersion { version: _ } => accepted(self),
-            Request::Name => set_name(self, text),
-            Request::ContextType { context } => set_context(self, context),
-            Request::InterfaceVersion { version } => negotiate(self, text, version),
-            Request::Finish => finish(self, out),
-            Request::Other => turn_away(self, text),
+            HandshakeMessage::HandshakeVersion { version: _ } => accepted(self),
+            HandshakeMessage::Name => set_name(self, text),
+            HandshakeMessage::ContextType { context } => set_context(self, context),
+            HandshakeMessage::InterfaceVersion { version } => negotiate(self, text, version),
+            HandshakeMessage::Finish => finish(self, out),
+            HandshakeMessage::Other => turn_away(self, text),
         }
     }
 }

@@ -7,14 +7,14 @@ use mathlib.Core.List.{List, [], _∷_, _++_, map, map-append}
 use lib.Dec.{eqb}
 use lib.ListN.{length, length-map}
 use Rattle.model.specs.Call.{Split}
-use Rattle.model.specs.Session.{Item, Untimed, Request, Device, Session, mapItem, mapRequest, mapDevice, mapSession, blank, view}
+use Rattle.model.specs.Session.{Item, Untimed, Queued, Device, Session, mapItem, mapQueued, mapDevice, mapSession, blank, view}
 use Rattle.model.specs.Edit.{Amend, Edit, amended, item, pended, emptied, framed, at, withoutSlot, withoutSeat, framedAt, rest, enact, enactAll}
-use Rattle.model.specs.Plan.{Outcome, Plan}
+use Rattle.model.specs.Plan.{Result, Plan}
 use Rattle.model.specs.Decide.{decide}
 use Rattle.model.specs.Step.{Step, oldest, gave, gaveAll, carriedOut, source, pendingTexts, devicesTexts, queuedTexts, textBytes, Counts, counts, limits, refuses, settled, bytesNeeded, limited, step, run}
 
 -- the outcome once the limits are tested
-abbrev verdict : (room bytes : ℕ) → (before after : Counts) → Outcome → Outcome
+abbrev verdict : (room bytes : ℕ) → (before after : Counts) → Result → Result
 verdict room bytes n m o = cond (refuses o) o (limits room bytes n m o)
 
 module _ {P Q : Type 0} (f : P → Q) where
@@ -22,8 +22,8 @@ module _ {P Q : Type 0} (f : P → Q) where
   mapSplit t = record { call = t .call; load = f (t .load); now = t .now; room = t .room }
 
   unfoldable pub mapStep : Step P → Step Q
-  unfolding mapSession mapRequest
-  mapStep r = record { session = mapSession f (r .session); outcome = r .outcome; events = r .events; gave = map (mapRequest f) (r .gave) }
+  unfolding mapSession mapQueued
+  mapStep r = record { session = mapSession f (r .session); outcome = r .outcome; events = r .events; gave = map (mapQueued f) (r .gave) }
 
   -- ---- what a decision sees
 
@@ -37,11 +37,11 @@ module _ {P Q : Type 0} (f : P → Q) where
   blank-devices [] = refl
   blank-devices (d ∷ ds) = rw (blank-items (d .pending), blank-devices ds)
 
-  pub blank-requests : (rs : List (Request P)) → map (mapRequest blank) (map (mapRequest f) rs) ≡ map (mapRequest blank) rs
-  unfolding mapRequest
+  pub blank-requests : (rs : List (Queued P)) → map (mapQueued blank) (map (mapQueued f) rs) ≡ map (mapQueued blank) rs
+  unfolding mapQueued
   blank-requests [] = refl
-  blank-requests (Request.timed d t i ∷ rs) = ap (λ r. mapRequest blank (Request.timed d t i) ∷ r) (blank-requests rs)
-  blank-requests (Request.untimed u ∷ rs) = ap (λ r. Request.untimed u ∷ r) (blank-requests rs)
+  blank-requests (Queued.timed d t i ∷ rs) = ap (λ r. mapQueued blank (Queued.timed d t i) ∷ r) (blank-requests rs)
+  blank-requests (Queued.untimed u ∷ rs) = ap (λ r. Queued.untimed u ∷ r) (blank-requests rs)
 
   pub view-map : (s : Session P) → view (mapSession f s) ≡ view s
   unfolding view
@@ -73,24 +73,24 @@ module _ {P Q : Type 0} (f : P → Q) where
   withoutSeat-map s (d ∷ ds) = rw (withoutSeat-map s ds) (kept-map (eqb (d .seat) s) d (withoutSeat s ds))
 
   queued-map : (d s t : ℕ) (is : List (Item P)) →
-      map {B = Request Q} (λ x. Request.timed d t x) (map (mapItem f) is) ++ (Request.untimed (Untimed.Frame d s t) ∷ [])
-      ≡ map (mapRequest f) (map (λ x. Request.timed d t x) is ++ (Request.untimed (Untimed.Frame d s t) ∷ []))
-  unfolding mapRequest
+      map {B = Queued Q} (λ x. Queued.timed d t x) (map (mapItem f) is) ++ (Queued.untimed (Untimed.Frame d s t) ∷ [])
+      ≡ map (mapQueued f) (map (λ x. Queued.timed d t x) is ++ (Queued.untimed (Untimed.Frame d s t) ∷ []))
+  unfolding mapQueued
   queued-map d s t [] = refl
-  queued-map d s t (i ∷ is) = ap (λ r. Request.timed d t (mapItem f i) ∷ r) (queued-map d s t is)
+  queued-map d s t (i ∷ is) = ap (λ r. Queued.timed d t (mapItem f i) ∷ r) (queued-map d s t is)
 
-  framed-map : (d s t : ℕ) (is : List (Item P)) → framed d s t (map (mapItem f) is) ≡ map (mapRequest f) (framed d s t is)
-  unfolding framed mapRequest
+  framed-map : (d s t : ℕ) (is : List (Item P)) → framed d s t (map (mapItem f) is) ≡ map (mapQueued f) (framed d s t is)
+  unfolding framed mapQueued
   framed-map d s t [] = refl
   framed-map d s t (i ∷ is) = cc (queued-map d s t (i ∷ is))
 
-  framedAt-map : (k s t : ℕ) (ds : List (Device P)) → framedAt k s t (map (mapDevice f) ds) ≡ map (mapRequest f) (framedAt k s t ds)
+  framedAt-map : (k s t : ℕ) (ds : List (Device P)) → framedAt k s t (map (mapDevice f) ds) ≡ map (mapQueued f) (framedAt k s t ds)
   unfolding framedAt mapDevice
   framedAt-map k s t [] = refl
   framedAt-map zero s t (d ∷ ds) = framed-map (d .id) s t (d .pending)
   framedAt-map (suc k) s t (d ∷ ds) = framedAt-map k s t ds
 
-  rest-map : (rs : List (Request P)) → rest (map (mapRequest f) rs) ≡ map (mapRequest f) (rest rs)
+  rest-map : (rs : List (Queued P)) → rest (map (mapQueued f) rs) ≡ map (mapQueued f) (rest rs)
   unfolding rest
   rest-map [] = refl
   rest-map (r ∷ rs) = refl
@@ -129,12 +129,12 @@ module _ {P Q : Type 0} (f : P → Q) where
   enactAll-map [] p s = refl
   enactAll-map (e ∷ es) p s = ap (enactAll es (f p)) (enact-map e p s) ∙ enactAll-map es p (enact e p s)
 
-  oldest-map : (rs : List (Request P)) → oldest (map (mapRequest f) rs) ≡ map (mapRequest f) (oldest rs)
+  oldest-map : (rs : List (Queued P)) → oldest (map (mapQueued f) rs) ≡ map (mapQueued f) (oldest rs)
   unfolding oldest
   oldest-map [] = refl
   oldest-map (r ∷ rs) = refl
 
-  gave-map : (e : Edit) (s : Session P) → gave e (mapSession f s) ≡ map (mapRequest f) (gave e s)
+  gave-map : (e : Edit) (s : Session P) → gave e (mapSession f s) ≡ map (mapQueued f) (gave e s)
   unfolding gave mapSession
   gave-map (Edit.raise n) s = refl
   gave-map (Edit.addSeat caps) s = refl
@@ -148,7 +148,7 @@ module _ {P Q : Type 0} (f : P → Q) where
   gave-map (Edit.queue r) s = refl
   gave-map Edit.deliver s = oldest-map (s .requests)
 
-  gaveAll-map : (es : List Edit) (p : P) (s : Session P) → gaveAll es (f p) (mapSession f s) ≡ map (mapRequest f) (gaveAll es p s)
+  gaveAll-map : (es : List Edit) (p : P) (s : Session P) → gaveAll es (f p) (mapSession f s) ≡ map (mapQueued f) (gaveAll es p s)
   unfolding gaveAll
   gaveAll-map [] p s = refl
   gaveAll-map (e ∷ es) p s = rw (enact-map e p s, gave-map e s, gaveAll-map es p (enact e p s), map-append)
@@ -165,17 +165,17 @@ module _ {P Q : Type 0} (f : P → Q) where
   devicesTexts-map [] = refl
   devicesTexts-map (d ∷ ds) = rw (pendingTexts-map (d .pending), devicesTexts-map ds)
 
-  queuedTexts-map : (rs : List (Request P)) → queuedTexts (map (mapRequest f) rs) ≡ queuedTexts rs
-  unfolding queuedTexts mapRequest
+  queuedTexts-map : (rs : List (Queued P)) → queuedTexts (map (mapQueued f) rs) ≡ queuedTexts rs
+  unfolding queuedTexts mapQueued
   queuedTexts-map [] = refl
-  queuedTexts-map (Request.timed d t i ∷ rs) = rw (queuedTexts-map rs)
-  queuedTexts-map (Request.untimed u ∷ rs) = queuedTexts-map rs
+  queuedTexts-map (Queued.timed d t i ∷ rs) = rw (queuedTexts-map rs)
+  queuedTexts-map (Queued.untimed u ∷ rs) = queuedTexts-map rs
 
-  textBytes-map : (rs : List (Request P)) → textBytes (map (mapRequest f) rs) ≡ textBytes rs
-  unfolding textBytes mapRequest
+  textBytes-map : (rs : List (Queued P)) → textBytes (map (mapQueued f) rs) ≡ textBytes rs
+  unfolding textBytes mapQueued
   textBytes-map [] = refl
-  textBytes-map (Request.timed d t i ∷ rs) = rw (textBytes-map rs)
-  textBytes-map (Request.untimed u ∷ rs) = textBytes-map rs
+  textBytes-map (Queued.timed d t i ∷ rs) = rw (textBytes-map rs)
+  textBytes-map (Queued.untimed u ∷ rs) = textBytes-map rs
 
   lengths-map : (ds : List (Device P)) → map (λ d. length (d .pending)) (map (mapDevice f) ds) ≡ map (λ d. length (d .pending)) ds
   unfolding mapDevice
@@ -200,7 +200,7 @@ module _ {P Q : Type 0} (f : P → Q) where
   cond-map true x y = refl
   cond-map false x y = refl
 
-  settled-map : (s : Session P) (r : Step P) (o : Outcome) → settled (mapSession f s) (mapStep r) o ≡ mapStep (settled s r o)
+  settled-map : (s : Session P) (r : Step P) (o : Result) → settled (mapSession f s) (mapStep r) o ≡ mapStep (settled s r o)
   unfolding settled mapStep
   settled-map s r o = cond-map (refuses o) _ _
 

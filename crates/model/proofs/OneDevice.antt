@@ -5,7 +5,7 @@ use mathlib.Core.Bool.{Bool, true, false, cond}
 use mathlib.Core.List.{List, [], _∷_, _++_, map, append-nil, append-assoc}
 use native.Mathlib.Omega.{arith}
 use lib.Dec.{eqb}
-use Rattle.model.specs.Session.{Item, Untimed, Request, Device, Session}
+use Rattle.model.specs.Session.{Item, Untimed, Queued, Device, Session}
 use Rattle.model.specs.Edit.{Amend, Edit, amended, item, pended, emptied, framed, at, withoutSlot, withoutSeat, framedAt, rest, enact}
 use Rattle.model.specs.Step.{oldest}
 use Rattle.model.specs.Demand3.{itemsOf}
@@ -65,13 +65,13 @@ module _ {P : Type 0} (d : ℕ) where
   none-taken i zero (x ∷ xs) e = sym (append-nil _) ∙ none-cons (eqb (x .id) d) (i ∷ []) [] 0 (λ _. refl) (omega arith)
   none-taken i (suc k) (x ∷ xs) e = none-taken i k xs (omega arith)
 
-  pub items-append : (q r : List (Request P)) → itemsOf d (q ++ r) ≡ itemsOf d q ++ itemsOf d r
+  pub items-append : (q r : List (Queued P)) → itemsOf d (q ++ r) ≡ itemsOf d q ++ itemsOf d r
   unfolding itemsOf
   items-append [] r = refl
-  items-append (Request.timed e t i ∷ q) r = rw (items-append q r) (sym (append-assoc (cond (eqb e d) (i ∷ []) []) (itemsOf d q) (itemsOf d r)))
-  items-append (Request.untimed u ∷ q) r = items-append q r
+  items-append (Queued.timed e t i ∷ q) r = rw (items-append q r) (sym (append-assoc (cond (eqb e d) (i ∷ []) []) (itemsOf d q) (itemsOf d r)))
+  items-append (Queued.untimed u ∷ q) r = items-append q r
 
-  items-timed : (e t : ℕ) (is : List (Item P)) → itemsOf d (map (λ x. Request.timed e t x) is) ≡ cond (eqb e d) is []
+  items-timed : (e t : ℕ) (is : List (Item P)) → itemsOf d (map (λ x. Queued.timed e t x) is) ≡ cond (eqb e d) is []
   unfolding itemsOf
   items-timed e t [] = sym (cond-nil (eqb e d))
   items-timed e t (i ∷ is) = rw (items-timed e t is) (cond-cons (eqb e d) i is)
@@ -80,7 +80,7 @@ module _ {P : Type 0} (d : ℕ) where
   unfolding framed itemsOf
   items-framed e s t [] = items-timed e t []
   items-framed e s t (i ∷ is) =
-      items-append (map (λ x. Request.timed e t x) (i ∷ is)) (Request.untimed (Untimed.Frame e s t) ∷ []) ∙ append-nil _ ∙ items-timed e t (i ∷ is)
+      items-append (map (λ x. Queued.timed e t x) (i ∷ is)) (Queued.untimed (Untimed.Frame e s t) ∷ []) ∙ append-nil _ ∙ items-timed e t (i ∷ is)
 
   none-framed : (k s t : ℕ) (xs : List (Device P)) → standing xs ≡ 0 → itemsOf d (framedAt k s t xs) ≡ []
   unfolding countOf framedAt itemsOf
@@ -160,8 +160,8 @@ module _ {P : Type 0} (d : ℕ) where
   unfolding pendingOf
   added-pending xs x e = pending-append xs (x ∷ []) ∙ rw (e, cond-nil {A = Item P} (eqb (x .id) d)) (append-nil (pendingOf d xs))
 
-  pub oldest-rest : (q : List (Request P)) → itemsOf d (oldest q) ++ itemsOf d (rest q) ≡ itemsOf d q
+  pub oldest-rest : (q : List (Queued P)) → itemsOf d (oldest q) ++ itemsOf d (rest q) ≡ itemsOf d q
   unfolding oldest rest itemsOf
   oldest-rest [] = refl
-  oldest-rest (Request.timed e t i ∷ q) = append-assoc (cond (eqb e d) (i ∷ []) []) [] (itemsOf d q)
-  oldest-rest (Request.untimed u ∷ q) = refl
+  oldest-rest (Queued.timed e t i ∷ q) = append-assoc (cond (eqb e d) (i ∷ []) []) [] (itemsOf d q)
+  oldest-rest (Queued.untimed u ∷ q) = refl

@@ -10,7 +10,7 @@ use native.Mathlib.Omega.{arith}
 use native.Mathlib.Decide.{decLe}
 use lib.Dec.{eqb}
 use borrow.Author.Tests.{eqb-true}
-use Rattle.model.specs.Session.{Item, Request, Device, Connection, Session, fresh}
+use Rattle.model.specs.Session.{Item, Queued, Device, Connection, Session, fresh}
 use Rattle.model.specs.Edit.{Edit, amended, item, pended, emptied, at, withoutSlot, withoutSeat, framedAt, rest, withDevices, withRequests, enact, enactAll}
 use Rattle.model.specs.Step.{oldest, gave, gaveAll}
 use Rattle.model.specs.Demand3.{itemsOf}
@@ -167,7 +167,7 @@ module _ {P : Type 0} (d : ℕ) where
   edit-keeps (Edit.pend j sight) p s T G k = pend s T G k (item sight p) j
   edit-keeps (Edit.frame j serial time) p s T G k = frame s T G k j serial time
   edit-keeps (Edit.queue r) p s T G k =
-      calm s T G k (enact (Edit.queue r) p s) (items-append d (s .requests) (Request.untimed r ∷ []) ∙ append-nil (itemsOf d (s .requests))) refl refl (omega arith)
+      calm s T G k (enact (Edit.queue r) p s) (items-append d (s .requests) (Queued.untimed r ∷ []) ∙ append-nil (itemsOf d (s .requests))) refl refl (omega arith)
   edit-keeps Edit.deliver p s T G k = deliver s T G k
 
   pub edits-keep : (es : List Edit) (p : P) (s : Session P) (T G : List (Item P)) → Keeps s T G →

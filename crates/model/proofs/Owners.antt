@@ -13,27 +13,27 @@ use borrow.Author.Tests.{eq-eqb, ne-eqb}
 use Rattle.eiproto.specs.Bits.{bitsOf}
 use Rattle.model.specs.Session.{Interface, Device, Session, fresh}
 use Rattle.model.specs.Edit.{Amend, Edit, interfacesFrom, newInterfaces, unlinked, amended, item, pended, emptied, enact, enactAll}
-use Rattle.model.specs.Plan.{Outcome, Plan}
-use Rattle.model.specs.Demand3.{Made, made, madeFor}
+use Rattle.model.specs.Plan.{Result, Plan}
+use Rattle.model.specs.Demand3.{MadeInterface, made, madeFor}
 use Rattle.model.proofs.All.{All, none, more, all-map, all-append, all-at, all-withoutSlot, all-withoutSeat}
 use Rattle.model.proofs.Plans.{allows, allowsAll, allows-cons, madeWith, Formed, answers, acts, adds}
 
-pub nothing-made : (o : Outcome) → made o [] ≡ []
+pub nothing-made : (o : Result) → made o [] ≡ []
 unfolding made
-nothing-made Outcome.accepted = refl
-nothing-made (Outcome.refused n) = refl
-nothing-made (Outcome.refusedVersion i v) = refl
-nothing-made (Outcome.seat id) = refl
-nothing-made (Outcome.device id) = refl
-nothing-made (Outcome.value n) = refl
-nothing-made (Outcome.truth b) = refl
-nothing-made Outcome.none = refl
-nothing-made Outcome.given = refl
+nothing-made Result.accepted = refl
+nothing-made (Result.refused n) = refl
+nothing-made (Result.refusedVersion i v) = refl
+nothing-made (Result.seat id) = refl
+nothing-made (Result.device id) = refl
+nothing-made (Result.value n) = refl
+nothing-made (Result.truth b) = refl
+nothing-made Result.none = refl
+nothing-made Result.given = refl
 
 module _ (d : ℕ) where
   -- ---- what is told of new interfaces
 
-  madeFor-append : (j : ℕ) (ms ns : List Made) → madeFor j d (ms ++ ns) ≡ (madeFor j d ms || madeFor j d ns)
+  madeFor-append : (j : ℕ) (ms ns : List MadeInterface) → madeFor j d (ms ++ ns) ≡ (madeFor j d ms || madeFor j d ns)
   unfolding madeFor
   madeFor-append j [] ns = refl
   madeFor-append j (m ∷ ms) ns =
@@ -68,25 +68,25 @@ module _ (d : ℕ) where
   -- ---- what is told of the devices that stand
 
   -- an interface of device `e`: its id was given, and it was told for d just where e is d
-  pub record Told (next : ℕ) (ms : List Made) (e : ℕ) (i : Interface) : Type 0 where
+  pub record Told (next : ℕ) (ms : List MadeInterface) (e : ℕ) (i : Interface) : Type 0 where
     given : i .id < next
     pub owner : madeFor (i .id) d ms ≡ eqb e d
 
-  unlinked-told : {next : ℕ} {ms : List Made} {e : ℕ} (j : ℕ) {is : List Interface} → All (Told next ms e) is → All (Told next ms e) (map (unlinked j) is)
+  unlinked-told : {next : ℕ} {ms : List MadeInterface} {e : ℕ} (j : ℕ) {is : List Interface} → All (Told next ms e) is → All (Told next ms e) (map (unlinked j) is)
   unfolding unlinked
   unlinked-told j none = none
   unlinked-told j (more w a) = more (record { given = w .given; owner = w .owner }) (unlinked-told j a)
 
   module _ {P : Type 0} where
-    abbrev pub Stands : (next : ℕ) → List Made → Device P → Type 0
+    abbrev pub Stands : (next : ℕ) → List MadeInterface → Device P → Type 0
     Stands next ms x = All (Told next ms (x .id)) (x .interfaces)
 
-    pub record Owned (s : Session P) (ms : List Made) : Type 0 where
+    pub record Owned (s : Session P) (ms : List MadeInterface) : Type 0 where
       pub told : All (Stands (s .connection .nextId) ms) (s .devices)
       ahead : (j : ℕ) → s .connection .nextId ≤ j → madeFor j d ms ≡ false
 
     -- other devices, of which no more is told
-    others : (s s′ : Session P) (ms : List Made) → s .connection .nextId ≤ s′ .connection .nextId → Owned s ms →
+    others : (s s′ : Session P) (ms : List MadeInterface) → s .connection .nextId ≤ s′ .connection .nextId → Owned s ms →
         All (Stands (s .connection .nextId) ms) (s′ .devices) → Owned s′ ms
     others s s′ ms l o a =
         record {
@@ -94,14 +94,14 @@ module _ (d : ℕ) where
           ahead = λ j h. o .ahead j (omega arith);
         }
 
-    amended-stands : {next : ℕ} {ms : List Made} (a : Amend) (x : Device P) → Stands next ms x → Stands next ms (amended a x)
+    amended-stands : {next : ℕ} {ms : List MadeInterface} (a : Amend) (x : Device P) → Stands next ms x → Stands next ms (amended a x)
     unfolding amended
     amended-stands (Amend.touchDown t) x h = h
     amended-stands (Amend.touchUp t) x h = h
     amended-stands Amend.clearTouches x h = h
     amended-stands (Amend.unlink i) x h = unlinked-told i h
 
-    edit-owned : (timed : Bool) (e : Edit) (p : P) (s : Session P) (ms : List Made) → allows timed e ≡ true → Owned s ms → Owned (enact e p s) ms
+    edit-owned : (timed : Bool) (e : Edit) (p : P) (s : Session P) (ms : List MadeInterface) → allows timed e ≡ true → Owned s ms → Owned (enact e p s) ms
     unfolding enact allows
     edit-owned timed (Edit.raise n) p s ms h o = others s _ ms (omega arith) o (o .told)
     edit-owned timed (Edit.addSeat caps) p s ms h o = others s _ ms (omega arith) o (o .told)
@@ -115,7 +115,7 @@ module _ (d : ℕ) where
     edit-owned timed (Edit.queue r) p s ms h o = others s _ ms (omega arith) o (o .told)
     edit-owned timed Edit.deliver p s ms h o = others s _ ms (omega arith) o (o .told)
 
-    edits-owned : (timed : Bool) (es : List Edit) (p : P) (s : Session P) (ms : List Made) → allowsAll timed es ≡ true → Owned s ms → Owned (enactAll es p s) ms
+    edits-owned : (timed : Bool) (es : List Edit) (p : P) (s : Session P) (ms : List MadeInterface) → allowsAll timed es ≡ true → Owned s ms → Owned (enactAll es p s) ms
     unfolding enactAll
     edits-owned timed [] p s ms h o = o
     edits-owned timed (e ∷ es) p s ms h o =
@@ -123,7 +123,7 @@ module _ (d : ℕ) where
         edits-owned timed es p (enact e p s) ms (a .1) (edit-owned timed e p s ms (a .0) o)
 
     -- a new device, with what is told of it
-    added-owned : (seat caps : ℕ) (p : P) (s : Session P) (ms : List Made) → Owned s ms →
+    added-owned : (seat caps : ℕ) (p : P) (s : Session P) (ms : List MadeInterface) → Owned s ms →
         Owned (enact (Edit.addDevice seat caps) p s) (ms ++ madeWith (s .connection .nextId) (newInterfaces (s .connection .nextId) caps))
     unfolding enact
     added-owned seat caps p s ms o =
@@ -136,7 +136,7 @@ module _ (d : ℕ) where
         n : ℕ
         n = s .connection .nextId
 
-        ns : List Made
+        ns : List MadeInterface
         ns = madeWith n (interfacesFrom (n + 1) (bitsOf caps))
 
         old : (j : ℕ) → j < n → madeFor j d (ms ++ ns) ≡ madeFor j d ms
@@ -146,7 +146,7 @@ module _ (d : ℕ) where
         new j h = rw (madeFor-append j ms ns, o .ahead j h)
 
     -- a plan carried out, with what its answer tells
-    pub plan-owned : {timed : Bool} (plan : Plan) (p : P) (s : Session P) (ms : List Made) → Formed timed (s .connection .nextId) plan → Owned s ms →
+    pub plan-owned : {timed : Bool} (plan : Plan) (p : P) (s : Session P) (ms : List MadeInterface) → Formed timed (s .connection .nextId) plan → Owned s ms →
         Owned (enactAll (plan .edits) p s) (ms ++ made (plan .outcome) (plan .events))
     unfolding enactAll made
     plan-owned plan p s ms (answers o) h = rw (nothing-made o, append-nil ms) h

@@ -8,10 +8,10 @@ use Rattle.wire.specs.declared.event.Event.{Event}
 use Rattle.model.specs.Call.{Sight, Call}
 use Rattle.model.specs.Session.{Interface, Seat, Connection, View}
 use Rattle.model.specs.Edit.{Amend, Edit, newInterfaces}
-use Rattle.model.specs.Plan.{Sent, on, Outcome, Plan, answer, ignore, edit, send}
+use Rattle.model.specs.Plan.{Sent, on, Result, Plan, answer, ignore, edit, send}
 use Rattle.model.specs.Decide.{Found, sendNext, pendAfter, nameEvents, interfaceEvents, sendDestroyed, removeSeats, decide}
 use Rattle.model.specs.Step.{refuses}
-use Rattle.model.specs.Demand3.{Made, madeOn, made}
+use Rattle.model.specs.Demand3.{MadeInterface, madeOn, made}
 use Rattle.model.proofs.Walk.{Noted, Leaf, walk, isTimed}
 
 -- whether a plan that adds no device may have an edit: a request is pended by a timed one only
@@ -42,19 +42,19 @@ allows-cons timed e es h = go (allows timed e) (allowsAll timed es) h
     go false b h = absurd (false≢true h)
 
 -- the interfaces of a device, as its answer tells them
-unfoldable pub madeWith : (device : ℕ) → List Interface → List Made
+unfoldable pub madeWith : (device : ℕ) → List Interface → List MadeInterface
 madeWith d [] = []
 madeWith d (i ∷ is) = record { interface = i .id; device = d } ∷ madeWith d is
 
 -- the plans of a session whose next id is `next`
 pub data Formed (timed : Bool) (next : ℕ) : Plan → Type 0 where
   -- an answer and nothing else; each refusal is one
-  answers : (o : Outcome) → Formed timed next (record { outcome = o; events = []; edits = [] })
-  acts : (o : Outcome) (events : List Sent) (edits : List Edit) → refuses o ≡ false → made o events ≡ [] → allowsAll timed edits ≡ true →
+  answers : (o : Result) → Formed timed next (record { outcome = o; events = []; edits = [] })
+  acts : (o : Result) (events : List Sent) (edits : List Edit) → refuses o ≡ false → made o events ≡ [] → allowsAll timed edits ≡ true →
       Formed timed next (record { outcome = o; events = events; edits = edits })
   -- a new device, whose interfaces its events tell
   adds : (events : List Sent) (seat capabilities : ℕ) → madeOn next events ≡ madeWith next (newInterfaces next capabilities) →
-      Formed timed next (record { outcome = Outcome.device next; events = events; edits = Edit.addDevice seat capabilities ∷ [] })
+      Formed timed next (record { outcome = Result.device next; events = events; edits = Edit.addDevice seat capabilities ∷ [] })
 
 pend-allowed : (amends : List Amend) (f : Found) (s : Sight) → allowsAll true (pendAfter amends f s .edits) ≡ true
 unfolding pendAfter allowsAll
@@ -86,19 +86,19 @@ interface-made c d (i ∷ is) = ap (λ r. record { interface = i .id; device = d
 leaf-formed : {v : View} {now : ℕ} {c : Call Sight} {plan : Plan} → Leaf v now c plan → Formed (isTimed c) (v .connection .nextId) plan
 unfolding isTimed answer ignore pendAfter edit send sendNext sendDestroyed refuses made allowsAll madeOn
 leaf-formed (Leaf.turned o h m) = answers o
-leaf-formed (Leaf.passed h) = answers Outcome.accepted
-leaf-formed (Leaf.pended {x = x} f amends e g t) = acts Outcome.accepted [] _ refl refl (pend-allowed amends f x)
+leaf-formed (Leaf.passed h) = answers Result.accepted
+leaf-formed (Leaf.pended {x = x} f amends e g t) = acts Result.accepted [] _ refl refl (pend-allowed amends f x)
 leaf-formed (Leaf.answered o m) = answers o
-leaf-formed (Leaf.synced callback) = acts Outcome.accepted _ _ refl refl refl
-leaf-formed (Leaf.noted object event edits h) = acts Outcome.accepted _ _ refl refl (noted-allowed h)
-leaf-formed (Leaf.deviceGone id f e) = acts Outcome.accepted _ _ refl refl refl
-leaf-formed (Leaf.seatGone id) = acts Outcome.accepted _ _ refl refl refl
-leaf-formed {v = v} (Leaf.allGone reason explanation) = acts Outcome.accepted _ _ refl refl (removeSeats-allowed (v .connection .seats))
-leaf-formed (Leaf.queued u) = acts Outcome.accepted _ _ refl refl refl
-leaf-formed (Leaf.flushed id f u e) = acts Outcome.accepted _ _ refl refl refl
-leaf-formed (Leaf.closed id serial time f e) = acts Outcome.accepted _ _ refl refl refl
-leaf-formed Leaf.handed = acts Outcome.given _ _ refl refl refl
-leaf-formed {v = v} (Leaf.newSeat name caps) = acts (Outcome.seat (v .connection .nextId)) _ _ refl refl refl
+leaf-formed (Leaf.synced callback) = acts Result.accepted _ _ refl refl refl
+leaf-formed (Leaf.noted object event edits h) = acts Result.accepted _ _ refl refl (noted-allowed h)
+leaf-formed (Leaf.deviceGone id f e) = acts Result.accepted _ _ refl refl refl
+leaf-formed (Leaf.seatGone id) = acts Result.accepted _ _ refl refl refl
+leaf-formed {v = v} (Leaf.allGone reason explanation) = acts Result.accepted _ _ refl refl (removeSeats-allowed (v .connection .seats))
+leaf-formed (Leaf.queued u) = acts Result.accepted _ _ refl refl refl
+leaf-formed (Leaf.flushed id f u e) = acts Result.accepted _ _ refl refl refl
+leaf-formed (Leaf.closed id serial time f e) = acts Result.accepted _ _ refl refl refl
+leaf-formed Leaf.handed = acts Result.given _ _ refl refl refl
+leaf-formed {v = v} (Leaf.newSeat name caps) = acts (Result.seat (v .connection .nextId)) _ _ refl refl refl
 leaf-formed {v = v} (Leaf.newDevice seat name type both) =
     let id = v .connection .nextId in
     adds _ seat both (name-made id id name _ ∙ interface-made (v .connection) id (newInterfaces id both))

@@ -1,5 +1,5 @@
 -- The n-th timed request that `next_request` gives for a device is the n-th taken on it, and while the device stands the rest is queued or pending.
--- From call to call go on the sum of Order, with what the papers call taken, and the owners of interfaces that the answers tell. Assumes nothing.
+-- From call to call go on the sum of Order, with what the scope calls taken, and the owners of interfaces that the answers tell. Assumes nothing.
 use Prim.Native.Nat.{ℕ}
 use mathlib.Core.Path.{_≡_, refl, subst, sym}
 use mathlib.Core.Bool.{true}
@@ -8,10 +8,10 @@ use mathlib.Core.Option.{Option}
 use lib.ListN.{List·getD-append}
 use Rattle.model.specs.Call.{Input, Load, Call, Turn, sight, mapCall, loadOf, split}
 use Rattle.model.specs.Session.{Item, Session, fresh, view}
-use Rattle.model.specs.Plan.{Outcome}
+use Rattle.model.specs.Plan.{Result}
 use Rattle.model.specs.Decide.{decide}
 use Rattle.model.specs.Step.{Step, refuses, source, unchanged, step, run}
-use Rattle.model.specs.Demand3.{Made, made, takenOf, takenFrom, taken, itemsOf, given, trail, In-order, Nth}
+use Rattle.model.specs.Demand3.{MadeInterface, made, takenOf, takenFrom, taken, itemsOf, given, trail, In-order, Nth}
 use Rattle.model.specs.Reachable.{sessionAfter}
 use Rattle.model.specs.Kept.{Nothing-lost}
 use Rattle.model.proofs.Plans.{decide-formed}
@@ -21,13 +21,13 @@ use Rattle.model.proofs.Owners.{Owned, nothing-made, plan-owned, fresh-
 use Rattle.model.proofs.Taken.{turn-took}
 
 -- a refused call takes nothing
-refused-taken : (d : ℕ) (ms : List Made) (s : Session Load) (o : Outcome) (c : Call Input) → refuses o ≡ true → takenOf d ms (view s) o c ≡ []
+refused-taken : (d : ℕ) (ms : List MadeInterface) (s : Session Load) (o : Result) (c : Call Input) → refuses o ≡ true → takenOf d ms (view s) o c ≡ []
 unfolding takenOf
 refused-taken d ms s o (Call.timed i ver a) h = rw h
 refused-taken d ms s o (Call.plain c) h = refl
 
 module _ (d : ℕ) where
-  module _ (t : Turn) (ms : List Made) (s : Session Load) (T G : List (Item Load)) (k : Keeps d s T G) (w : Owned d s ms) where
+  module _ (t : Turn) (ms : List MadeInterface) (s : Session Load) (T G : List (Item Load)) (k : Keeps d s T G) (w : Owned d s ms) where
     -- what is to hold after the call, if it comes to `r`
     abbrev Next : Step Load → Type 0
     Next r =
@@ -41,7 +41,7 @@ module _ (d : ℕ) where
       plan-owned d (decide (view s) (t .now) (mapCall sight (t .call))) (loadOf (t .call)) s ms (decide-formed (view s) (t .now) (mapCall sight (t .call))) w,
     )
 
-    unchanged-next : (o : Outcome) → refuses o ≡ true → Next (unchanged s o)
+    unchanged-next : (o : Result) → refuses o ≡ true → Next (unchanged s o)
     unfolding unchanged itemsOf
     unchanged-next o h = (rw (refused-taken d ms s o (t .call) h, append-nil T, append-nil G) k, rw (nothing-made o, append-nil ms) w)
 
@@ -49,7 +49,7 @@ module _ (d : ℕ) where
     step-next r (within e) = subst (λ x. Next x) (sym e) source-next
     step-next r (beyond o h e) = subst (λ x. Next x) (sym e) (unchanged-next o (limit-refuses o h))
 
-  run-keeps : (ts : List Turn) (ms : List Made) (s : Session Load) (T G : List (Item Load)) → Keeps d s T G → Owned d s ms →
+  run-keeps : (ts : List Turn) (ms : List MadeInterface) (s : Session Load) (T G : List (Item Load)) → Keeps d s T G → Owned d s ms →
       Keeps d (sessionAfter (map split ts) s) (T ++ takenFrom d ms s ts) (G ++ given d (run (map split ts) s))
   unfolding takenFrom run given sessionAfter
   run-keeps [] ms s T G k w = rw (append-nil T, append-nil G) k

@@ -7,7 +7,7 @@ use mathlib.Core.List.{List, [], _∷_, map}
 use native.Mathlib.Nat.{le-refl}
 use Rattle.model.specs.Call.{Split, split}
 use Rattle.model.specs.Session.{Session, fresh, view}
-use Rattle.model.specs.Plan.{Outcome}
+use Rattle.model.specs.Plan.{Result}
 use Rattle.model.specs.Decide.{decide}
 use Rattle.model.specs.Step.{refuses, carriedOut, source, unchanged, step, run}
 use Rattle.model.specs.Demand3.{trail}
@@ -19,17 +19,17 @@ use Rattle.model.proofs.ReachablePlans.{decide-fits}
 use Rattle.model.proofs.Within.{step-by}
 
 -- a refusal tells no id
-refusal-ids : (o : Outcome) → refuses o ≡ true → newIds o [] ≡ []
+refusal-ids : (o : Result) → refuses o ≡ true → newIds o [] ≡ []
 unfolding refuses newIds
-refusal-ids Outcome.accepted e = refl
-refusal-ids (Outcome.refused n) e = refl
-refusal-ids (Outcome.refusedVersion i v) e = refl
-refusal-ids (Outcome.seat id) e = absurd (false≢true e)
-refusal-ids (Outcome.device id) e = absurd (false≢true e)
-refusal-ids (Outcome.value n) e = refl
-refusal-ids (Outcome.truth b) e = refl
-refusal-ids Outcome.none e = refl
-refusal-ids Outcome.given e = refl
+refusal-ids Result.accepted e = refl
+refusal-ids (Result.refused n) e = refl
+refusal-ids (Result.refusedVersion i v) e = refl
+refusal-ids (Result.seat id) e = absurd (false≢true e)
+refusal-ids (Result.device id) e = absurd (false≢true e)
+refusal-ids (Result.value n) e = refl
+refusal-ids (Result.truth b) e = refl
+refusal-ids Result.none e = refl
+refusal-ids Result.given e = refl
 
 module _ {P : Type 0} where
   -- what every step keeps

@@ -13,7 +13,7 @@ use Rattle.wire.specs.declared.event.Event.{Event}
 use Rattle.model.specs.Call.{Sight, Call}
 use Rattle.model.specs.Session.{Interface, Seat, Device, Connection, Session, mapDevice, blank, view}
 use Rattle.model.specs.Edit.{Amend, Edit, newInterfaces, enact, enactAll}
-use Rattle.model.specs.Plan.{Sent, on, Outcome, Plan, answer, ignore, edit, send}
+use Rattle.model.specs.Plan.{Sent, on, Result, Plan, answer, ignore, edit, send}
 use Rattle.model.specs.Decide.{Found, version, versionOr1, later, find, linksIn, pendAfter, handler, deviceForInterface, nameEvents, interfaceEvents, removeSeats, sendNext, sendDestroyed, decide}
 use Rattle.model.specs.Demand3.{madeOn}
 use Rattle.model.specs.Reachable.{newIds}
@@ -39,7 +39,7 @@ made-interfaces d object c (i ∷ is) es = ap (λ r. i .id ∷ r) (made-interfac
 device-told : (id seat ver type : ℕ) (name : Option (List ℕ)) (c : Connection) (is : List Interface) (high : ℕ) →
     Between id (id ∷ idsOf is) high →
     Between id
-    (newIds (Outcome.device id) (on seat (Event.Device id ver) ∷ nameEvents id name ++ (on id (Event.DeviceType type) ∷ interfaceEvents c id is ++ (on id Event.Done ∷ []))))
+    (newIds (Result.device id) (on seat (Event.Device id ver) ∷ nameEvents id name ++ (on id (Event.DeviceType type) ∷ interfaceEvents c id is ++ (on id Event.Done ∷ []))))
     high
 unfolding newIds madeOn
 device-told id seat ver type name c is high b = rw (made-name id id name, made-interfaces id id c is, append-nil) b
@@ -55,17 +55,17 @@ noted-quiet Noted.nothing = refl
 noted-quiet (Noted.clears k) = refl
 noted-quiet (Noted.unlinks k i) = refl
 
-modest-ids : (o : Outcome) → modest o ≡ true → newIds o [] ≡ []
+modest-ids : (o : Result) → modest o ≡ true → newIds o [] ≡ []
 unfolding modest newIds
-modest-ids Outcome.accepted h = refl
-modest-ids (Outcome.refused n) h = refl
-modest-ids (Outcome.refusedVersion i v) h = refl
-modest-ids (Outcome.seat id) h = absurd (false≢true h)
-modest-ids (Outcome.device id) h = absurd (false≢true h)
-modest-ids (Outcome.value n) h = refl
-modest-ids (Outcome.truth b) h = refl
-modest-ids Outcome.none h = refl
-modest-ids Outcome.given h = refl
+modest-ids Result.accepted h = refl
+modest-ids (Result.refused n) h = refl
+modest-ids (Result.refusedVersion i v) h = refl
+modest-ids (Result.seat id) h = absurd (false≢true h)
+modest-ids (Result.device id) h = absurd (false≢true h)
+modest-ids (Result.value n) h = refl
+modest-ids (Result.truth b) h = refl
+modest-ids Result.none h = refl
+modest-ids Result.given h = refl
 
 -- ---- the device that a search finds holds what the device in its slot does
 
@@ -116,7 +116,7 @@ module _ {P : Type 0} (s : Session P) (p : P) where
   pend-fits f x e (Touched.down few) = down-fits f x (x .touch) e few
   pend-fits f x e Touched.up = fits-quiet _ refl refl
 
-  answer-fits : (o : Outcome) → modest o ≡ true → Fits (answer o)
+  answer-fits : (o : Result) → modest o ≡ true → Fits (answer o)
   unfolding answer allQuiet
   answer-fits o h = fits-quiet (answer o) (modest-ids o h) refl
 
@@ -127,7 +127,7 @@ module _ {P : Type 0} (s : Session P) (p : P) where
   leaf-fits : {now : ℕ} {c : Call Sight} {plan : Plan} → Leaf (view s) now c plan → Fits plan
   unfolding ignore modest edit send sendNext sendDestroyed newIds allQuiet enactAll enact view
   leaf-fits (Leaf.turned o h m) = answer-fits o m
-  leaf-fits (Leaf.passed h) = answer-fits Outcome.accepted refl
+  leaf-fits (Leaf.passed h) = answer-fits Result.accepted refl
   leaf-fits (Leaf.pended {i = i} {x = x} f amends e g t) = pend-fits f x (found-stands (capabilityIndex (handler (x .kind) .capability)) i f e) t
   leaf-fits (Leaf.answered o m) = answer-fits o m
   leaf-fits (Leaf.synced callback) = fits-quiet _ refl refl

@@ -1,4 +1,4 @@
--- What a plan takes is what the papers call taken: a timed request that is neither refused nor ignored, on the device that was told of its interface;
+-- What a plan takes is what the scope calls taken: a timed request that is neither refused nor ignored, on the device that was told of its interface;
 -- any other call takes nothing. Assumes nothing.
 use Prim.Native.Nat.{ℕ, zero, suc}
 use mathlib.Core.Path.{_≡_, refl, ap, sym, subst, _∙_}
@@ -15,7 +15,7 @@ use Rattle.model.specs.Edit.{Amend, Edit, amended, item, at, enact}
 use Rattle.model.specs.Plan.{Plan, answer, ignore, edit}
 use Rattle.model.specs.Decide.{Found, later, find, linksIn, deviceForInterface, handler, pendAfter, decide}
 use Rattle.model.specs.Step.{refuses}
-use Rattle.model.specs.Demand3.{Made, madeFor, ignored, takenOf}
+use Rattle.model.specs.Demand3.{MadeInterface, madeFor, ignored, takenOf}
 use Rattle.model.proofs.Plans.{allows, allowsAll, allows-cons, Formed, answers, acts, adds, decide-formed}
 use Rattle.model.proofs.OneDevice.{takenAt, took, tookAll, amended-keeps}
 use Rattle.model.proofs.All.{All}
@@ -29,7 +29,7 @@ either true true false o h = inr h
 either true false false o h = inr h
 either false c false o h = inr h
 
-module _ (d : ℕ) (ms : List Made) (next cap object : ℕ) where
+module _ (d : ℕ) (ms : List MadeInterface) (next cap object : ℕ) where
   -- the device that links an interface is the one that it was told for
   links-owner : (e : ℕ) {is : List Interface} → All (Told d next ms e) is → linksIn cap object is ≡ true → madeFor object d ms ≡ eqb e d
   unfolding linksIn
@@ -74,7 +74,7 @@ module _ {P : Type 0} (d : ℕ) where
 
   -- ---- the device found for an interface is the one that it was told for
 
-  module _ (ms : List Made) (next cap object : ℕ) (i : Item P) where
+  module _ (ms : List MadeInterface) (next cap object : ℕ) (i : Item P) where
     abbrev Takes : List (Device P) → Option Found → Type 0
     Takes ds none = Unit {0}
     Takes ds (some f) = takenAt d i (f .slot) ds ≡ cond (madeFor object d ms) (i ∷ []) []
@@ -111,8 +111,8 @@ module _ {P : Type 0} (d : ℕ) where
   pend-took k x p [] s = append-nil _
   pend-took k x p (a ∷ more) s = pend-took k x p more (enact (Edit.amend k a) p s) ∙ amended-taken (item x p) a k k (s .devices)
 
-  -- the papers' words for a request of sight x on interface i, with what a plan takes
-  leaf-took : {now i ver : ℕ} {x : Sight} {plan : Plan} (p : P) (s : Session P) (ms : List Made) → Owned d s ms → Leaf (view s) now (Call.timed i ver x) plan →
+  -- the scope's words for a request of sight x on interface i, with what a plan takes
+  leaf-took : {now i ver : ℕ} {x : Sight} {plan : Plan} (p : P) (s : Session P) (ms : List MadeInterface) → Owned d s ms → Leaf (view s) now (Call.timed i ver x) plan →
       tookAll d (plan .edits) p s ≡ cond (not (refuses (plan .outcome)) && (not (ignored (view s) i x) && madeFor i d ms)) (item x p ∷ []) []
   unfolding answer ignore pendAfter edit refuses tookAll view deviceForInterface
   leaf-took p s ms o (Leaf.turned out h m) = rw h
@@ -123,7 +123,7 @@ module _ {P : Type 0} (d : ℕ) where
 
 -- ---- every call
 
-pub turn-took : (d : ℕ) (now : ℕ) (c : Call Input) (s : Session Load) (ms : List Made) → Owned d s ms →
+pub turn-took : (d : ℕ) (now : ℕ) (c : Call Input) (s : Session Load) (ms : List MadeInterface) → Owned d s ms →
     tookAll d (decide (view s) now (mapCall sight c) .edits) (loadOf c) s ≡ takenOf d ms (view s) (decide (view s) now (mapCall sight c) .outcome) c
 unfolding mapCall loadOf takenOf isTimed
 turn-took d now (Call.timed i ver a) s ms o = leaf-took d (load a) s ms o (walk (view s) now (Call.timed i ver (sight a)))

@@ -1,40 +1,40 @@
 -- THE WALK: every plan of `decide` is one of fifteen. What is to hold of every plan is shown of these, and the calls are gone over here and nowhere
 -- else. Assumes nothing.
 use Prim.Native.Nat.{ℕ, _≤_, _<_}
-use mathlib.Core.Path.{_≡_, refl, ap, _∙_}
+use mathlib.Core.Path.{_≡_, refl, ap}
 use mathlib.Core.Bool.{Bool, true, false, _&&_, not, cond}
-use mathlib.Core.List.{List, [], _∷_, _++_}
+use mathlib.Core.List.{List, [], _∷_}
 use mathlib.Core.Option.{Option, none, some}
 use native.Mathlib.Omega.{arith}
 use lib.Dec.{leb, ltb, eqb}
 use lib.ListN.{length}
 use borrow.Author.Tests.{leb-false}
 use Rattle.eiproto.specs.Enum.{deviceTypeNumber, disconnectReasonNumber}
-use Rattle.eiproto.specs.Bits.{bitsOf, common, contains}
+use Rattle.eiproto.specs.Bits.{common, contains}
 use Rattle.eiproto.specs.Capability.{capabilityIndex, unknownBits}
-use Rattle.eiproto.specs.Interface.{eiCallback, eiSeat, eiDevice, eiTouchscreen, lookup}
+use Rattle.eiproto.specs.Interface.{eiCallback, eiTouchscreen, lookup}
 use Rattle.utf8.specs.Rfc3629.{isUtf8}
 use Rattle.wire.specs.declared.event.Event.{Event}
 use Rattle.touches.specs.Touches.{member}
 use Rattle.model.specs.Call.{Sight, HandshakeRequest, Plain, Call}
-use Rattle.model.specs.Session.{Untimed, Request, View}
-use Rattle.model.specs.Edit.{Amend, Edit, newInterfaces, raised}
-use Rattle.model.specs.Plan.{Sent, on, Outcome, Plan, answer, refuse, ignore, edit, send}
-use Rattle.model.specs.Decide.{Found, Rule, handler, deviceForInterface, deviceOf, seatOf, version, versionOr1, checkUtf8, checkName, checkOptional, checkCapabilities, onFound, sendNext, pendAfter, ifHeld, handle, handleTimed, handleHandshake, handleSync, handleSeat, handleDevice, handleFrame, handleRelease, nextOf, nameEvents, capabilityEvents, interfaceEvents, seatAdded, addSeat, deviceAdded, addDevice, destroyed, objectsOf, seatObjects, seatsObjects, sendDestroyed, removeDevice, removeSeat, removeSeats, farewell, disconnected, explanationText, explained, notify, negotiated, versionAnswer, decidePlain, decide}
+use Rattle.model.specs.Session.{Untimed, Queued, View}
+use Rattle.model.specs.Edit.{Amend, Edit}
+use Rattle.model.specs.Plan.{on, Result, Plan, answer, refuse, ignore, edit, send}
+use Rattle.model.specs.Decide.{Found, Rule, handler, deviceForInterface, deviceOf, seatOf, checkUtf8, checkName, checkOptional, checkCapabilities, onFound, sendNext, pendAfter, ifHeld, handle, handleTimed, handleHandshake, handleSync, handleSeat, handleDevice, handleFrame, handleRelease, nextOf, seatAdded, addSeat, deviceAdded, addDevice, objectsOf, seatObjects, seatsObjects, sendDestroyed, removeDevice, removeSeat, removeSeats, farewell, disconnected, notify, negotiated, versionAnswer, decidePlain, decide}
 use Rattle.model.specs.Step.{refuses}
 use Rattle.model.specs.Demand3.{wantsHeld, ignoredOn, ignored}
 
 -- an outcome that neither tells an id nor gives a request
-unfoldable pub modest : Outcome → Bool
-modest Outcome.accepted = true
-modest (Outcome.refused n) = true
-modest (Outcome.refusedVersion i v) = true
-modest (Outcome.seat id) = false
-modest (Outcome.device id) = false
-modest (Outcome.value n) = true
-modest (Outcome.truth b) = true
-modest Outcome.none = true
-modest Outcome.given = false
+unfoldable pub modest : Result → Bool
+modest Result.accepted = true
+modest (Result.refused n) = true
+modest (Result.refusedVersion i v) = true
+modest (Result.seat id) = false
+modest (Result.device id) = false
+modest (Result.value n) = true
+modest (Result.truth b) = true
+modest Result.none = true
+modest Result.given = false
 
 -- what an event that tells of a change may change besides
 pub data Noted : List Edit → Type 0 where
@@ -50,12 +50,12 @@ pub data Touched (held : List ℕ) (touch : ℕ) : List Amend → Type 0 where
 
 pub data Leaf (v : View) (now : ℕ) : Call Sight → Plan → Type 0 where
   -- a timed request: refused; "accepted and does nothing"; pended on the device that was found
-  turned : {i ver : ℕ} {x : Sight} (o : Outcome) → refuses o ≡ true → modest o ≡ true → Leaf v now (Call.timed i ver x) (answer o)
+  turned : {i ver : ℕ} {x : Sight} (o : Result) → refuses o ≡ true → modest o ≡ true → Leaf v now (Call.timed i ver x) (answer o)
   passed : {i ver : ℕ} {x : Sight} → ignored v i x ≡ true → Leaf v now (Call.timed i ver x) ignore
   pended : {i ver : ℕ} {x : Sight} (f : Found) (amends : List Amend) → deviceForInterface (capabilityIndex (handler (x .kind) .capability)) i v ≡ some f →
       ignored v i x ≡ false → Touched (f .device .downTouchIds) (x .touch) amends → Leaf v now (Call.timed i ver x) (pendAfter amends f x)
   -- any other call: an answer and nothing else; events; requests queued; a request given; something new
-  answered : {c : Plain} (o : Outcome) → modest o ≡ true → Leaf v now (Call.plain c) (answer o)
+  answered : {c : Plain} (o : Result) → modest o ≡ true → Leaf v now (Call.plain c) (answer o)
   synced : {c : Plain} (callback : ℕ) → Leaf v now (Call.plain c) (send (on callback (Event.CallbackDone 0) ∷ []) [])
   noted : {c : Plain} (object : ℕ) (event : ℕ → Event) (edits : List Edit) → Noted edits → Leaf v now (Call.plain c) (sendNext v object event edits)
   deviceGone : {c : Plain} (id : ℕ) (f : Found) → deviceOf id v ≡ some f →
@@ -69,7 +69,7 @@ pub data Leaf (v : View) (now : ℕ) : Call Sight → Plan → Type 0 where
   flushed : {c : Plain} (id : ℕ) (f : Found) (u : Untimed) → deviceOf id v ≡ some f →
       Leaf v now (Call.plain c) (edit (Edit.frame (f .slot) (v .connection .lastSerial) now ∷ Edit.queue u ∷ []))
   closed : {c : Plain} (id serial time : ℕ) (f : Found) → deviceOf id v ≡ some f → Leaf v now (Call.plain c) (edit (Edit.frame (f .slot) serial time ∷ []))
-  handed : {c : Plain} → Leaf v now (Call.plain c) (record { outcome = Outcome.given; events = []; edits = Edit.deliver ∷ [] })
+  handed : {c : Plain} → Leaf v now (Call.plain c) (record { outcome = Result.given; events = []; edits = Edit.deliver ∷ [] })
   newSeat : {c : Plain} (name : Option (List ℕ)) (caps : ℕ) → Leaf v now (Call.plain c) (seatAdded v name caps)
   newDevice : {c : Plain} (seat : ℕ) (name : Option (List ℕ)) (type both : ℕ) → Leaf v now (Call.plain c) (deviceAdded v seat name type both)
 
@@ -92,9 +92,9 @@ module _ (v : View) (now i ver : ℕ) (x : Sight) where
   abbrev Here : Plan → Type 0
   Here plan = Leaf v now (Call.timed i ver x) plan
 
-  refuse-here : (n : ℕ) → refuses (Outcome.refused n) ≡ true → Here (refuse n)
+  refuse-here : (n : ℕ) → refuses (Result.refused n) ≡ true → Here (refuse n)
   unfolding refuse modest
-  refuse-here n h = turned (Outcome.refused n) h refl
+  refuse-here n h = turned (Result.refused n) h refl
 
   module _ (f : Found) (e : deviceForInterface (capabilityIndex (handler (x .kind) .capability)) i v ≡ some f) where
     held-here : (amends : List Amend) → Touched (f .device .downTouchIds) (x .touch) amends →
@@ -127,7 +127,7 @@ module _ (v : View) (now i ver : ℕ) (x : Sight) where
     handle-here Rule.motion g = held-here [] Touched.same g
     handle-here Rule.up g = held-here (Amend.touchUp (x .touch) ∷ []) Touched.up g
     handle-here Rule.cancel g =
-        cond-leaf (ltb ver 2) (turned (Outcome.refusedVersion eiTouchscreen ver) refl refl) (held-here (Amend.touchUp (x .touch) ∷ []) Touched.up g)
+        cond-leaf (ltb ver 2) (turned (Result.refusedVersion eiTouchscreen ver) refl refl) (held-here (Amend.touchUp (x .touch) ∷ []) Touched.up g)
     handle-here Rule.utf8 g =
         cond-leaf (eqb (x .size) 0) (refuse-here 6 refl) (cond-leaf (ltb 254 (x .size)) (refuse-here 6 refl) (pended f [] e g Touched.same))
 
@@ -145,11 +145,11 @@ module _ (v : View) (now i ver : ℕ) (x : Sight) where
 module _ {v : View} {now : ℕ} {c : Plain} where
   refuse-leaf : (n : ℕ) → Leaf v now (Call.plain c) (refuse n)
   unfolding refuse modest
-  refuse-leaf n = answered (Outcome.refused n) refl
+  refuse-leaf n = answered (Result.refused n) refl
 
   ignore-leaf : Leaf v now (Call.plain c) ignore
   unfolding ignore modest
-  ignore-leaf = answered Outcome.accepted refl
+  ignore-leaf = answered Result.accepted refl
 
   checkUtf8-leaf : (text : List ℕ) {x : Plan} → Leaf v now (Call.plain c) x → Leaf v now (Call.plain c) (checkUtf8 text x)
   unfolding checkUtf8
@@ -186,15 +186,15 @@ module _ {v : View} {now : ℕ} {c : Plain} where
   unfolding handleDevice
   device-leaf id u = onFound-leaf (deviceOf id v) ignore-leaf λ f e. flushed id f u e
 
-  next-leaf : (rs : List (Request (Unit {0}))) → Leaf v now (Call.plain c) (nextOf rs)
+  next-leaf : (rs : List (Queued (Unit {0}))) → Leaf v now (Call.plain c) (nextOf rs)
   unfolding nextOf modest
-  next-leaf [] = answered Outcome.none refl
+  next-leaf [] = answered Result.none refl
   next-leaf (r ∷ rs) = handed
 
   version-leaf : (o : Option ℕ) → Leaf v now (Call.plain c) (answer (versionAnswer o))
   unfolding versionAnswer modest
-  version-leaf none = answered Outcome.none refl
-  version-leaf (some n) = answered (Outcome.value n) refl
+  version-leaf none = answered Result.none refl
+  version-leaf (some n) = answered (Result.value n) refl
 
   notify-leaf : (id : ℕ) (event : ℕ → Event) (edits : ℕ → List Edit) → ((k : ℕ) → Noted (edits k)) → Leaf v now (Call.plain c) (notify v id event edits)
   unfolding notify
@@ -203,7 +203,7 @@ module _ {v : View} {now : ℕ} {c : Plain} where
 plain-leaf : (v : View) (now : ℕ) (c : Plain) → Leaf v now (Call.plain c) (decidePlain v now c)
 unfolding decidePlain handleSync handleFrame handleRelease addSeat addDevice removeDevice removeSeat disconnected modest
 plain-leaf v now (Plain.handshake r) = handshake-leaf r
-plain-leaf v now (Plain.sync callback ver) = cond-leaf (eqb ver 1) (synced callback) (answered (Outcome.refusedVersion eiCallback ver) refl)
+plain-leaf v now (Plain.sync callback ver) = cond-leaf (eqb ver 1) (synced callback) (answered (Result.refusedVersion eiCallback ver) refl)
 plain-leaf v now Plain.disconnect = queued Untimed.Disconnect
 plain-leaf v now Plain.pingpongDone = ignore-leaf
 plain-leaf v now (Plain.seatRelease seat) = noted seat (λ s. Event.Destroyed s) [] Noted.nothing
@@ -229,7 +229,7 @@ plain-leaf v now (Plain.startEmulating d q) = notify-leaf d (λ s. Event.StartEm
 plain-leaf v now (Plain.stopEmulating d) = notify-leaf d (λ s. Event.StopEmulating s) (λ k. []) (λ k. Noted.nothing)
 plain-leaf v now (Plain.frame d t) = notify-leaf d (λ s. Event.Frame s t) (λ k. []) (λ k. Noted.nothing)
 plain-leaf v now (Plain.disconnected reason explanation) = checkOptional-leaf explanation (allGone (disconnectReasonNumber reason) explanation)
-plain-leaf v now Plain.lastSerial = answered (Outcome.value (v .connection .lastSerial)) refl
+plain-leaf v now Plain.lastSerial = answered (Result.value (v .connection .lastSerial)) refl
 plain-leaf v now (Plain.hasInterface name) = checkUtf8-leaf name (answered _ refl)
 plain-leaf v now (Plain.interfaceVersion name) = checkUtf8-leaf name (version-leaf (negotiated (v .connection) (lookup name)))
 plain-leaf v now (Plain.hasCapability d cap) = onFound-leaf (deviceOf d v) (refuse-leaf 12) λ f e. answered _ refl

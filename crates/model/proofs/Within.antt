@@ -9,21 +9,21 @@ use lib.Dec.{ltb}
 use borrow.Author.Tests.{lt-ltb}
 use Rattle.model.specs.Call.{Split}
 use Rattle.model.specs.Session.{Session, view}
-use Rattle.model.specs.Plan.{Outcome, refusal}
+use Rattle.model.specs.Plan.{Result, refusal}
 use Rattle.model.specs.Step.{Step, Counts, counts, carriedOut, source, over, anyOver, refuseIf, limits, refuses, unchanged, settled, bytesNeeded, step}
 use Rattle.model.specs.Within.{Source-decides}
 use Rattle.model.proofs.Plans.{decide-formed, refused-still}
 
 -- an outcome under the limits: as it was, or a refusal with a limit's number, 14 to 20
-abbrev Passes : Outcome → Outcome → Type 0
+abbrev Passes : Result → Result → Type 0
 Passes o o′ = (o′ ≡ o) ⊎ (13 < refusal o′)
 
-refuseIf-passes : (b : Bool) (n : ℕ) (o other : Outcome) → 13 < n → Passes o other → Passes o (refuseIf b n other)
+refuseIf-passes : (b : Bool) (n : ℕ) (o other : Result) → 13 < n → Passes o other → Passes o (refuseIf b n other)
 unfolding refuseIf refusal
 refuseIf-passes true n o other h p = inr h
 refuseIf-passes false n o other h p = p
 
-limits-passes : (room bytes : ℕ) (n m : Counts) (o : Outcome) → Passes o (limits room bytes n m o)
+limits-passes : (room bytes : ℕ) (n m : Counts) (o : Result) → Passes o (limits room bytes n m o)
 unfolding limits
 limits-passes room bytes n m o =
     refuseIf-passes (over 4 (n .seats) (m .seats)) 14 o _ (omega arith)
@@ -34,7 +34,7 @@ limits-passes room bytes n m o =
     (refuseIf-passes (over 0xffff_ffff_ffff_ffff (n .nextId) (m .nextId)) 20 o _ (omega arith)
     (refuseIf-passes (ltb room bytes) 19 o o (omega arith) (inl refl)))))))
 
-pub limit-refuses : (o : Outcome) → 13 < refusal o → refuses o ≡ true
+pub limit-refuses : (o : Result) → 13 < refusal o → refuses o ≡ true
 unfolding refuses
 limit-refuses o h = lt-ltb 0 (refusal o) (omega arith)
 
@@ -42,9 +42,9 @@ module _ {P : Type 0} (t : Split P) (s : Session P) where
   -- what a call may come to
   pub data Comes (r : Step P) : Type 0 where
     within : r ≡ source t s → Comes r
-    beyond : (o : Outcome) → 13 < refusal o → r ≡ unchanged s o → Comes r
+    beyond : (o : Result) → 13 < refusal o → r ≡ unchanged s o → Comes r
 
-  pub settled-refused : (r : Step P) (o : Outcome) → refuses o ≡ true → settled s r o ≡ unchanged s o
+  pub settled-refused : (r : Step P) (o : Result) → refuses o ≡ true → settled s r o ≡ unchanged s o
   unfolding settled
   settled-refused r o h = rw h
 
@@ -64,7 +64,7 @@ module _ {P : Type 0} (t : Split P) (s : Session P) where
       r : Step P
       r = source t s
 
-      o : Outcome
+      o : Result
       o = limits (t .room) (bytesNeeded r) (counts s) (counts (r .session)) (r .outcome)
 
       judged : Passes (r .outcome) o → refuses (r .outcome) ≡ false → Comes (settled s r o)
@@ -76,7 +76,7 @@ module _ {P : Type 0} (t : Split P) (s : Session P) where
       go false e = judged (limits-passes (t .room) (bytesNeeded r) (counts s) (counts (r .session)) (r .outcome)) e
 
   -- what holds of the source's step and of every refusal that changes nothing holds of the call
-  pub step-by : (Q : Step P → Type 0) → ((o : Outcome) → refuses o ≡ true → Q (unchanged s o)) → Q (source t s) → Q (step t s)
+  pub step-by : (Q : Step P → Type 0) → ((o : Result) → refuses o ≡ true → Q (unchanged s o)) → Q (source t s) → Q (step t s)
   step-by Q refused done = go (step t s) comes
     where
       go : (r : Step P) → Comes r → Q r

@@ -1,7 +1,7 @@
 -- What the source does at each call, with no limits and no payload seen: `handle_request`, `next_request` and the methods of `Connection`,
 -- `Seat` and `Device` of src/request.rs, under the names that they have there. Assumes nothing.
 use Prim.Native.Nat.{ℕ, zero, suc, _+_, _-_, _^_}
-use mathlib.Core.Bool.{Bool, true, false, _&&_, _||_, not, cond}
+use mathlib.Core.Bool.{Bool, true, false, _&&_, _||_, cond}
 use mathlib.Core.List.{List, [], _∷_, _++_, map}
 use mathlib.Core.Option.{Option, none, some}
 use lib.Dec.{leb, ltb, eqb}
@@ -15,9 +15,9 @@ use Rattle.utf8.specs.Rfc3629.{isUtf8}
 use Rattle.wire.specs.declared.event.Event.{Event}
 use Rattle.touches.specs.Touches.{member}
 use Rattle.model.specs.Call.{Kind, Sight, HandshakeRequest, Plain, Call}
-use Rattle.model.specs.Session.{Item, Untimed, Request, Interface, Seat, Device, Connection, Session, View}
+use Rattle.model.specs.Session.{Untimed, Queued, Interface, Seat, Device, Connection, View}
 use Rattle.model.specs.Edit.{Amend, Edit, nextSerial, raised, newInterfaces}
-use Rattle.model.specs.Plan.{Sent, on, Outcome, Plan, answer, refuse, ignore, edit, send}
+use Rattle.model.specs.Plan.{Sent, on, Result, Plan, answer, refuse, ignore, edit, send}
 
 -- ---- texts, versions, tables
 
@@ -162,7 +162,7 @@ handle Rule.down v f s =
 handle Rule.motion v f s = ifHeld f s []
 handle Rule.up v f s = ifHeld f s (Amend.touchUp (s .touch) ∷ [])
 -- "touch Cancel on a known touchscreen, the request's version below 2, even for an id not held"
-handle Rule.cancel v f s = cond (ltb v 2) (answer (Outcome.refusedVersion eiTouchscreen v)) (ifHeld f s (Amend.touchUp (s .touch) ∷ []))
+handle Rule.cancel v f s = cond (ltb v 2) (answer (Result.refusedVersion eiTouchscreen v)) (ifHeld f s (Amend.touchUp (s .touch) ∷ []))
 -- "6 INVALID_TEXT_LENGTH: Utf8 on a known text interface, 0 bytes or above 254"
 handle Rule.utf8 v f s = cond (eqb (s .size) 0) (refuse 6) (cond (ltb 254 (s .size)) (refuse 6) (pendAfter [] f s))
 
@@ -186,7 +186,7 @@ handleHandshake (HandshakeRequest.InterfaceVersion t v) = checkUtf8 t (refuse 1)
 -- "Sync whose callback version is not 1" is 2; "Sync sends callback done with 0."
 unfoldable pub handleSync : (callback version : ℕ) → Plan
 unfolding send answer
-handleSync callback ver = cond (eqb ver 1) (send (on callback (Event.CallbackDone 0) ∷ []) []) (answer (Outcome.refusedVersion eiCallback ver))
+handleSync callback ver = cond (eqb ver 1) (send (on callback (Event.CallbackDone 0) ∷ []) []) (answer (Result.refusedVersion eiCallback ver))
 
 -- Bind and RequestDevice: "3 INVALID_CAPABILITIES: .. on a known seat with a bit above bit 6, or a bit not in the seat's set"
 unfoldable pub handleSeat : View → (seat capabilities : ℕ) → Untimed → Plan
@@ -216,10 +216,10 @@ handleRelease v cap id =
     sendNext v id (λ s. Event.Destroyed s) (Edit.amend (f .slot) (Amend.unlink id) ∷ [])
 
 -- "`next_request` gives the oldest queued request, or NONE when none is queued"
-unfoldable pub nextOf : List (Request (Unit {0})) → Plan
+unfoldable pub nextOf : List (Queued (Unit {0})) → Plan
 unfolding answer
-nextOf [] = answer Outcome.none
-nextOf (r ∷ rs) = record { outcome = Outcome.given; events = []; edits = Edit.deliver ∷ [] }
+nextOf [] = answer Result.none
+nextOf (r ∷ rs) = record { outcome = Result.given; events = []; edits = Edit.deliver ∷ [] }
 
 -- ---- the station's calls
 
@@ -241,7 +241,7 @@ seatEvents c id version name caps =
     on (c .id) (Event.Seat id version) ∷ nameEvents id name ++ (capabilityEvents c id (bitsOf caps) ++ (on id Event.Done ∷ []))
 
 abbrev pub seatPlan : (id capabilities : ℕ) → List Sent → Plan
-seatPlan id caps events = record { outcome = Outcome.seat id; events = events; edits = Edit.addSeat caps ∷ [] }
+seatPlan id caps events = record { outcome = Result.seat id; events = events; edits = Edit.addSeat caps ∷ [] }
 
 abbrev pub seatAdded : View → Option (List ℕ) → (capabilities : ℕ) → Plan
 seatAdded v name caps =
@@ -267,7 +267,7 @@ deviceEvents c seat id version name type caps =
     ++ (on id (Event.DeviceType type) ∷ interfaceEvents c id (newInterfaces id caps) ++ (on id Event.Done ∷ []))
 
 abbrev pub devicePlan : (id seat capabilities : ℕ) → List Sent → Plan
-devicePlan id seat caps events = record { outcome = Outcome.device id; events = events; edits = Edit.addDevice seat caps ∷ [] }
+devicePlan id seat caps events = record { outcome = Result.device id; events = events; edits = Edit.addDevice seat caps ∷ [] }
 
 abbrev pub deviceAdded : View → (seat : ℕ) → Option (List ℕ) → (type capabilities : ℕ) → Plan
 deviceAdded v seat name type caps =
@@ -354,9 +354,9 @@ unfoldable pub notify : View → (device : ℕ) → (ℕ → Event) → (ℕ →
 unfolding onFound deviceOf refuse sendNext
 notify v id event edits = onFound (deviceOf id v) (refuse 12) λ f. sendNext v id event (edits (f .slot))
 
-unfoldable pub versionAnswer : Option ℕ → Outcome
-versionAnswer none = Outcome.none
-versionAnswer (some v) = Outcome.value v
+unfoldable pub versionAnswer : Option ℕ → Result
+versionAnswer none = Result.none
+versionAnswer (some v) = Result.value v
 
 unfoldable pub lists : ℕ → List Interface → Bool
 lists cap [] = false
@@ -393,11 +393,11 @@ decidePlain v now (Plain.startEmulating d q) = notify v d (λ s. Event.StartEmul
 decidePlain v now (Plain.stopEmulating d) = notify v d (λ s. Event.StopEmulating s) (λ k. [])
 decidePlain v now (Plain.frame d t) = notify v d (λ s. Event.Frame s t) (λ k. [])
 decidePlain v now (Plain.disconnected reason explanation) = disconnected v (disconnectReasonNumber reason) explanation
-decidePlain v now Plain.lastSerial = answer (Outcome.value (v .connection .lastSerial))
-decidePlain v now (Plain.hasInterface name) = checkUtf8 name (answer (Outcome.truth (isSome (negotiated (v .connection) (lookup name)))))
+decidePlain v now Plain.lastSerial = answer (Result.value (v .connection .lastSerial))
+decidePlain v now (Plain.hasInterface name) = checkUtf8 name (answer (Result.truth (isSome (negotiated (v .connection) (lookup name)))))
 decidePlain v now (Plain.interfaceVersion name) = checkUtf8 name (answer (versionAnswer (negotiated (v .connection) (lookup name))))
 decidePlain v now (Plain.hasCapability d cap) =
-    onFound (deviceOf d v) (refuse 12) λ f. answer (Outcome.truth (lists (capabilityIndex cap) (f .device .interfaces)))
+    onFound (deviceOf d v) (refuse 12) λ f. answer (Result.truth (lists (capabilityIndex cap) (f .device .interfaces)))
 
 unfoldable pub decide : View → (now : ℕ) → Call Sight → Plan
 unfolding handleTimed decidePlain

@@ -11,9 +11,9 @@ use Rattle.wire.specs.Bits.{Field}
 use Rattle.wire.specs.Record.{layout}
 use Rattle.touches.specs.Touches.{member}
 use Rattle.model.specs.Call.{Sight, Input, Load, Call, Turn, Split, sight, load, mapCall, split}
-use Rattle.model.specs.Session.{Item, Untimed, Request, Session, View, fresh, mapRequest, blank, view}
+use Rattle.model.specs.Session.{Item, Queued, Session, View, fresh, mapQueued, blank, view}
 use Rattle.model.specs.Edit.{item}
-use Rattle.model.specs.Plan.{Sent, Outcome, records}
+use Rattle.model.specs.Plan.{Sent, Result, records}
 use Rattle.model.specs.Decide.{Found, Rule, handler, deviceForInterface}
 use Rattle.model.specs.Step.{Step, refuses, step, run}
 
@@ -33,19 +33,19 @@ Alike ts ts′ = map unloaded ts ≡ map unloaded ts′
 -- "Equal at each place: the outcome, payload aside, with a refusal's number and details; the count of event bytes and those bytes in `out`;
 -- the last serial; a station call's answer; what `next_request` gives, payload aside, and its text's length."
 pub record Observed : Type 0 where
-  pub outcome : Outcome
+  pub outcome : Result
   pub bytes : List ℕ
   pub lastSerial : ℕ
-  pub given : List (Request (Unit {0}))
+  pub given : List (Queued (Unit {0}))
 
 unfoldable pub observed : {P : Type 0} → Step P → Observed
-unfolding records mapRequest blank
+unfolding records mapQueued blank
 observed r =
     record {
       outcome = r .outcome;
       bytes = records (r .events);
       lastSerial = r .session .connection .lastSerial;
-      given = map (mapRequest blank) (r .gave);
+      given = map (mapQueued blank) (r .gave);
     }
 
 -- the trail of a list of calls from a fresh session: its connection's id, first serial, next id and negotiated versions
@@ -62,7 +62,7 @@ Equal-trails =
 -- ---- provenance
 
 -- an interface, and the device whose `add_device` made it
-pub record Made : Type 0 where
+pub record MadeInterface : Type 0 where
   pub interface : ℕ
   pub device : ℕ
 
@@ -71,27 +71,27 @@ unfoldable pub interfaceIds : List Field → List ℕ
 interfaceIds [] = []
 interfaceIds (f ∷ fs) = f .value ∷ []
 
-unfoldable pub madeOn : (device : ℕ) → List Sent → List Made
+unfoldable pub madeOn : (device : ℕ) → List Sent → List MadeInterface
 unfolding layout interfaceIds
 madeOn d [] = []
 madeOn d (e ∷ es) =
     cond (eqb (layout (e .event) .kind) 8) (map (λ i. record { interface = i; device = d }) (interfaceIds (layout (e .event) .fields))) [] ++ madeOn d es
 
 -- what a call made, told from its answer: a device's id, and the interface events that came with it
-unfoldable pub made : Outcome → List Sent → List Made
+unfoldable pub made : Result → List Sent → List MadeInterface
 unfolding madeOn
-made Outcome.accepted es = []
-made (Outcome.refused n) es = []
-made (Outcome.refusedVersion i v) es = []
-made (Outcome.seat id) es = []
-made (Outcome.device id) es = madeOn id es
-made (Outcome.value n) es = []
-made (Outcome.truth b) es = []
-made Outcome.none es = []
-made Outcome.given es = []
+made Result.accepted es = []
+made (Result.refused n) es = []
+made (Result.refusedVersion i v) es = []
+made (Result.seat id) es = []
+made (Result.device id) es = madeOn id es
+made (Result.value n) es = []
+made (Result.truth b) es = []
+made Result.none es = []
+made Result.given es = []
 
 -- whether an interface is one that a device's `add_device` made
-unfoldable pub madeFor : (interface device : ℕ) → List Made → Bool
+unfoldable pub madeFor : (interface device : ℕ) → List MadeInterface → Bool
 madeFor i d [] = false
 madeFor i d (m ∷ ms) = (eqb (m .interface) i && eqb (m .device) d) || madeFor i d ms
 
@@ -115,13 +115,13 @@ ignored v i s = ignoredOn (deviceForInterface (capabilityIndex (handler (s .kind
 
 -- "A timed request is taken when demand 2's definitions, run over the calls alone, neither refuse nor ignore it .. It belongs to the device whose
 -- `add_device` made its interface."
-unfoldable pub takenOf : (device : ℕ) → List Made → View → Outcome → Call Input → List (Item Load)
+unfoldable pub takenOf : (device : ℕ) → List MadeInterface → View → Result → Call Input → List (Item Load)
 unfolding ignored refuses madeFor item sight load
 takenOf d ms v o (Call.plain c) = []
 takenOf d ms v o (Call.timed i ver a) =
     cond (not (refuses o) && (not (ignored v i (sight a)) && madeFor i d ms)) (item (sight a) (load a) ∷ []) []
 
-unfoldable pub takenFrom : (device : ℕ) → List Made → Session Load → List Turn → List (Item Load)
+unfoldable pub takenFrom : (device : ℕ) → List MadeInterface → Session Load → List Turn → List (Item Load)
 unfolding takenOf made step split view
 takenFrom d ms s [] = []
 takenFrom d ms s (t ∷ ts) =
@@ -134,10 +134,10 @@ unfolding takenFrom fresh
 taken c s n vs d ts = takenFrom d [] (fresh c s n vs) ts
 
 -- the timed requests of a device among some requests, and those that a trail's `next_request` gave
-unfoldable pub itemsOf : {P : Type 0} → (device : ℕ) → List (Request P) → List (Item P)
+unfoldable pub itemsOf : {P : Type 0} → (device : ℕ) → List (Queued P) → List (Item P)
 itemsOf d [] = []
-itemsOf d (Request.timed e t i ∷ rs) = cond (eqb e d) (i ∷ []) [] ++ itemsOf d rs
-itemsOf d (Request.untimed r ∷ rs) = itemsOf d rs
+itemsOf d (Queued.timed e t i ∷ rs) = cond (eqb e d) (i ∷ []) [] ++ itemsOf d rs
+itemsOf d (Queued.untimed r ∷ rs) = itemsOf d rs
 
 unfoldable pub given : {P : Type 0} → (device : ℕ) → List (Step P) → List (Item P)
 unfolding itemsOf

@@ -1,13 +1,13 @@
 -- The edits that a session changes by. Only `enact` and what it calls touch a payload. Assumes nothing.
 use Prim.Native.Nat.{ℕ, zero, suc, _+_, _%_}
-use mathlib.Core.Bool.{Bool, true, false, cond}
+use mathlib.Core.Bool.{true, false, cond}
 use mathlib.Core.List.{List, [], _∷_, _++_, map}
 use lib.Dec.{eqb}
 use lib.ListN.{length}
 use Rattle.eiproto.specs.Bits.{bitsOf}
 use Rattle.touches.specs.Touches.{without}
 use Rattle.model.specs.Call.{Sight}
-use Rattle.model.specs.Session.{Item, Untimed, Request, Interface, Seat, Device, Connection, Session}
+use Rattle.model.specs.Session.{Item, Untimed, Queued, Interface, Seat, Device, Connection, Session}
 
 -- changes of one device that leave its id, its seat and its pending list alone
 pub data Amend : Type 0 where
@@ -83,9 +83,9 @@ module _ {P : Type 0} where
   emptied d = deviceWith (d .interfaces) (d .downTouchIds) [] d
 
   -- "Frame .. with nothing pending: nothing. Else every pending request, in arrival order, gets the frame's time and is queued, then the Frame itself."
-  unfoldable pub framed : (device lastSerial time : ℕ) → List (Item P) → List (Request P)
+  unfoldable pub framed : (device lastSerial time : ℕ) → List (Item P) → List (Queued P)
   framed d s t [] = []
-  framed d s t (i ∷ is) = map (λ x. Request.timed d t x) (i ∷ is) ++ (Request.untimed (Untimed.Frame d s t) ∷ [])
+  framed d s t (i ∷ is) = map (λ x. Queued.timed d t x) (i ∷ is) ++ (Queued.untimed (Untimed.Frame d s t) ∷ [])
 
   unfoldable pub newDevice : (id seat capabilities : ℕ) → Device P
   unfolding newInterfaces
@@ -107,13 +107,13 @@ module _ {P : Type 0} where
   withoutSeat s (d ∷ ds) = cond (eqb (d .seat) s) [] (d ∷ []) ++ withoutSeat s ds
 
   -- what the frame of a slot queues
-  unfoldable pub framedAt : (slot lastSerial time : ℕ) → List (Device P) → List (Request P)
+  unfoldable pub framedAt : (slot lastSerial time : ℕ) → List (Device P) → List (Queued P)
   unfolding framed
   framedAt k s t [] = []
   framedAt zero s t (d ∷ ds) = framed (d .id) s t (d .pending)
   framedAt (suc k) s t (d ∷ ds) = framedAt k s t ds
 
-  unfoldable pub rest : List (Request P) → List (Request P)
+  unfoldable pub rest : List (Queued P) → List (Queued P)
   rest [] = []
   rest (r ∷ rs) = rs
 
@@ -123,7 +123,7 @@ module _ {P : Type 0} where
   unfoldable pub withDevices : List (Device P) → Session P → Session P
   withDevices ds s = record { connection = s .connection; devices = ds; requests = s .requests }
 
-  unfoldable pub withRequests : List (Request P) → Session P → Session P
+  unfoldable pub withRequests : List (Queued P) → Session P → Session P
   withRequests rs s = record { connection = s .connection; devices = s .devices; requests = rs }
 
   -- an edit, with the payload of the call
@@ -150,7 +150,7 @@ module _ {P : Type 0} where
   enact (Edit.pend k sight) p s = withDevices (at (pended (item sight p)) k (s .devices)) s
   enact (Edit.frame k serial time) p s =
       record { connection = s .connection; devices = at emptied k (s .devices); requests = s .requests ++ framedAt k serial time (s .devices) }
-  enact (Edit.queue r) p s = withRequests (s .requests ++ (Request.untimed r ∷ [])) s
+  enact (Edit.queue r) p s = withRequests (s .requests ++ (Queued.untimed r ∷ [])) s
   enact Edit.deliver p s = withRequests (rest (s .requests)) s
 
   -- edits, one after another

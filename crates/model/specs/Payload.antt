@@ -1,4 +1,4 @@
--- Demand 3's first half in document 01's own words: which arguments are payload, argument by argument. Assumes nothing.
+-- Demand 3's first half in the scope's own words: which arguments are payload, argument by argument. Assumes nothing.
 use Prim.Native.Nat.{ℕ}
 use mathlib.Core.Path.{_≡_}
 use mathlib.Core.Bool.{true}

@@ -1,6 +1,6 @@
 -- What a call comes to, payload unseen: its outcome, the events that it sends, the edits that it makes. Assumes nothing.
 use Prim.Native.Nat.{ℕ}
-use mathlib.Core.Bool.{Bool, true, false}
+use mathlib.Core.Bool.{Bool}
 use mathlib.Core.List.{List, [], _∷_, _++_}
 use Rattle.wire.specs.declared.event.Event.{Event}
 use Rattle.wire.specs.Record.{eventRecord}
@@ -22,56 +22,56 @@ unfolding eventRecord
 records [] = []
 records (e ∷ es) = eventRecord (e .object) (e .event) (e .text) ++ records es
 
-pub data Outcome : Type 0 where
+pub data Result : Type 0 where
   -- a call that answers nothing else; an ignored request too
-  accepted : Outcome
+  accepted : Result
   -- a refusal by its number, other than 2
-  refused : (number : ℕ) → Outcome
+  refused : (number : ℕ) → Result
   -- "2 INTERFACE_VERSION, with interface and version"
-  refusedVersion : (interface version : ℕ) → Outcome
+  refusedVersion : (interface version : ℕ) → Result
   -- the id that `add_seat` gives, and `add_device`
-  seat : (id : ℕ) → Outcome
-  device : (id : ℕ) → Outcome
+  seat : (id : ℕ) → Result
+  device : (id : ℕ) → Result
   -- `last_serial`, `interface_version`
-  value : ℕ → Outcome
+  value : ℕ → Result
   -- `has_interface`, `has_capability`
-  truth : Bool → Outcome
+  truth : Bool → Result
   -- `interface_version` of what was not negotiated; "NONE when none is queued"
-  none : Outcome
+  none : Result
   -- `next_request` gives a request
-  given : Outcome
+  given : Result
 
--- document 01's number of a refusal, 0 for none
-unfoldable pub refusal : Outcome → ℕ
-refusal Outcome.accepted = 0
-refusal (Outcome.refused n) = n
-refusal (Outcome.refusedVersion i v) = 2
-refusal (Outcome.seat id) = 0
-refusal (Outcome.device id) = 0
-refusal (Outcome.value n) = 0
-refusal (Outcome.truth b) = 0
-refusal Outcome.none = 0
-refusal Outcome.given = 0
+-- the number of a refusal, 0 for none
+unfoldable pub refusal : Result → ℕ
+refusal Result.accepted = 0
+refusal (Result.refused n) = n
+refusal (Result.refusedVersion i v) = 2
+refusal (Result.seat id) = 0
+refusal (Result.device id) = 0
+refusal (Result.value n) = 0
+refusal (Result.truth b) = 0
+refusal Result.none = 0
+refusal Result.given = 0
 
 pub record Plan : Type 0 where
-  pub outcome : Outcome
+  pub outcome : Result
   pub events : List Sent
   pub edits : List Edit
 
-unfoldable pub answer : Outcome → Plan
+unfoldable pub answer : Result → Plan
 answer o = record { outcome = o; events = []; edits = [] }
 
 unfoldable pub refuse : ℕ → Plan
 unfolding answer
-refuse n = answer (Outcome.refused n)
+refuse n = answer (Result.refused n)
 
 -- "accepted and does nothing"
 unfoldable pub ignore : Plan
 unfolding answer
-ignore = answer Outcome.accepted
+ignore = answer Result.accepted
 
 unfoldable pub edit : List Edit → Plan
-edit es = record { outcome = Outcome.accepted; events = []; edits = es }
+edit es = record { outcome = Result.accepted; events = []; edits = es }
 
 unfoldable pub send : List Sent → List Edit → Plan
-send events edits = record { outcome = Outcome.accepted; events = events; edits = edits }
+send events edits = record { outcome = Result.accepted; events = events; edits = edits }

@@ -1,17 +1,17 @@
 -- What holds of every session that calls lead to from a fresh one. (That the linked interfaces are among the listed ones needs no statement: a link
 -- is a mark on a listed interface.) Assumes nothing.
-use Prim.Native.Nat.{ℕ, _+_, _≤_, _<_}
+use Prim.Native.Nat.{ℕ, _+_, _≤_}
 use mathlib.Core.Path.{_≡_}
-use mathlib.Core.Bool.{Bool, true, false, _&&_, cond}
+use mathlib.Core.Bool.{Bool, true, _&&_, cond}
 use mathlib.Core.List.{List, [], _∷_, _++_, map}
 use mathlib.Core.Option.{Option}
 use lib.Dec.{leb, ltb, eqb}
 use lib.ListN.{length}
 use Rattle.model.specs.Call.{Load, Turn, Split, split}
-use Rattle.model.specs.Session.{Interface, Seat, Device, Session, fresh}
-use Rattle.model.specs.Plan.{Outcome, Sent}
+use Rattle.model.specs.Session.{Device, Session, fresh}
+use Rattle.model.specs.Plan.{Result, Sent}
 use Rattle.model.specs.Step.{Step, step}
-use Rattle.model.specs.Demand3.{Made, made, trail}
+use Rattle.model.specs.Demand3.{made, trail}
 
 -- numbers that ascend, from a bound on
 unfoldable pub ascendsFrom : ℕ → List ℕ → Bool
@@ -67,17 +67,17 @@ Reachable-orderly =
     (c s n : ℕ) (vs : List (Option ℕ)) (ts : List Turn) → Orderly (sessionAfter (map split ts) (fresh {P = Load} c s n vs))
 
 -- the ids that a call gave, told from its answer: a seat's; a device's and those of its interfaces
-unfoldable pub newIds : Outcome → List Sent → List ℕ
+unfoldable pub newIds : Result → List Sent → List ℕ
 unfolding made
-newIds Outcome.accepted es = []
-newIds (Outcome.refused n) es = []
-newIds (Outcome.refusedVersion i v) es = []
-newIds (Outcome.seat id) es = id ∷ []
-newIds (Outcome.device id) es = id ∷ map (λ m. m .interface) (made (Outcome.device id) es)
-newIds (Outcome.value n) es = []
-newIds (Outcome.truth b) es = []
-newIds Outcome.none es = []
-newIds Outcome.given es = []
+newIds Result.accepted es = []
+newIds (Result.refused n) es = []
+newIds (Result.refusedVersion i v) es = []
+newIds (Result.seat id) es = id ∷ []
+newIds (Result.device id) es = id ∷ map (λ m. m .interface) (made (Result.device id) es)
+newIds (Result.value n) es = []
+newIds (Result.truth b) es = []
+newIds Result.none es = []
+newIds Result.given es = []
 
 unfoldable pub idsIn : {P : Type 0} → List (Step P) → List ℕ
 unfolding newIds

@@ -24,9 +24,9 @@ pub data Untimed : Type 0 where
   DeviceStopEmulating : (device lastSerial : ℕ) → Untimed
 
 -- a queued request: `EisRequest`, its text among its payload
-pub data Request (P : Type 0) : Type 0 where
-  timed : (device time : ℕ) → Item P → Request P
-  untimed : Untimed → Request P
+pub data Queued (P : Type 0) : Type 0 where
+  timed : (device time : ℕ) → Item P → Queued P
+  untimed : Untimed → Queued P
 
 -- an interface that a device lists; linked: requests on it are known to be the device's (`device_for_interface`)
 pub record Interface : Type 0 where
@@ -49,7 +49,7 @@ pub record Device (P : Type 0) : Type 0 where
 -- what has no payload and is no device's
 pub record Connection : Type 0 where
   pub id : ℕ
-  -- of the twelve interfaces, in document 01's order: the negotiated version, or none ("not negotiated" is no version 0)
+  -- of the twelve interfaces, in the order of their numbers: the negotiated version, or none ("not negotiated" is no version 0)
   pub versions : List (Option ℕ)
   pub seats : List Seat
   pub lastSerial : ℕ
@@ -59,7 +59,7 @@ pub record Session (P : Type 0) : Type 0 where
   pub connection : Connection
   pub devices : List (Device P)
   -- the queue, oldest first
-  pub requests : List (Request P)
+  pub requests : List (Queued P)
 
 -- a session as a successful Finish leaves it
 unfoldable pub fresh : {P : Type 0} → (connection serial nextId : ℕ) (versions : List (Option ℕ)) → Session P
@@ -70,10 +70,10 @@ module _ {P Q : Type 0} (f : P → Q) where
   unfoldable pub mapItem : Item P → Item Q
   mapItem i = record { kind = i .kind; touch = i .touch; size = i .size; load = f (i .load) }
 
-  unfoldable pub mapRequest : Request P → Request Q
+  unfoldable pub mapQueued : Queued P → Queued Q
   unfolding mapItem
-  mapRequest (Request.timed d t i) = Request.timed d t (mapItem i)
-  mapRequest (Request.untimed r) = Request.untimed r
+  mapQueued (Queued.timed d t i) = Queued.timed d t (mapItem i)
+  mapQueued (Queued.untimed r) = Queued.untimed r
 
   unfoldable pub mapDevice : Device P → Device Q
   unfolding mapItem
@@ -81,8 +81,8 @@ module _ {P Q : Type 0} (f : P → Q) where
       record { id = d .id; seat = d .seat; interfaces = d .interfaces; downTouchIds = d .downTouchIds; pending = map mapItem (d .pending) }
 
   unfoldable pub mapSession : Session P → Session Q
-  unfolding mapDevice mapRequest
-  mapSession s = record { connection = s .connection; devices = map mapDevice (s .devices); requests = map mapRequest (s .requests) }
+  unfolding mapDevice mapQueued
+  mapSession s = record { connection = s .connection; devices = map mapDevice (s .devices); requests = map mapQueued (s .requests) }
 
 unfoldable pub blank : {P : Type 0} → P → Unit {0}
 blank p = tt

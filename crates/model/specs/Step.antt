@@ -5,25 +5,25 @@ use mathlib.Core.List.{List, [], _∷_, _++_, map}
 use lib.Dec.{ltb}
 use lib.ListN.{length}
 use Rattle.model.specs.Call.{Kind, Split}
-use Rattle.model.specs.Session.{Item, Request, Device, Session, view}
+use Rattle.model.specs.Session.{Item, Queued, Device, Session, view}
 use Rattle.model.specs.Edit.{Edit, enact, enactAll}
-use Rattle.model.specs.Plan.{Sent, records, Outcome, refusal, Plan}
+use Rattle.model.specs.Plan.{Sent, records, Result, refusal, Plan}
 use Rattle.model.specs.Decide.{Rule, handler, decide}
 
 -- what a call comes to: the session after it, the answer, the events in turn, and the request that it gave, if any
 pub record Step (P : Type 0) : Type 0 where
   pub session : Session P
-  pub outcome : Outcome
+  pub outcome : Result
   pub events : List Sent
-  pub gave : List (Request P)
+  pub gave : List (Queued P)
 
 module _ {P : Type 0} where
-  unfoldable pub oldest : List (Request P) → List (Request P)
+  unfoldable pub oldest : List (Queued P) → List (Queued P)
   oldest [] = []
   oldest (r ∷ rs) = r ∷ []
 
   -- what an edit gives
-  unfoldable pub gave : Edit → Session P → List (Request P)
+  unfoldable pub gave : Edit → Session P → List (Queued P)
   unfolding oldest
   gave (Edit.raise n) s = []
   gave (Edit.addSeat caps) s = []
@@ -37,7 +37,7 @@ module _ {P : Type 0} where
   gave (Edit.queue r) s = []
   gave Edit.deliver s = oldest (s .requests)
 
-  unfoldable pub gaveAll : List Edit → P → Session P → List (Request P)
+  unfoldable pub gaveAll : List Edit → P → Session P → List (Queued P)
   unfolding gave enact
   gaveAll [] p s = []
   gaveAll (e ∷ es) p s = gave e s ++ gaveAll es p (enact e p s)
@@ -84,17 +84,17 @@ module _ {P : Type 0} where
   devicesTexts [] = 0
   devicesTexts (d ∷ ds) = pendingTexts (d .pending) + devicesTexts ds
 
-  unfoldable pub queuedTexts : List (Request P) → ℕ
+  unfoldable pub queuedTexts : List (Queued P) → ℕ
   unfolding texts
   queuedTexts [] = 0
-  queuedTexts (Request.timed d t i ∷ rs) = texts (i .kind) + queuedTexts rs
-  queuedTexts (Request.untimed r ∷ rs) = queuedTexts rs
+  queuedTexts (Queued.timed d t i ∷ rs) = texts (i .kind) + queuedTexts rs
+  queuedTexts (Queued.untimed r ∷ rs) = queuedTexts rs
 
   -- the bytes of text among given requests
-  unfoldable pub textBytes : List (Request P) → ℕ
+  unfoldable pub textBytes : List (Queued P) → ℕ
   textBytes [] = 0
-  textBytes (Request.timed d t i ∷ rs) = i .size + textBytes rs
-  textBytes (Request.untimed r ∷ rs) = textBytes rs
+  textBytes (Queued.timed d t i ∷ rs) = i .size + textBytes rs
+  textBytes (Queued.untimed r ∷ rs) = textBytes rs
 
 -- the things counted
 pub record Counts : Type 0 where
@@ -130,13 +130,13 @@ anyOver limit [] after = false
 anyOver limit (n ∷ ns) [] = false
 anyOver limit (n ∷ ns) (m ∷ ms) = over limit n m || anyOver limit ns ms
 
-unfoldable pub refuseIf : Bool → ℕ → Outcome → Outcome
-refuseIf true number other = Outcome.refused number
+unfoldable pub refuseIf : Bool → ℕ → Result → Result
+refuseIf true number other = Result.refused number
 refuseIf false number other = other
 
 -- "14 to 18 by number; 20; 19": the first that applies, from what stood before and what would stand after, the room lent and the bytes that
 -- would be written to it; else the outcome itself
-unfoldable pub limits : (room bytes : ℕ) → (before after : Counts) → Outcome → Outcome
+unfoldable pub limits : (room bytes : ℕ) → (before after : Counts) → Result → Result
 unfolding refuseIf over anyOver
 limits room bytes n m outcome =
     refuseIf (over 4 (n .seats) (m .seats)) 14
@@ -147,17 +147,17 @@ limits room bytes n m outcome =
     (refuseIf (over 0xffff_ffff_ffff_ffff (n .nextId) (m .nextId)) 20
     (refuseIf (ltb room bytes) 19 outcome))))))
 
-unfoldable pub refuses : Outcome → Bool
+unfoldable pub refuses : Result → Bool
 unfolding refusal
 refuses o = ltb 0 (refusal o)
 
 module _ {P : Type 0} where
   -- a refusal "returns the session unchanged, writes nothing"
-  unfoldable pub unchanged : Session P → Outcome → Step P
+  unfoldable pub unchanged : Session P → Result → Step P
   unchanged s outcome = record { session = s; outcome = outcome; events = []; gave = [] }
 
   -- what was to come of a call, once its outcome is known
-  unfoldable pub settled : Session P → Step P → Outcome → Step P
+  unfoldable pub settled : Session P → Step P → Result → Step P
   unfolding refuses unchanged
   settled s r outcome =
       cond (refuses outcome) (unchanged s outcome) (record { session = r .session; outcome = outcome; events = r .events; gave = r .gave })

@@ -1,4 +1,4 @@
--- Document 01's trial lines in one table, the starred ones first, then what it warns of: the calls, and what they are to answer.
+-- The scope's trial lines in one table, the starred ones first, then what it warns of: the calls, and what they are to answer.
 -- (proofs/Trials.antt has the one proof.) Assumes nothing.
 use Prim.Native.Nat.{ℕ, zero, suc}
 use mathlib.Core.List.{List, [], _∷_, _++_, map}
@@ -9,23 +9,23 @@ use Rattle.eiproto.specs.declared.eiproto_enum.DisconnectReason.{DisconnectReas
 use Rattle.eiproto.specs.declared.eiproto_enum.KeyState.{KeyState}
 use lib.Ieee.{nan}
 use Rattle.model.specs.Call.{Kind, Input, Load, Plain, Call, Turn}
-use Rattle.model.specs.Session.{Item, Untimed, Request}
-use Rattle.model.specs.Plan.{Outcome, records}
+use Rattle.model.specs.Session.{Untimed, Queued}
+use Rattle.model.specs.Plan.{Result, records}
 use Rattle.model.specs.Step.{Step}
 use Rattle.model.specs.Demand3.{trail}
 
 -- what a call answered, the event bytes that it wrote, the request that it gave
-pub record Answer : Type 0 where
-  pub outcome : Outcome
+pub record Expected : Type 0 where
+  pub outcome : Result
   pub bytes : List ℕ
-  pub given : List (Request Load)
+  pub given : List (Queued Load)
 
 -- a trial: the session's first serial, calls that lead up to it, the calls in question and what they are to answer
 pub record Trial : Type 0 where
   pub serial : ℕ
   pub before : List Turn
   pub calls : List Turn
-  pub answers : List Answer
+  pub answers : List Expected
 
 -- ---- the words of the table
 
@@ -75,19 +75,19 @@ abbrev pub downs : ℕ → List Turn
 downs zero = []
 downs (suc n) = downs n ++ (down (suc n) ∷ [])
 
-abbrev pub says : Outcome → Answer
+abbrev pub says : Result → Expected
 says o = record { outcome = o; bytes = []; given = [] }
 
-abbrev pub gives : Request Load → Answer
-gives r = record { outcome = Outcome.given; bytes = []; given = r ∷ [] }
+abbrev pub gives : Queued Load → Expected
+gives r = record { outcome = Result.given; bytes = []; given = r ∷ [] }
 
-abbrev pub keyAt : ℕ → Request Load
-keyAt time = Request.timed device time (record { kind = Kind.KeyboardKey; touch = 0; size = 0; load = Load.KeyPress 30 KeyState.Press })
+abbrev pub keyAt : ℕ → Queued Load
+keyAt time = Queued.timed device time (record { kind = Kind.KeyboardKey; touch = 0; size = 0; load = Load.KeyPress 30 KeyState.Press })
 
-abbrev pub frameAt : (lastSerial time : ℕ) → Request Load
-frameAt s t = Request.untimed (Untimed.Frame device s t)
+abbrev pub frameAt : (lastSerial time : ℕ) → Queued Load
+frameAt s t = Queued.untimed (Untimed.Frame device s t)
 
-abbrev pub trial : List Turn → List Turn → List Answer → Trial
+abbrev pub trial : List Turn → List Turn → List Expected → Trial
 trial before calls answers = record { serial = 7; before = opening ++ before; calls = calls; answers = answers }
 
 -- n keys wait in the queue, with the frames that sent them there
@@ -99,77 +99,77 @@ queued keys = replicate keys key ++ (frame 1 ∷ [])
 abbrev pub starred : List Trial
 starred =
     -- ★ Frame, nothing pending: queue unchanged.
-    trial [] (frame 500 ∷ next ∷ []) (says Outcome.accepted ∷ says Outcome.none ∷ [])
+    trial [] (frame 500 ∷ next ∷ []) (says Result.accepted ∷ says Result.none ∷ [])
     -- ★ Key, Frame at 500: KeyboardKey at 500, Frame at 500.
-    ∷ trial [] (key ∷ frame 500 ∷ next ∷ next ∷ next ∷ []) (says Outcome.accepted ∷ says Outcome.accepted ∷ gives (keyAt 500) ∷ gives (frameAt 3 500) ∷ says Outcome.none ∷ [])
+    ∷ trial [] (key ∷ frame 500 ∷ next ∷ next ∷ next ∷ []) (says Result.accepted ∷ says Result.accepted ∷ gives (keyAt 500) ∷ gives (frameAt 3 500) ∷ says Result.none ∷ [])
     -- ★ Key, Ready, `now` 70: Key 70, Frame 70, Ready.
     ∷ trial (key ∷ []) (a (Plain.deviceReady device) ∷ next ∷ next ∷ next ∷ next ∷ [])
-    (says Outcome.accepted ∷ gives (keyAt 70) ∷ gives (frameAt 7 70) ∷ gives (Request.untimed (Untimed.Ready device)) ∷ says Outcome.none ∷ [])
+    (says Result.accepted ∷ gives (keyAt 70) ∷ gives (frameAt 7 70) ∷ gives (Queued.untimed (Untimed.Ready device)) ∷ says Result.none ∷ [])
     -- ★ Key, Disconnect: Disconnect only; Key still pending.
     ∷ trial (key ∷ []) (a Plain.disconnect ∷ next ∷ next ∷ frame 9 ∷ next ∷ [])
-    (says Outcome.accepted ∷ gives (Request.untimed Untimed.Disconnect) ∷ says Outcome.none ∷ says Outcome.accepted ∷ gives (keyAt 9) ∷ [])
+    (says Result.accepted ∷ gives (Queued.untimed Untimed.Disconnect) ∷ says Result.none ∷ says Result.accepted ∷ gives (keyAt 9) ∷ [])
     -- ★ 16 held, Down of a held id: 4. ★ 15 held, same: 5.
-    ∷ trial (downs 16) (down 1 ∷ []) (says (Outcome.refused 4) ∷ [])
-    ∷ trial (downs 15) (down 1 ∷ []) (says (Outcome.refused 5) ∷ [])
+    ∷ trial (downs 16) (down 1 ∷ []) (says (Result.refused 4) ∷ [])
+    ∷ trial (downs 15) (down 1 ∷ []) (says (Result.refused 5) ∷ [])
     -- ★ Text of 254 bytes taken; ★ 255: 6; ★ 0: 6.
     ∷ trial [] (utf8 254 ∷ frame 5 ∷ next ∷ [])
-    (says Outcome.accepted ∷ says Outcome.accepted
-    ∷ gives (Request.timed device 5 (record { kind = Kind.TextUtf8; touch = 0; size = 254; load = Load.Text (replicate 254 97) })) ∷ [])
-    ∷ trial [] (utf8 255 ∷ []) (says (Outcome.refused 6) ∷ [])
-    ∷ trial [] (utf8 0 ∷ []) (says (Outcome.refused 6) ∷ [])
+    (says Result.accepted ∷ says Result.accepted
+    ∷ gives (Queued.timed device 5 (record { kind = Kind.TextUtf8; touch = 0; size = 254; load = Load.Text (replicate 254 97) })) ∷ [])
+    ∷ trial [] (utf8 255 ∷ []) (says (Result.refused 6) ∷ [])
+    ∷ trial [] (utf8 0 ∷ []) (says (Result.refused 6) ∷ [])
     -- ★ Last serial 4294967295, `resumed`: serial 0.
     ∷ record {
       serial = 4294967295;
       before = opening;
       calls = a (Plain.resumed device) ∷ a Plain.lastSerial ∷ [];
-      answers = record { outcome = Outcome.accepted; bytes = 0x48 ∷ 0x0e ∷ 0xff ∷ 0 ∷ 0 ∷ 0 ∷ 0 ∷ 0 ∷ 0 ∷ 2 ∷ 0 ∷ 0 ∷ 0 ∷ 0 ∷ []; given = [] } ∷ says (Outcome.value 0) ∷ [];
+      answers = record { outcome = Result.accepted; bytes = 0x48 ∷ 0x0e ∷ 0xff ∷ 0 ∷ 0 ∷ 0 ∷ 0 ∷ 0 ∷ 0 ∷ 2 ∷ 0 ∷ 0 ∷ 0 ∷ 0 ∷ []; given = [] } ∷ says (Result.value 0) ∷ [];
     }
     -- ★ Destroyed, object ff00000000000001 hex, serial 8: `28 0e ff 00 00 00 00 00 00 01 00 00 00 08`.
     ∷ trial [] (a (Plain.seatRelease seat) ∷ [])
-    (record { outcome = Outcome.accepted; bytes = 0x28 ∷ 0x0e ∷ 0xff ∷ 0 ∷ 0 ∷ 0 ∷ 0 ∷ 0 ∷ 0 ∷ 1 ∷ 0 ∷ 0 ∷ 0 ∷ 8 ∷ []; given = [] } ∷ [])
+    (record { outcome = Result.accepted; bytes = 0x28 ∷ 0x0e ∷ 0xff ∷ 0 ∷ 0 ∷ 0 ∷ 0 ∷ 0 ∷ 0 ∷ 1 ∷ 0 ∷ 0 ∷ 0 ∷ 8 ∷ []; given = [] } ∷ [])
     -- ★ Bind 0: taken; ★ Bind 128: 3.
-    ∷ trial [] (a (Plain.bind seat 0) ∷ next ∷ []) (says Outcome.accepted ∷ gives (Request.untimed (Untimed.Bind seat 0)) ∷ [])
-    ∷ trial [] (a (Plain.bind seat 128) ∷ []) (says (Outcome.refused 3) ∷ [])
+    ∷ trial [] (a (Plain.bind seat 0) ∷ next ∷ []) (says Result.accepted ∷ gives (Queued.untimed (Untimed.Bind seat 0)) ∷ [])
+    ∷ trial [] (a (Plain.bind seat 128) ∷ []) (says (Result.refused 3) ∷ [])
     ∷ []
 
 abbrev pub unstarred : List Trial
 unstarred =
     -- 64 pending and a key: 16.
-    trial (replicate 64 key) (key ∷ []) (says (Outcome.refused 16) ∷ [])
+    trial (replicate 64 key) (key ∷ []) (says (Result.refused 16) ∷ [])
     -- Queue 192 long, 64 pending, Frame: 17 (257 needed). Queue 191: taken.
-    ∷ trial (queued 63 ++ (queued 63 ++ (queued 63 ++ replicate 64 key))) (frame 2 ∷ []) (says (Outcome.refused 17) ∷ [])
-    ∷ trial (queued 63 ++ (queued 63 ++ (queued 62 ++ replicate 64 key))) (frame 2 ∷ []) (says Outcome.accepted ∷ [])
+    ∷ trial (queued 63 ++ (queued 63 ++ (queued 63 ++ replicate 64 key))) (frame 2 ∷ []) (says (Result.refused 17) ∷ [])
+    ∷ trial (queued 63 ++ (queued 63 ++ (queued 62 ++ replicate 64 key))) (frame 2 ∷ []) (says Result.accepted ∷ [])
     ∷ []
 
 -- what a wrong session would answer otherwise: "False friends: .."
 abbrev pub falseFriends : List Trial
 falseFriends =
     -- "inserting the touch before finding the pending list full": the id that was refused is not held
-    trial (replicate 64 key) (down 1 ∷ frame 5 ∷ down 1 ∷ []) (says (Outcome.refused 16) ∷ says Outcome.accepted ∷ says Outcome.accepted ∷ [])
+    trial (replicate 64 key) (down 1 ∷ frame 5 ∷ down 1 ∷ []) (says (Result.refused 16) ∷ says Result.accepted ∷ says Result.accepted ∷ [])
     -- "flushing pending requests at Bind": the key still waits
     ∷ trial (key ∷ []) (a (Plain.bind seat 0) ∷ next ∷ next ∷ frame 9 ∷ next ∷ [])
-    (says Outcome.accepted ∷ gives (Request.untimed (Untimed.Bind seat 0)) ∷ says Outcome.none ∷ says Outcome.accepted ∷ gives (keyAt 9) ∷ [])
+    (says Result.accepted ∷ gives (Queued.untimed (Untimed.Bind seat 0)) ∷ says Result.none ∷ says Result.accepted ∷ gives (keyAt 9) ∷ [])
     -- "raising the serial for `disconnected`"
     ∷ record {
       serial = 7;
       before = [];
       calls = a (Plain.disconnected DisconnectReason.Disconnected none) ∷ a Plain.lastSerial ∷ [];
       answers =
-          record { outcome = Outcome.accepted; bytes = 0x70 ∷ 0x13 ∷ 0xff ∷ 0 ∷ 0 ∷ 0 ∷ 0 ∷ 0 ∷ 0 ∷ 0 ∷ 0 ∷ 0 ∷ 0 ∷ 7 ∷ 0 ∷ 0 ∷ 0 ∷ 0 ∷ 0 ∷ []; given = [] }
-          ∷ says (Outcome.value 7)
+          record { outcome = Result.accepted; bytes = 0x70 ∷ 0x13 ∷ 0xff ∷ 0 ∷ 0 ∷ 0 ∷ 0 ∷ 0 ∷ 0 ∷ 0 ∷ 0 ∷ 0 ∷ 0 ∷ 7 ∷ 0 ∷ 0 ∷ 0 ∷ 0 ∷ 0 ∷ []; given = [] }
+          ∷ says (Result.value 7)
           ∷ [];
     }
     -- "giving a text slot back when its frame closes": it is given back with its text
     ∷ trial (replicate 32 (utf8 1) ++ (frame 5 ∷ [])) (utf8 1 ∷ next ∷ utf8 1 ∷ [])
-    (says (Outcome.refused 18)
-    ∷ gives (Request.timed device 5 (record { kind = Kind.TextUtf8; touch = 0; size = 1; load = Load.Text (97 ∷ []) }))
-    ∷ says Outcome.accepted
+    (says (Result.refused 18)
+    ∷ gives (Queued.timed device 5 (record { kind = Kind.TextUtf8; touch = 0; size = 1; load = Load.Text (97 ∷ []) }))
+    ∷ says Result.accepted
     ∷ [])
     ∷ []
 
 -- ---- what the definitions compute
 
-unfoldable pub answerOf : Step Load → Answer
+unfoldable pub answerOf : Step Load → Expected
 unfolding records
 answerOf r = record { outcome = r .outcome; bytes = records (r .events); given = r .gave }
 
@@ -177,10 +177,10 @@ answerOf r = record { outcome = r .outcome; bytes = records (r .events); given =
 unfoldable pub versions : List (Option ℕ)
 versions = map some (1 ∷ 1 ∷ 1 ∷ 2 ∷ 3 ∷ 1 ∷ 1 ∷ 1 ∷ 1 ∷ 1 ∷ 2 ∷ 1 ∷ [])
 
-unfoldable pub computed : Trial → List Answer
+unfoldable pub computed : Trial → List Expected
 unfolding trail answerOf versions
 computed t =
     map answerOf (drop (length (t .before)) (trail 0xff00_0000_0000_0000 (t .serial) 0xff00_0000_0000_0001 versions (t .before ++ t .calls)))
 
-unfoldable pub expected : Trial → List Answer
+unfoldable pub expected : Trial → List Expected
 expected t = t .answers

@@ -12,8 +12,8 @@ use Rattle.eiproto.specs.declared.eiproto_enum.DisconnectReason.{DisconnectReas
 use Rattle.eiproto.specs.declared.eiproto_enum.KeyState.{KeyState}
 use Rattle.eiproto.specs.declared.event.DeviceCapability.{DeviceCapability}
 use Rattle.model.specs.Call.{Kind, Input, Load, HandshakeRequest, handshake, interfaceRelease, Plain, timed, plain, Turn}
-use Rattle.model.specs.Session.{Untimed, Request}
-use Rattle.model.specs.Plan.{Outcome, accepted, refused, refusedVersion, value, truth}
+use Rattle.model.specs.Session.{Untimed, Queued}
+use Rattle.model.specs.Plan.{Result, accepted, refused, refusedVersion, value, truth}
 use Rattle.model_cases.specs.Line.{Line, line, f32, an, turn, computed}
 
 abbrev calls1 : List Turn
@@ -32,7 +32,7 @@ trail1 =
     line (value 7) 0x1 [] ∷
     line (accepted) 0x17013ff00000000000000000000070000000380 [] ∷
     line (accepted) 0x17015ff000000000000000000000700000005806869 [] ∷
-    line (Outcome.seat 0xff00000000000001) 0x10816ff00000000000000ff0000000000000100000002200aff00000000000001 [] ∷
+    line (Result.seat 0xff00000000000001) 0x10816ff00000000000000ff0000000000000100000002200aff00000000000001 [] ∷
     line (accepted) 0x1280eff00000000000001000000087013ff00000000000000000000080000000100 [] ∷
     line (value 8) 0x1 [] ∷ []
 

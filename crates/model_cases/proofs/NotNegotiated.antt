@@ -12,8 +12,8 @@ use Rattle.eiproto.specs.declared.eiproto_enum.DisconnectReason.{DisconnectReas
 use Rattle.eiproto.specs.declared.eiproto_enum.KeyState.{KeyState}
 use Rattle.eiproto.specs.declared.event.DeviceCapability.{DeviceCapability}
 use Rattle.model.specs.Call.{Kind, Input, Load, HandshakeRequest, handshake, interfaceRelease, Plain, timed, plain, Turn}
-use Rattle.model.specs.Session.{Untimed, Request}
-use Rattle.model.specs.Plan.{Outcome, accepted, refused, refusedVersion, value, truth}
+use Rattle.model.specs.Session.{Untimed, Queued}
+use Rattle.model.specs.Plan.{Result, accepted, refused, refusedVersion, value, truth}
 use Rattle.model_cases.specs.Line.{Line, line, f32, an, turn, computed}
 
 abbrev calls1 : List Turn
@@ -30,10 +30,10 @@ calls1 =
 
 abbrev trail1 : List Line
 trail1 =
-    line (Outcome.seat 0xff00000000000001) 0x10816ff00000000000000ff0000000000000100000001100aff000000000000011813ff0000000000000100000000000000040a200aff00000000000001 [] ∷
+    line (Result.seat 0xff00000000000001) 0x10816ff00000000000000ff0000000000000100000001100aff000000000000011813ff0000000000000100000000000000040a200aff00000000000001 [] ∷
     line (accepted) 0x1 [] ∷
     line (refused 3) 0x1 [] ∷
-    line (Outcome.device 0xff00000000000002) 0x13016ff00000000000001ff0000000000000200000001100aff00000000000002380eff00000000000002000000024017ff00000000000002ff000000000000030a000000014017ff00000000000002ff000000000000040b00000001200aff00000000000002 [] ∷
+    line (Result.device 0xff00000000000002) 0x13016ff00000000000001ff0000000000000200000001100aff00000000000002380eff00000000000002000000024017ff00000000000002ff000000000000030a000000014017ff00000000000002ff000000000000040b00000001200aff00000000000002 [] ∷
     line (accepted) 0x1 [] ∷
     line (refusedVersion 11 1) 0x1 [] ∷
     line (accepted) 0x1 [] ∷

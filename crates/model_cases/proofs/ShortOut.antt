@@ -12,8 +12,8 @@ use Rattle.eiproto.specs.declared.eiproto_enum.DisconnectReason.{DisconnectReas
 use Rattle.eiproto.specs.declared.eiproto_enum.KeyState.{KeyState}
 use Rattle.eiproto.specs.declared.event.DeviceCapability.{DeviceCapability}
 use Rattle.model.specs.Call.{Kind, Input, Load, HandshakeRequest, handshake, interfaceRelease, Plain, timed, plain, Turn}
-use Rattle.model.specs.Session.{Untimed, Request}
-use Rattle.model.specs.Plan.{Outcome, accepted, refused, refusedVersion, value, truth}
+use Rattle.model.specs.Session.{Untimed, Queued}
+use Rattle.model.specs.Plan.{Result, accepted, refused, refusedVersion, value, truth}
 use Rattle.model_cases.specs.Line.{Line, line, f32, an, turn, computed}
 
 abbrev calls1 : List Turn
@@ -50,9 +50,9 @@ abbrev trail1 : List Line
 trail1 =
     line (refused 10) 0x1 [] ∷
     line (refused 19) 0x1 [] ∷
-    line (Outcome.seat 0xff00000000000001) 0x10816ff00000000000000ff0000000000000100000002100cff0000000000000161611813ff00000000000001000000000000000106200aff00000000000001 [] ∷
+    line (Result.seat 0xff00000000000001) 0x10816ff00000000000000ff0000000000000100000002100cff0000000000000161611813ff00000000000001000000000000000106200aff00000000000001 [] ∷
     line (refused 19) 0x1 [] ∷
-    line (Outcome.device 0xff00000000000002) 0x13016ff00000000000001ff0000000000000200000003380eff00000000000002000000014017ff00000000000002ff000000000000030600000001200aff00000000000002 [] ∷
+    line (Result.device 0xff00000000000002) 0x13016ff00000000000001ff0000000000000200000003380eff00000000000002000000014017ff00000000000002ff000000000000030600000001200aff00000000000002 [] ∷
     line (refused 19) 0x1 [] ∷
     line (refused 19) 0x1 [] ∷
     line (refused 19) 0x1 [] ∷
@@ -71,10 +71,10 @@ trail1 =
     line (accepted) 0x1 [] ∷
     line (accepted) 0x1 [] ∷
     line (accepted) 0x1280eff0000000000000300000008280eff0000000000000200000009280eff000000000000010000000a7015ff000000000000000000000a00000001806161 [] ∷
-    line (Outcome.given) 0x1 (Request.timed 0xff00000000000002 0 (an Kind.PointerMotion 0 0 (Load.Point (f32 0x3f800000) (f32 0x3f800000))) ∷ []) ∷
-    line (Outcome.given) 0x1 (Request.untimed (Untimed.Frame 0xff00000000000002 7 0) ∷ []) ∷
-    line (Outcome.given) 0x1 (Request.untimed (Untimed.Ready 0xff00000000000002) ∷ []) ∷
-    line (Outcome.none) 0x1 [] ∷ []
+    line (Result.given) 0x1 (Queued.timed 0xff00000000000002 0 (an Kind.PointerMotion 0 0 (Load.Point (f32 0x3f800000) (f32 0x3f800000))) ∷ []) ∷
+    line (Result.given) 0x1 (Queued.untimed (Untimed.Frame 0xff00000000000002 7 0) ∷ []) ∷
+    line (Result.given) 0x1 (Queued.untimed (Untimed.Ready 0xff00000000000002) ∷ []) ∷
+    line (Result.none) 0x1 [] ∷ []
 
 pub agrees1 : computed 0xff00000000000000 7 0xff00000000000001 ((some 1) ∷ (some 1) ∷ (some 1) ∷ (some 2) ∷ (some 3) ∷ (some 1) ∷ (some 1) ∷ (some 1) ∷ (some 1) ∷ (some 1) ∷ (some 2) ∷ (some 1) ∷ []) calls1 ≡ trail1
 unfolding computed

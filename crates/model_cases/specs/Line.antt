@@ -4,8 +4,8 @@ use mathlib.Core.List.{List, [], _∷_, map}
 use mathlib.Core.Option.{Option}
 use lib.Ieee.{Float, ofBits, binary32}
 use Rattle.model.specs.Call.{Kind, Input, Load, Call, Turn}
-use Rattle.model.specs.Session.{Item, Request}
-use Rattle.model.specs.Plan.{Outcome, records}
+use Rattle.model.specs.Session.{Item, Queued}
+use Rattle.model.specs.Plan.{Result, records}
 use Rattle.model.specs.Step.{Step}
 use Rattle.model.specs.Demand3.{trail}
 
@@ -15,11 +15,11 @@ digits n [] = n
 digits n (b ∷ bs) = digits (n * 256 + b) bs
 
 pub record Line : Type 0 where
-  pub outcome : Outcome
+  pub outcome : Result
   pub events : ℕ
-  pub given : List (Request Load)
+  pub given : List (Queued Load)
 
-abbrev pub line : Outcome → ℕ → List (Request Load) → Line
+abbrev pub line : Result → ℕ → List (Queued Load) → Line
 line o e g = record { outcome = o; events = e; given = g }
 
 abbrev pub an : Kind → (touch size : ℕ) → Load → Item Load

@@ -8,7 +8,7 @@ use native.Mathlib.Omega.{arith}
 use lib.ListN.{length, getD, length-append, length-map}
 use Rattle.eiproto.specs.Bits.{bitsOf}
 use Rattle.model.specs.Call.{Sight}
-use Rattle.model.specs.Session.{Item, Untimed, Request, Seat, Device, Session}
+use Rattle.model.specs.Session.{Item, Untimed, Queued, Seat, Device, Session}
 use Rattle.model.specs.Edit.{Amend, Edit, interfacesFrom, newInterfaces, amended, item, pended, emptied, framed, newDevice, at, framedAt, rest, withDevices, enact, enactAll}
 use Rattle.model.specs.Decide.{Found, pendAfter, removeSeats}
 use Rattle.model.specs.Step.{gave, gaveAll, texts, pendingTexts, devicesTexts, queuedTexts, Counts, counts}
@@ -248,11 +248,11 @@ module _ {P : Type 0} where
   devicesTexts-append [] es = omega arith
   devicesTexts-append (d ∷ ds) es = omega (arith, devicesTexts-append ds es)
 
-  queuedTexts-append : (rs qs : List (Request P)) → queuedTexts (rs ++ qs) ≡ queuedTexts rs + queuedTexts qs
+  queuedTexts-append : (rs qs : List (Queued P)) → queuedTexts (rs ++ qs) ≡ queuedTexts rs + queuedTexts qs
   unfolding queuedTexts
   queuedTexts-append [] qs = omega arith
-  queuedTexts-append (Request.timed d t i ∷ rs) qs = omega (arith, queuedTexts-append rs qs)
-  queuedTexts-append (Request.untimed u ∷ rs) qs = queuedTexts-append rs qs
+  queuedTexts-append (Queued.timed d t i ∷ rs) qs = omega (arith, queuedTexts-append rs qs)
+  queuedTexts-append (Queued.untimed u ∷ rs) qs = queuedTexts-append rs qs
 
   amended-pending : (a : Amend) (d : Device P) → amended a d .pending ≡ d .pending
   unfolding amended
@@ -279,7 +279,7 @@ module _ {P : Type 0} where
   framed-texts d s t [] = refl
   framed-texts d s t (i ∷ is) = go (i ∷ is)
     where
-      go : (js : List (Item P)) → queuedTexts (map (λ x. Request.timed d t x) js ++ (Request.untimed (Untimed.Frame d s t) ∷ [])) ≡ pendingTexts js
+      go : (js : List (Item P)) → queuedTexts (map (λ x. Queued.timed d t x) js ++ (Queued.untimed (Untimed.Frame d s t) ∷ [])) ≡ pendingTexts js
       go [] = refl
       go (j ∷ js) = ap (λ n. texts (j .kind) + n) (go js)
 
@@ -295,13 +295,13 @@ module _ {P : Type 0} where
   sub-texts (Sublistᴰ·cons s) = omega (arith, sub-texts s)
   sub-texts (Sublistᴰ·cons-cons e s) = omega (arith, sub-texts s, ap (λ d. pendingTexts (d .pending)) e)
 
-  rest-texts : (rs : List (Request P)) → queuedTexts (rest rs) ≤ queuedTexts rs
+  rest-texts : (rs : List (Queued P)) → queuedTexts (rest rs) ≤ queuedTexts rs
   unfolding rest queuedTexts
   rest-texts [] = le-refl _
-  rest-texts (Request.timed d t i ∷ rs) = omega arith
-  rest-texts (Request.untimed u ∷ rs) = le-refl _
+  rest-texts (Queued.timed d t i ∷ rs) = omega arith
+  rest-texts (Queued.untimed u ∷ rs) = le-refl _
 
-  rest-length : (rs : List (Request P)) → length (rest rs) ≤ length rs
+  rest-length : (rs : List (Queued P)) → length (rest rs) ≤ length rs
   unfolding rest
   rest-length [] = le-refl _
   rest-length (r ∷ rs) = omega arith
@@ -309,7 +309,7 @@ module _ {P : Type 0} where
   framed-length : (d s t : ℕ) (is : List (Item P)) → length (framed d s t is) ≡ framedLength (length is)
   unfolding framed framedLength
   framed-length d s t [] = refl
-  framed-length d s t (i ∷ is) = rw (length-append (map (λ x. Request.timed d t x) (i ∷ is)) _, length-map (i ∷ is) _)
+  framed-length d s t (i ∷ is) = rw (length-append (map (λ x. Queued.timed d t x) (i ∷ is)) _, length-map (i ∷ is) _)
 
   framedAt-length : (k s t : ℕ) (ds : List (Device P)) → length (framedAt k s t ds) ≡ framedLength (getD (waiting ds) k 0)
   unfolding framedAt framedLength
@@ -349,7 +349,7 @@ module _ {P : Type 0} where
   pub counts-queue : (r : Untimed) (p : P) (s : Session P) → counts (enact (Edit.queue r) p s) ≡ afterQueue (counts s)
   unfolding counts enact afterQueue
   counts-queue r p s =
-      counted refl refl refl (length-append (s .requests) _) (omega (arith, queuedTexts-append (s .requests) (Request.untimed r ∷ []))) refl
+      counted refl refl refl (length-append (s .requests) _) (omega (arith, queuedTexts-append (s .requests) (Queued.untimed r ∷ []))) refl
 
   pub counts-addSeat : (caps : ℕ) (p : P) (s : Session P) → counts (enact (Edit.addSeat caps) p s) ≡ afterSeat (counts s)
   unfolding counts enact afterSeat

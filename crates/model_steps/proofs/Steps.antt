@@ -11,9 +11,9 @@ use lib.ListN.{length, getD, length-map}
 use borrow.Author.Tests.{lt-ltb, le-ltb}
 use Rattle.eiproto.specs.Bits.{bitsOf}
 use Rattle.model.specs.Call.{Kind, Sight, Split}
-use Rattle.model.specs.Session.{Untimed, Request, Device, Session, view}
+use Rattle.model.specs.Session.{Untimed, Queued, Device, Session, view}
 use Rattle.model.specs.Edit.{Amend, Edit, enact, enactAll}
-use Rattle.model.specs.Plan.{Sent, records, Outcome, Plan, answer, edit, send}
+use Rattle.model.specs.Plan.{Sent, records, Result, Plan, answer, edit, send}
 use Rattle.model.specs.Decide.{Found, Rule, handler, pendAfter, seatPlan, devicePlan, decide}
 use Rattle.model.specs.Step.{Step, gaveAll, carriedOut, textsBy, texts, textBytes, Counts, counts, over, anyOver, limits, refuses, unchanged, settled, bytesNeeded, limited, step}
 use Rattle.model.proofs.All.{All, none, more}
@@ -97,39 +97,39 @@ fits-less n m l h = fits-queued n m (l .seats) (l .devices) h (over-less 256 _ _
 fits-same : (n : Counts) → Fits n n
 fits-same n = fits-less n n (lessens-same n) (anyOver-same 64 (n .pending))
 
-module _ (room bytes : ℕ) (n m : Counts) (o : Outcome) where
+module _ (room bytes : ℕ) (n m : Counts) (o : Result) where
   limits-none : Fits n m → bytes ≤ room → limits room bytes n m o ≡ o
   unfolding limits
   limits-none f h = rw (f .seats, f .devices, f .pending, f .queued, f .texts, f .nextId, le-ltb room bytes h)
 
-  limits-room : Fits n m → room < bytes → limits room bytes n m o ≡ Outcome.refused 19
+  limits-room : Fits n m → room < bytes → limits room bytes n m o ≡ Result.refused 19
   unfolding limits
   limits-room f h = rw (f .seats, f .devices, f .pending, f .queued, f .texts, f .nextId, lt-ltb room bytes h)
 
-  limits-seats : over 4 (n .seats) (m .seats) ≡ true → limits room bytes n m o ≡ Outcome.refused 14
+  limits-seats : over 4 (n .seats) (m .seats) ≡ true → limits room bytes n m o ≡ Result.refused 14
   unfolding limits
   limits-seats h = rw h
 
-  limits-devices : over 4 (n .seats) (m .seats) ≡ false → over 8 (n .devices) (m .devices) ≡ true → limits room bytes n m o ≡ Outcome.refused 15
+  limits-devices : over 4 (n .seats) (m .seats) ≡ false → over 8 (n .devices) (m .devices) ≡ true → limits room bytes n m o ≡ Result.refused 15
   unfolding limits
   limits-devices a h = rw (a, h)
 
   -- where neither a seat nor a device is new
   module _ (a : over 4 (n .seats) (m .seats) ≡ false) (b : over 8 (n .devices) (m .devices) ≡ false) where
-    limits-pending : anyOver 64 (n .pending) (m .pending) ≡ true → limits room bytes n m o ≡ Outcome.refused 16
+    limits-pending : anyOver 64 (n .pending) (m .pending) ≡ true → limits room bytes n m o ≡ Result.refused 16
     unfolding limits
     limits-pending h = rw (a, b, h)
 
-    limits-queued : anyOver 64 (n .pending) (m .pending) ≡ false → over 256 (n .queued) (m .queued) ≡ true → limits room bytes n m o ≡ Outcome.refused 17
+    limits-queued : anyOver 64 (n .pending) (m .pending) ≡ false → over 256 (n .queued) (m .queued) ≡ true → limits room bytes n m o ≡ Result.refused 17
     unfolding limits
     limits-queued c h = rw (a, b, c, h)
 
     module _ (c : anyOver 64 (n .pending) (m .pending) ≡ false) (d : over 256 (n .queued) (m .queued) ≡ false) where
-      limits-texts : over 32 (n .texts) (m .texts) ≡ true → limits room bytes n m o ≡ Outcome.refused 18
+      limits-texts : over 32 (n .texts) (m .texts) ≡ true → limits room bytes n m o ≡ Result.refused 18
       unfolding limits
       limits-texts h = rw (a, b, c, d, h)
 
-      limits-nextId : over 32 (n .texts) (m .texts) ≡ false → over 0xffff_ffff_ffff_ffff (n .nextId) (m .nextId) ≡ true → limits room bytes n m o ≡ Outcome.refused 20
+      limits-nextId : over 32 (n .texts) (m .texts) ≡ false → over 0xffff_ffff_ffff_ffff (n .nextId) (m .nextId) ≡ true → limits room bytes n m o ≡ Result.refused 20
       unfolding limits
       limits-nextId e h = rw (a, b, c, d, e, h)
 
@@ -155,7 +155,7 @@ module _ {P : Type 0} where
 -- ---- a step by its plan
 
 abbrev pub deliverPlan : Plan
-deliverPlan = record { outcome = Outcome.given; events = []; edits = Edit.deliver ∷ [] }
+deliverPlan = record { outcome = Result.given; events = []; edits = Edit.deliver ∷ [] }
 
 module _ {P : Type 0} where
   limited-accepted : (room : ℕ) (s : Session P) (r : Step P) → refuses (r .outcome) ≡ false →
@@ -177,12 +177,12 @@ module _ {P : Type 0} where
           let r = carriedOut p (t .load) s in
           planned e ∙ limited-accepted (t .room) s r a ∙ ap (λ m. settled s r (limits (t .room) (bytesNeeded r) (counts s) m (p .outcome))) c
 
-      step-over : (n : ℕ) → 0 < n → ((bytes : ℕ) → limits (t .room) bytes (counts s) m (p .outcome) ≡ Outcome.refused n) →
-          step t s ≡ unchanged s (Outcome.refused n)
+      step-over : (n : ℕ) → 0 < n → ((bytes : ℕ) → limits (t .room) bytes (counts s) m (p .outcome) ≡ Result.refused n) →
+          step t s ≡ unchanged s (Result.refused n)
       unfolding refuses
       step-over n h l =
           let r = carriedOut p (t .load) s in
-          judged ∙ ap (settled s r) (l (bytesNeeded r)) ∙ settled-refused t s r (Outcome.refused n) (lt-ltb 0 n h)
+          judged ∙ ap (settled s r) (l (bytesNeeded r)) ∙ settled-refused t s r (Result.refused n) (lt-ltb 0 n h)
 
       step-fits : Fits (counts s) m → bytesNeeded (carriedOut p (t .load) s) ≤ t .room → step t s ≡ carriedOut p (t .load) s
       unfolding carriedOut
@@ -190,11 +190,11 @@ module _ {P : Type 0} where
           let r = carriedOut p (t .load) s in
           judged ∙ ap (settled s r) (limits-none (t .room) (bytesNeeded r) (counts s) m (p .outcome) f h) ∙ settled-accepted t s r a
 
-      step-short : Fits (counts s) m → t .room < bytesNeeded (carriedOut p (t .load) s) → step t s ≡ unchanged s (Outcome.refused 19)
+      step-short : Fits (counts s) m → t .room < bytesNeeded (carriedOut p (t .load) s) → step t s ≡ unchanged s (Result.refused 19)
       unfolding refuses
       step-short f h =
           let r = carriedOut p (t .load) s in
-          judged ∙ ap (settled s r) (limits-room (t .room) (bytesNeeded r) (counts s) m (p .outcome) f h) ∙ settled-refused t s r (Outcome.refused 19) refl
+          judged ∙ ap (settled s r) (limits-room (t .room) (bytesNeeded r) (counts s) m (p .outcome) f h) ∙ settled-refused t s r (Result.refused 19) refl
 
     -- what is written where no request is given
     written : (p : Plan) → gaveAll (p .edits) (t .load) s ≡ [] → bytesNeeded (carriedOut p (t .load) s) ≡ length (records (p .events))
@@ -202,7 +202,7 @@ module _ {P : Type 0} where
     written p g = rw g (add-zero (length (records (p .events))))
 
     -- an answer and nothing else, each refusal among them
-    pub step-answer : (o : Outcome) → decide (view s) (t .now) (t .call) ≡ answer o → step t s ≡ unchanged s o
+    pub step-answer : (o : Result) → decide (view s) (t .now) (t .call) ≡ answer o → step t s ≡ unchanged s o
     unfolding answer carriedOut limited settled unchanged
     step-answer o e = planned e ∙ go (refuses o) refl
       where
@@ -222,7 +222,7 @@ module _ {P : Type 0} where
       pub step-kept : length (records (p .events)) ≤ t .room → step t s ≡ carriedOut p (t .load) s
       step-kept h = step-fits p e a c (fits-same (counts s)) (rw (written p g) h)
 
-      pub step-kept-short : t .room < length (records (p .events)) → step t s ≡ unchanged s (Outcome.refused 19)
+      pub step-kept-short : t .room < length (records (p .events)) → step t s ≡ unchanged s (Result.refused 19)
       step-kept-short h = step-short p e a c (fits-same (counts s)) (rw (written p g) h)
 
     -- events, and edits that change nothing of what is counted
@@ -231,7 +231,7 @@ module _ {P : Type 0} where
       unfolding send refuses
       step-sent h = let k = quiet edits (t .load) s q in step-kept (send events edits) e refl (k .0) (k .1) h
 
-      pub step-sent-short : t .room < length (records events) → step t s ≡ unchanged s (Outcome.refused 19)
+      pub step-sent-short : t .room < length (records events) → step t s ≡ unchanged s (Result.refused 19)
       unfolding send refuses
       step-sent-short h = let k = quiet edits (t .load) s q in step-kept-short (send events edits) e refl (k .0) (k .1) h
 
@@ -245,14 +245,14 @@ module _ {P : Type 0} where
       unfolding counts afterPend
       pended-over = anyOver-change 64 (λ n. n + 1) (f .slot) (waiting (s .devices)) (rw (length-map (s .devices) (λ d. length (d .pending))) k)
 
-      pub step-pend-full : 64 ≤ getD (counts s .pending) (f .slot) 0 → step t s ≡ unchanged s (Outcome.refused 16)
+      pub step-pend-full : 64 ≤ getD (counts s .pending) (f .slot) 0 → step t s ≡ unchanged s (Result.refused 16)
       unfolding pendAfter edit refuses afterPend
       step-pend-full h =
           step-over (pendAfter amends f i) e refl (pends amends f i (t .load) s k .0) 16 (omega arith)
           (λ b. limits-pending (t .room) b (counts s) _ _ (over-same 4 _) (over-same 8 _)
           (pended-over ∙ over-more 64 waits (waits + 1) (omega arith) (omega arith)))
 
-      pub step-pend-texts : getD (counts s .pending) (f .slot) 0 < 64 → texts (i .kind) ≡ 1 → 32 ≤ counts s .texts → step t s ≡ unchanged s (Outcome.refused 18)
+      pub step-pend-texts : getD (counts s .pending) (f .slot) 0 < 64 → texts (i .kind) ≡ 1 → 32 ≤ counts s .texts → step t s ≡ unchanged s (Result.refused 18)
       unfolding pendAfter edit refuses afterPend
       step-pend-texts h x l =
           step-over (pendAfter amends f i) e refl (pends amends f i (t .load) s k .0) 18 (omega arith)
@@ -281,11 +281,11 @@ module _ {P : Type 0} where
     -- edits that send no event and end in a longer queue
     module _ (edits : List Edit) (e : decide (view s) (t .now) (t .call) ≡ edit edits) (m : Counts) (c : counts (enactAll edits (t .load) s) ≡ m)
         (a : m .seats ≤ counts s .seats) (b : m .devices ≤ counts s .devices) (d : anyOver 64 (counts s .pending) (m .pending) ≡ false) where
-      queued-full : 256 < m .queued → counts s .queued < m .queued → step t s ≡ unchanged s (Outcome.refused 17)
+      queued-full : 256 < m .queued → counts s .queued < m .queued → step t s ≡ unchanged s (Result.refused 17)
       unfolding edit refuses
       queued-full h k =
           step-over (edit edits) e refl c 17 (omega arith)
-          (λ n. limits-queued (t .room) n (counts s) m Outcome.accepted (over-less 4 _ _ a) (over-less 8 _ _ b) d (over-more 256 _ _ h k))
+          (λ n. limits-queued (t .room) n (counts s) m Result.accepted (over-less 4 _ _ a) (over-less 8 _ _ b) d (over-more 256 _ _ h k))
 
       queued-fits : gaveAll edits (t .load) s ≡ [] → over 256 (counts s .queued) (m .queued) ≡ false → m .texts ≤ counts s .texts → m .nextId ≤ counts s .nextId →
           step t s ≡ carriedOut (edit edits) (t .load) s
@@ -293,7 +293,7 @@ module _ {P : Type 0} where
       queued-fits g h x y = step-fits (edit edits) e refl c (fits-queued (counts s) m a b d h x y) (rw (written (edit edits) g) (omega arith))
 
     module _ (r : Untimed) (e : decide (view s) (t .now) (t .call) ≡ edit (Edit.queue r ∷ [])) where
-      pub step-queue-full : 256 ≤ length (s .requests) → step t s ≡ unchanged s (Outcome.refused 17)
+      pub step-queue-full : 256 ≤ length (s .requests) → step t s ≡ unchanged s (Result.refused 17)
       unfolding enactAll afterQueue counts
       step-queue-full h =
           queued-full _ e (afterQueue (counts s)) (counts-queue r (t .load) s) (le-refl _) (le-refl _)
@@ -308,7 +308,7 @@ module _ {P : Type 0} where
     -- a client's Frame
     module _ (k serial time : ℕ) (e : decide (view s) (t .now) (t .call) ≡ edit (Edit.frame k serial time ∷ [])) where
       pub step-frame-full : 0 < getD (counts s .pending) k 0 → 256 < length (s .requests) + (getD (counts s .pending) k 0 + 1) →
-          step t s ≡ unchanged s (Outcome.refused 17)
+          step t s ≡ unchanged s (Result.refused 17)
       unfolding enactAll afterFrame counts
       step-frame-full p h =
           let q = framedLength-some _ p in
@@ -336,7 +336,7 @@ module _ {P : Type 0} where
       unfolding enactAll
       flushed = counts-queue r (t .load) (enact (Edit.frame k serial time) (t .load) s) ∙ ap afterQueue (counts-frame k serial time (t .load) s)
 
-      pub step-flush-full : 256 < length (s .requests) + framedLength (getD (counts s .pending) k 0) + 1 → step t s ≡ unchanged s (Outcome.refused 17)
+      pub step-flush-full : 256 < length (s .requests) + framedLength (getD (counts s .pending) k 0) + 1 → step t s ≡ unchanged s (Result.refused 17)
       unfolding afterQueue afterFrame counts
       step-flush-full h = queued-full _ e (afterQueue (afterFrame k (counts s))) flushed (le-refl _) (le-refl _)
           (anyOver-emptied 64 k _) h (omega arith)
@@ -355,12 +355,12 @@ module _ {P : Type 0} where
       unfolding enactAll
       seated = counts-addSeat caps (t .load) s
 
-      pub step-seat-full : 4 ≤ length (s .connection .seats) → step t s ≡ unchanged s (Outcome.refused 14)
+      pub step-seat-full : 4 ≤ length (s .connection .seats) → step t s ≡ unchanged s (Result.refused 14)
       unfolding refuses afterSeat counts
       step-seat-full h = step-over _ e refl seated 14 (omega arith) (λ b. limits-seats (t .room) b (counts s) _ _ (over-more 4 _ _ (omega arith) (omega arith)))
 
       module _ (n : length (s .connection .seats) < 4) where
-        pub step-seat-spent : 0xffff_ffff_ffff_ffff < s .connection .nextId + 1 → step t s ≡ unchanged s (Outcome.refused 20)
+        pub step-seat-spent : 0xffff_ffff_ffff_ffff < s .connection .nextId + 1 → step t s ≡ unchanged s (Result.refused 20)
         unfolding refuses afterSeat counts
         step-seat-spent h =
             step-over _ e refl seated 20 (omega arith)
@@ -380,7 +380,7 @@ module _ {P : Type 0} where
                 nextId = over-fits _ _ _ i;
               }
 
-          pub step-seat-short : t .room < length (records events) → step t s ≡ unchanged s (Outcome.refused 19)
+          pub step-seat-short : t .room < length (records events) → step t s ≡ unchanged s (Result.refused 19)
           unfolding refuses gaveAll
           step-seat-short h = step-short _ e refl seated seat-fits (rw (written (seatPlan id caps events) refl) h)
 
@@ -394,14 +394,14 @@ module _ {P : Type 0} where
       unfolding enactAll
       added = counts-addDevice seat caps (t .load) s
 
-      pub step-device-full : 8 ≤ length (s .devices) → step t s ≡ unchanged s (Outcome.refused 15)
+      pub step-device-full : 8 ≤ length (s .devices) → step t s ≡ unchanged s (Result.refused 15)
       unfolding refuses afterDevice counts
       step-device-full h =
           step-over _ e refl added 15 (omega arith)
           (λ b. limits-devices (t .room) b (counts s) _ _ (over-same 4 _) (over-more 8 _ _ (omega arith) (omega arith)))
 
       module _ (n : length (s .devices) < 8) where
-        pub step-device-spent : 0xffff_ffff_ffff_ffff < s .connection .nextId + 1 + length (bitsOf caps) → step t s ≡ unchanged s (Outcome.refused 20)
+        pub step-device-spent : 0xffff_ffff_ffff_ffff < s .connection .nextId + 1 + length (bitsOf caps) → step t s ≡ unchanged s (Result.refused 20)
         unfolding refuses afterDevice counts
         step-device-spent h =
             step-over _ e refl added 20 (omega arith)
@@ -421,7 +421,7 @@ module _ {P : Type 0} where
                 nextId = over-fits _ _ _ i;
               }
 
-          pub step-device-short : t .room < length (records events) → step t s ≡ unchanged s (Outcome.refused 19)
+          pub step-device-short : t .room < length (records events) → step t s ≡ unchanged s (Result.refused 19)
           unfolding refuses gaveAll
           step-device-short h = step-short _ e refl added device-fits (rw (written (devicePlan id seat caps events) refl) h)
 
@@ -443,13 +443,13 @@ module _ {P : Type 0} where
       unfolding send refuses
       step-remove h = step-fits (send events edits) e refl refl removal-fits (rw (written (send events edits) (removed edits (t .load) s q .1)) h)
 
-      pub step-remove-short : t .room < length (records events) → step t s ≡ unchanged s (Outcome.refused 19)
+      pub step-remove-short : t .room < length (records events) → step t s ≡ unchanged s (Result.refused 19)
       unfolding send refuses
       step-remove-short h = step-short (send events edits) e refl refl removal-fits (rw (written (send events edits) (removed edits (t .load) s q .1)) h)
 
     -- ---- the oldest request is given
 
-    module _ {r : Request P} {rs : List (Request P)} (q : s .requests ≡ r ∷ rs) where
+    module _ {r : Queued P} {rs : List (Queued P)} (q : s .requests ≡ r ∷ rs) where
       pub deliver-gave : carriedOut deliverPlan (t .load) s .gave ≡ r ∷ []
       unfolding carriedOut gaveAll
       deliver-gave = rw q
@@ -463,7 +463,7 @@ module _ {P : Type 0} where
         unfolding bytesNeeded carriedOut records
         deliver-bytes = rw deliver-gave (zero-add (textBytes (r ∷ [])))
 
-        pub step-deliver-short : t .room < textBytes (r ∷ []) → step t s ≡ unchanged s (Outcome.refused 19)
+        pub step-deliver-short : t .room < textBytes (r ∷ []) → step t s ≡ unchanged s (Result.refused 19)
         unfolding refuses
         step-deliver-short h = step-short _ e refl refl deliver-fits (rw deliver-bytes h)
 

@@ -6,7 +6,7 @@ use mathlib.Core.List.{List, [], _∷_, _++_, append-assoc, append-nil}
 use lib.Ieee.{Float}
 use Rattle.requests.specs.Row.{Row, framedRow, rowAt, Put}
 use Rattle.model.specs.Call.{Sight, Load}
-use Rattle.model.specs.Session.{Item, Untimed, Request}
+use Rattle.model.specs.Session.{Item, Untimed, Queued}
 use Rattle.model.specs.Edit.{Edit, deviceWith, item, pended, emptied, framed, framedAt, rest, at, withRequests, enact, enactAll}
 use Rattle.control.specs.Table.{tab}
 use Rattle.control.specs.Control.{devicesLimit, pendingLimit, queueLimit, deviceCount, queueHead, queueLength, pendingAt, Core, coreAt}
@@ -103,13 +103,13 @@ module _ {c e : List ℕ} {rows later : ℕ → Row} {head queued more place : �
   pushed-queue =
       queue-is e later texts (q .head-is) (q .queued-is ∙ one)
       ∙ row-push texts head queued room at p
-      ∙ ap (λ (xs : List (Request Load)). xs ++ (requestAt texts new ∷ [])) (sym (queue-is c rows texts (sym h) (sym n)))
+      ∙ ap (λ (xs : List (Queued Load)). xs ++ (requestAt texts new ∷ [])) (sym (queue-is c rows texts (sym h) (sym n)))
 
-  pub pushed : (u : Untimed) (load : Load) → requestAt texts new ≡ Request.untimed u → sessionIn e later texts ≡ enactAll (Edit.queue u ∷ []) load (sessionIn c rows texts)
+  pub pushed : (u : Untimed) (load : Load) → requestAt texts new ≡ Queued.untimed u → sessionIn e later texts ≡ enactAll (Edit.queue u ∷ []) load (sessionIn c rows texts)
   unfolding sessionIn enactAll enact withRequests
   pushed u load what =
       session-of e later texts (q .connection) (devices-kept e texts ok (λ i b. p .other i (λ z. omega arith)) (q .devices))
-      (pushed-queue ∙ ap (λ (x : Request Load). queueIn c rows texts ++ (x ∷ [])) what)
+      (pushed-queue ∙ ap (λ (x : Queued Load). queueIn c rows texts ++ (x ∷ [])) what)
 
 -- ---- a request more that is pending
 
@@ -168,7 +168,7 @@ module _ (c : List ℕ) (rows : ℕ → Row) (texts : List ℕ) (k serial time :
   framed-none load =
       session-of c rows texts refl
       (at-slot emptied (deviceCount c) k (deviceIn c rows texts) (deviceIn c rows texts) l empty-device (λ j b ne. refl))
-      (sym (append-nil (queueIn c rows texts)) ∙ ap (λ (xs : List (Request Load)). queueIn c rows texts ++ xs) (sym nothing-framed))
+      (sym (append-nil (queueIn c rows texts)) ∙ ap (λ (xs : List (Queued Load)). queueIn c rows texts ++ xs) (sym nothing-framed))
 
 -- else: the pending rows are copied (mid), the Frame is put behind them (later), the queue is longer (m) and nothing is pending (e)
 module _ {c m e : List ℕ} {rows mid later : ℕ → Row} {k n head queued device time place more left : ℕ} {new : Row} (ok : Sound c)
@@ -197,24 +197,24 @@ module _ {c m e : List ℕ} {rows mid later : ℕ → Row} {k n head queued devi
       ∙ at-slot emptied (deviceCount c) k (deviceIn c rows texts) (deviceIn e later texts) l emptied-device
       (λ j b ne. device-kept e texts ok pending-kept j b (a .other j ne ∙ q .devices .core j))
 
-  abbrev timed : List (Request Load)
-  timed = tab n (λ j. Request.timed device time (itemAt texts (rows (pendingRow k j))))
+  abbrev timed : List (Queued Load)
+  timed = tab n (λ j. Queued.timed device time (itemAt texts (rows (pendingRow k j))))
 
   -- the queue's rows, then the copied ones
   copied-queue : tab (queued + n) (λ j. requestAt texts (mid (queueRow head j))) ≡ queueIn c rows texts ++ timed
   copied-queue =
       tab-add queued n (λ j. requestAt texts (mid (queueRow head j)))
-      ∙ ap₂ (λ (xs ys : List (Request Load)). xs ++ ys)
+      ∙ ap₂ (λ (xs ys : List (Queued Load)). xs ++ ys)
       (tab-ext queued (λ j. requestAt texts (mid (queueRow head j))) (λ j. requestAt texts (rows (queueRow head j)))
       (λ j b. ap (requestAt texts) (copied .other (queueRow head j) (λ i d z. omega arith)))
       ∙ sym (queue-is c rows texts (sym h) (sym len)))
-      (tab-ext n (λ j. requestAt texts (mid (queueRow head (queued + j)))) (λ j. Request.timed device time (itemAt texts (rows (pendingRow k j))))
+      (tab-ext n (λ j. requestAt texts (mid (queueRow head (queued + j)))) (λ j. Queued.timed device time (itemAt texts (rows (pendingRow k j))))
       (λ j b. ap (requestAt texts) (copied .here j b) ∙ framed-request texts device time (rows (pendingRow k j))))
 
-  module _ (serial : ℕ) (frame : requestAt texts new ≡ Request.untimed (Untimed.Frame device serial time)) where
+  module _ (serial : ℕ) (frame : requestAt texts new ≡ Queued.untimed (Untimed.Frame device serial time)) where
     framed-pending : timed ++ (requestAt texts new ∷ []) ≡ framedAt k serial time (tab (deviceCount c) (deviceIn c rows texts))
     framed-pending =
-        ap (λ (x : Request Load). timed ++ (x ∷ [])) frame
+        ap (λ (x : Queued Load). timed ++ (x ∷ [])) frame
         ∙ sym (framed-tab device serial time n (λ j. itemAt texts (rows (pendingRow k j))) some)
         ∙ ap₂ (λ (d i : ℕ). framed d serial time (tab i (λ j. itemAt texts (rows (pendingRow k j))))) owner is
         ∙ sym (framed-at c rows texts k serial time l)
@@ -223,9 +223,9 @@ module _ {c m e : List ℕ} {rows mid later : ℕ → Row} {k n head queued devi
     framed-queue =
         queue-is e later texts (a .queue .head ∙ q .head-is) (a .queue .queued ∙ q .queued-is ∙ longer)
         ∙ row-push texts head (queued + n) (omega arith) last p
-        ∙ ap (λ (xs : List (Request Load)). xs ++ (requestAt texts new ∷ [])) copied-queue
+        ∙ ap (λ (xs : List (Queued Load)). xs ++ (requestAt texts new ∷ [])) copied-queue
         ∙ append-assoc (queueIn c rows texts) timed (requestAt texts new ∷ [])
-        ∙ ap (λ (xs : List (Request Load)). queueIn c rows texts ++ xs) framed-pending
+        ∙ ap (λ (xs : List (Queued Load)). queueIn c rows texts ++ xs) framed-pending
 
     pub framed-some : (load : Load) → sessionIn e later texts ≡ enactAll (Edit.frame k serial time ∷ []) load (sessionIn c rows texts)
     unfolding sessionIn enactAll enact

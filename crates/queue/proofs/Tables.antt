@@ -4,7 +4,7 @@ use native.Mathlib.Nat.{zero-add, suc-add}
 use native.Mathlib.Omega.{arith}
 use mathlib.Core.Path.{_≡_, refl, ap, _∙_}
 use mathlib.Core.List.{List, [], _∷_, _++_}
-use Rattle.model.specs.Session.{Item, Untimed, Request, Device}
+use Rattle.model.specs.Session.{Item, Untimed, Queued, Device}
 use Rattle.model.specs.Edit.{framed, framedAt, rest}
 use Rattle.control.specs.Table.{tab}
 use Rattle.control.proofs.Tables.{tab-ext, tab-map}
@@ -19,18 +19,18 @@ tab-add {A} (suc n) m f =
     ∙ ap (λ (xs : List A). tab n (λ j. f (suc j)) ++ xs) (tab-ext m (λ j. f (suc (n + j))) (λ j. f (suc n + j)) (λ j l. ap f (omega arith)))))
 
 module _ {P : Type 0} where
-  pub tab-rest : (n m : ℕ) (f : ℕ → Request P) → n ≡ m + 1 → rest (tab n f) ≡ tab m (λ j. f (suc j))
+  pub tab-rest : (n m : ℕ) (f : ℕ → Queued P) → n ≡ m + 1 → rest (tab n f) ≡ tab m (λ j. f (suc j))
   unfolding tab rest
   tab-rest zero m f e = absurd (omega arith)
   tab-rest (suc n) m f e = let q : n ≡ m = omega arith in ap (λ (k : ℕ). tab k (λ j. f (suc j))) q
 
   -- what a frame queues, where something is pending
   pub framed-tab : (d s t n : ℕ) (f : ℕ → Item P) → 0 < n
-      → framed d s t (tab n f) ≡ tab n (λ j. Request.timed d t (f j)) ++ (Request.untimed (Untimed.Frame d s t) ∷ [])
+      → framed d s t (tab n f) ≡ tab n (λ j. Queued.timed d t (f j)) ++ (Queued.untimed (Untimed.Frame d s t) ∷ [])
   unfolding tab framed
   framed-tab d s t zero f l = absurd (omega arith)
   framed-tab d s t (suc n) f l =
-      ap (λ (rs : List (Request P)). rs ++ (Request.untimed (Untimed.Frame d s t) ∷ [])) (tab-map (λ x. Request.timed d t x) (suc n) f)
+      ap (λ (rs : List (Queued P)). rs ++ (Queued.untimed (Untimed.Frame d s t) ∷ [])) (tab-map (λ x. Queued.timed d t x) (suc n) f)
 
   pub framed-slot : (s t n k : ℕ) (f : ℕ → Device P) → k < n → framedAt k s t (tab n f) ≡ framed (f k .id) s t (f k .pending)
   unfolding tab framedAt

@@ -1,6 +1,6 @@
 // The pending lists of the devices and the queue, in place (`session::QUEUE_START` and specs/View of session have their rows).
-pub use control::PENDING_LIMIT;
-pub use control::QUEUE_LIMIT;
+use control::PENDING_LIMIT;
+use control::QUEUE_LIMIT;
 use requests::cell;
 use requests::cell::Cell;
 use requests::request::EisRequest;
@@ -11,7 +11,7 @@ ghost use mathlib.Core.Path.{_≡_};
 ghost use mathlib.Core.List.{[], _∷_};
 ghost use Prim.Native.Nat.{_+_, _≤_, _<_};
 ghost use Rattle.requests.specs.Row.{rowAt, rowOf};
-ghost use Rattle.model.specs.Session.{Untimed, Request};
+ghost use Rattle.model.specs.Session.{Untimed, Queued};
 ghost use Rattle.model.specs.Edit.{Edit};
 ghost use Rattle.control.specs.Control.{pendingLimit, queueLimit, deviceCount, queueHead, queueLength, coreAt, pendingAt};
 ghost use Rattle.control.specs.Sound.{Sound};
@@ -57,7 +57,7 @@ pub fn pend(control: &mut [u64], words: &mut [u64], reals: &mut [f32], k: usize,
 // An untimed request more in the queue.
 pub fn push(control: &mut [u64], words: &mut [u64], reals: &mut [f32], request: EisRequest)
     requires { ⌜ Lent (now control) (now words) (now reals) × (queueLength (now control) < queueLimit) ⌝ }
-    ensures { λ _. ⌜ ((r : Untimed) → requestIn request [] ≡ Request.untimed r → EnactsRows control words reals (Edit.queue r ∷ [])) ⌝ }
+    ensures { λ _. ⌜ ((r : Untimed) → requestIn request [] ≡ Queued.untimed r → EnactsRows control words reals (Edit.queue r ∷ [])) ⌝ }
 {
     let head = control::queue_head(control);
     let queued = control::queue_length(control);

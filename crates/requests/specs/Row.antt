@@ -1,4 +1,4 @@
--- A request as a row of the store: some words and reals. Every row of numbers means some request. Assumes nothing.
+-- A request as a row of the lent slices: some words and reals. Every row of numbers means some request. Assumes nothing.
 use Prim.Native.Nat.{ℕ, _+_, _*_, _≤_, _%_}
 use mathlib.Core.Path.{_≡_}
 use mathlib.Core.Bool.{Bool, cond, _&&_}

@@ -1,5 +1,5 @@
 // Words: where they end, whether two are the same, and the numbers that they stand for.
-ghost use Prim.Native.Nat.{ℕ, _+_, _^_, _≤_};
+ghost use Prim.Native.Nat.{_+_, _^_, _≤_};
 ghost use mathlib.Core.Path.{_≡_};
 ghost use lib.Ieee.{ofBits, binary32};
 ghost use lib.ListN.{length, drop};

@@ -107,7 +107,7 @@ fn move_down(buf: &mut [u8], at: usize, filled: usize)
 }
 
 // How much of the buffer is filled, the number of the line that is begun, whether its first bytes are gone, and whether there is more to read.
-struct Turn {
+struct Progress {
     filled: usize,
     number: u64,
     cut: bool,
@@ -115,7 +115,7 @@ struct Turn {
 }
 
 // Takes the lines that end, and makes room.
-fn take_lines(buf: &mut [u8], filled: usize, number: u64, cut: bool) -> Turn
+fn take_lines(buf: &mut [u8], filled: usize, number: u64, cut: bool) -> Progress
     requires { ⌜ filled ≤ length (now buf) ⌝ }
     ensures { λ r. ⌜ r .filled ≤ length (now (buf .exit)) ⌝ }
 {
@@ -124,14 +124,14 @@ fn take_lines(buf: &mut [u8], filled: usize, number: u64, cut: bool) -> Turn
     move_down(buf, at, filled);
     let left = filled - at;
     if left == buf.len() {
-        return Turn {
+        return Progress {
             filled: 0,
             number: begun.number,
             cut: true,
             more: true,
         };
     }
-    Turn {
+    Progress {
         filled: left,
         number: begun.number,
         cut: begun.cut,
@@ -152,14 +152,14 @@ fn finish(buf: &[u8], filled: usize, number: u64, cut: bool)
     }
 }
 
-fn read_some(buf: &mut [u8], filled: usize, number: u64, cut: bool) -> Turn
+fn read_some(buf: &mut [u8], filled: usize, number: u64, cut: bool) -> Progress
     requires { ⌜ filled ≤ length (now buf) ⌝ }
     ensures { λ r. ⌜ r .filled ≤ length (now (buf .exit)) ⌝ }
 {
     let got = libc::read(STDIN_FILENO, &mut buf[filled..]);
     if got <= 0 {
         finish(buf, filled, number, cut);
-        return Turn {
+        return Progress {
             filled: 0,
             number,
             cut,

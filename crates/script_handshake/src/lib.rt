@@ -1,15 +1,14 @@
 // A line of a call script before the session: a request of the handshake, at whose end the session begins.
 use eiproto::eiproto_enum::ContextType;
 use eiproto::eiproto_enum::ContextTypeOf;
-use handshake::handshake::Answer;
 use handshake::handshake::EisHandshaker;
-use handshake::handshake::Outcome;
-use handshake::handshake::Request;
+use handshake::handshake::HandshakeAnswer;
+use handshake::handshake::HandshakeMessage;
+use handshake::handshake::HandshakeOutcome;
 use script::Args;
 use script::Value;
 use script::Verb;
 use script_session::Settings;
-ghost use Prim.Native.Nat.{_≤_};
 
 // A context type, as a script has it: 1 or 2.
 fn context_of(v: Value) -> ContextType {
@@ -20,28 +19,28 @@ fn context_of(v: Value) -> ContextType {
 }
 
 // What a client's line is to the handshake.
-pub fn request_of(verb: Verb, args: Args) -> Request {
+pub fn request_of(verb: Verb, args: Args) -> HandshakeMessage {
     let a = args.a;
     let b = args.b;
     let context = context_of(a);
     match verb {
-        Verb::HandshakeHandshakeVersion => Request::HandshakeVersion {
+        Verb::HandshakeHandshakeVersion => HandshakeMessage::HandshakeVersion {
             version: script::u32_of(a),
         },
-        Verb::HandshakeName => Request::Name,
-        Verb::HandshakeContextType => Request::ContextType { context },
-        Verb::HandshakeInterfaceVersion => Request::InterfaceVersion {
+        Verb::HandshakeName => HandshakeMessage::Name,
+        Verb::HandshakeContextType => HandshakeMessage::ContextType { context },
+        Verb::HandshakeInterfaceVersion => HandshakeMessage::InterfaceVersion {
             version: script::u32_of(b),
         },
-        Verb::HandshakeFinish => Request::Finish,
-        _ => Request::Other,
+        Verb::HandshakeFinish => HandshakeMessage::Finish,
+        _ => HandshakeMessage::Other,
     }
 }
 
 // The answer of a call, whose records begin `out`.
-fn write(a: Answer, out: &[u8], explained: bool) {
+fn write(a: HandshakeAnswer, out: &[u8], explained: bool) {
     let outcome = a.outcome;
-    if let Outcome::Refused(e) = outcome {
+    if let HandshakeOutcome::Refused(e) = outcome {
         script_show::text(b"refused ");
         script_show::decimal(e.number() as u64);
     } else {
@@ -50,16 +49,16 @@ fn write(a: Answer, out: &[u8], explained: bool) {
     script_show::records::write(out, a.count, explained);
 }
 
-pub fn is_finished(a: Answer) -> bool {
+pub fn is_finished(a: HandshakeAnswer) -> bool {
     let outcome = a.outcome;
-    if let Outcome::Finished = outcome {
+    if let HandshakeOutcome::Finished = outcome {
         true
     } else {
         false
     }
 }
 
-fn start_in(settings: Settings, serial: u32, out: &mut [u8]) -> Answer {
+fn start_in(settings: Settings, serial: u32, out: &mut [u8]) -> HandshakeAnswer {
     let from: usize = 0;
     let n = script_session::room(settings.out, out.len());
     let a = EisHandshaker::new(serial, &mut out[from..n]);
@@ -68,7 +67,7 @@ fn start_in(settings: Settings, serial: u32, out: &mut [u8]) -> Answer {
 }
 
 // A fresh handshake.
-pub fn start(settings: Settings, serial: u32) -> Answer {
+pub fn start(settings: Settings, serial: u32) -> HandshakeAnswer {
     let mut out = [0u8; 4096];
     start_in(settings, serial, &mut out)
 }
@@ -76,10 +75,10 @@ pub fn start(settings: Settings, serial: u32) -> Answer {
 fn take_in(
     settings: Settings,
     h: EisHandshaker,
-    request: Request,
+    request: HandshakeMessage,
     text: &[u8],
     out: &mut [u8],
-) -> Answer {
+) -> HandshakeAnswer {
     let from: usize = 0;
     let n = script_session::room(settings.out, out.len());
     let a = h.handle_request(request, text, &mut out[from..n]);
@@ -88,13 +87,18 @@ fn take_in(
 }
 
 // A request of the handshake.
-pub fn take(settings: Settings, h: EisHandshaker, request: Request, text: &[u8]) -> Answer {
+pub fn take(
+    settings: Settings,
+    h: EisHandshaker,
+    request: HandshakeMessage,
+    text: &[u8],
+) -> HandshakeAnswer {
     let mut out = [0u8; 4096];
     take_in(settings, h, request, text, &mut out)
 }
 
 // The session begins where the handshake ends.
-pub fn open(control: &mut [u64], a: Answer) {
+pub fn open(control: &mut [u64], a: HandshakeAnswer) {
     if is_finished(a) {
         let response = a.response;
         converter::request::new(control, response);

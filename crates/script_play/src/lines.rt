@@ -32,7 +32,7 @@ struct Kept {
 }
 
 // What one reading has come to.
-struct Turn {
+struct Progress {
     filled: usize,
     cut: bool,
     more: bool,
@@ -155,7 +155,7 @@ fn read_some(
     words: &mut [u64],
     reals: &mut [f32],
     texts: &mut [u8],
-) -> Turn
+) -> Progress
     requires { ⌜ filled ≤ length (now buf) ⌝ }
     ensures { λ r. ⌜ r .filled ≤ length (now (buf .exit)) ⌝ }
 {
@@ -173,7 +173,7 @@ fn read_some(
     );
     let kept = make_room(buf, begun.at, got.filled, begun.cut);
     let after = begun.run;
-    Turn {
+    Progress {
         filled: kept.filled,
         cut: kept.cut,
         more: goes_on(got.last, after.ended),

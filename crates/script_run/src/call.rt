@@ -1,6 +1,6 @@
-// A line of a script, carried out: before the session by `handshake_lines`, on a running one by `session_lines`.
-use handshake::handshake::Answer;
+// A line of a script, carried out: before the session by `script_handshake`, on a running one by `script_session`.
 use handshake::handshake::EisHandshaker;
+use handshake::handshake::HandshakeAnswer;
 use script::Args;
 use script::Line;
 use script::Text;
@@ -61,7 +61,7 @@ fn counted(run: Run) -> Run {
 }
 
 // The run after a call of the handshake.
-fn after(run: Run, a: Answer) -> Run {
+fn after(run: Run, a: HandshakeAnswer) -> Run {
     let handshaker = a.handshaker;
     let settings = run.settings;
     Run {

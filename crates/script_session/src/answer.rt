@@ -4,7 +4,6 @@ use answers::Error;
 use answers::Outcome;
 use converter::request::NextRequest;
 use requests::request::EisRequest;
-ghost use Prim.Native.Nat.{_≤_};
 
 fn refused(e: Error) {
     script_show::text(b"refused ");

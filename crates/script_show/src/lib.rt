@@ -1,4 +1,4 @@
-// What a trail is made of, on standard output: words, numbers and delivered requests.
+// What a trail is made of, on standard output: words, numbers, event records and delivered requests.
 mod plain;
 pub mod records;
 mod request;

@@ -1,6 +1,5 @@
 // Words, numbers and bytes on standard output.
 use libc::STDOUT_FILENO;
-ghost use Prim.Native.Nat.{_≤_};
 
 pub fn text(s: &[u8]) {
     io::write_all(STDOUT_FILENO, s);

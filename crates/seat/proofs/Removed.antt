@@ -7,7 +7,7 @@ use lib.Dec.{eqb}
 use Rattle.model.specs.Call.{Plain}
 use Rattle.model.specs.Session.{view}
 use Rattle.model.specs.Edit.{Edit}
-use Rattle.model.specs.Plan.{answer, refuse, Outcome}
+use Rattle.model.specs.Plan.{answer, refuse, Result}
 use Rattle.model.specs.Decide.{onFound, seatObjects, sendDestroyed, removeSeat, decidePlain}
 use Rattle.control.specs.Table.{first}
 use Rattle.control.specs.Control.{connectionOf}
@@ -16,7 +16,7 @@ use Rattle.session.proofs.Views.{found-seat, no-seat}
 
 module _ (s : Store) (seat clock : ℕ) where
   pub seat-unknown : first (λ t. eqb (t .id) seat) (connectionOf (s .control) .seats) ≡ none
-      → decidePlain (view (session s)) clock (Plain.removeSeat seat) ≡ answer (Outcome.refused 12)
+      → decidePlain (view (session s)) clock (Plain.removeSeat seat) ≡ answer (Result.refused 12)
   unfolding decidePlain removeSeat onFound refuse
   seat-unknown e = rw (no-seat s seat e)
 

@@ -10,7 +10,7 @@ use Rattle.eiproto.specs.declared.eiproto_enum.KeyState.{KeyState}
 use Rattle.eiproto.specs.Bits.{bitsOf, bitsBelow}
 use Rattle.requests.specs.Row.{rowWords, requestOf, entry, rowOf, cellAt, rowAt}
 use Rattle.model.specs.Call.{Kind, Load}
-use Rattle.model.specs.Session.{Untimed, Request}
+use Rattle.model.specs.Session.{Untimed, Queued}
 use Rattle.control.specs.Table.{tab}
 use Rattle.control.specs.Control.{queueLimit, controlLength, versionIn, seatAt, versionsOf, connectionOf, interfaceId, interfaceOn, interfacesOn, coreAt}
 use Rattle.control.specs.Sound.{rowSound, rowsSound, isSound}
@@ -63,8 +63,8 @@ held : session (store control words reals texts)
           }
           ∷ [];
       requests =
-          Request.timed 20 1000 (record { kind = Kind.TextUtf8; touch = 0; size = 2; load = Load.Text (104 ∷ 105 ∷ []) })
-          ∷ Request.untimed (Untimed.Ready 20)
+          Queued.timed 20 1000 (record { kind = Kind.TextUtf8; touch = 0; size = 2; load = Load.Text (104 ∷ 105 ∷ []) })
+          ∷ Queued.untimed (Untimed.Ready 20)
           ∷ [];
     }
 unfolding session sessionIn connectionOf versionsOf versionIn seatAt tab deviceIn coreAt interfacesOn interfaceOn interfaceId bitsOf bitsBelow queueIn requestAt requestIn textOf itemAt itemIn rowAt rowOf cellAt requestOf entry control words reals texts

@@ -1,4 +1,4 @@
--- What is told of a request of the code, kind by kind: here alone are the 22 kinds gone through. Assumes nothing.
+-- What is told of a request of the code, kind by kind: here and in requests/proofs/Forms alone are the 22 kinds gone through. Assumes nothing.
 use Prim.Native.Nat.{ℕ, _+_}
 use mathlib.Core.Path.{_≡_, refl, sym, ap, _∙_}
 use mathlib.Core.Bool.{Bool, true, false, cond}
@@ -11,28 +11,28 @@ use Rattle.requests.specs.declared.request.EisRequest.{EisRequest}
 use Rattle.requests.specs.declared.request.EisRequest.the-variants.{Disconnect, Bind, DeviceClosed, RequestDevice, Frame, Ready, DeviceStartEmulating, DeviceStopEmulating, PointerMotion, PointerMotionAbsolute, Button, ScrollDelta, ScrollStop, ScrollCancel, ScrollDiscrete, KeyboardKey, TouchDown, TouchUp, TouchMotion, TouchCancel, TextKeysym, TextUtf8}
 use Rattle.requests.specs.Request.{form, given, isText, orNone, framedRequest, textLength}
 use Rattle.model.specs.Call.{Load}
-use Rattle.model.specs.Session.{Untimed, Request}
+use Rattle.model.specs.Session.{Untimed, Queued}
 use Rattle.model.specs.Step.{texts, textBytes}
 use Rattle.session.specs.View.{requestIn, itemIn, textIn}
 
 -- 1 for a text, 0 for any other request
-abbrev pub textsOf : Request Load → ℕ
-textsOf (Request.timed d t i) = texts (i .kind)
-textsOf (Request.untimed r) = 0
+abbrev pub textsOf : Queued Load → ℕ
+textsOf (Queued.timed d t i) = texts (i .kind)
+textsOf (Queued.untimed r) = 0
 
 -- the text that a request carries
-abbrev pub carried : Request Load → List ℕ
-carried (Request.timed d t i) = textIn (i .load)
-carried (Request.untimed r) = []
+abbrev pub carried : Queued Load → List ℕ
+carried (Queued.timed d t i) = textIn (i .load)
+carried (Queued.untimed r) = []
 
 -- what is asked of a request with a text x, with another text y, and framed
 record Told : Type 0 where
-  framed : Request Load
+  framed : Queued Load
   length : ℕ
   count : ℕ
   bytes : ℕ
   text : List ℕ
-  other : Request Load
+  other : Queued Load
 
 module _ (d t : ℕ) (x y : List ℕ) where
   abbrev asked : EisRequest → Told
@@ -49,7 +49,7 @@ module _ (d t : ℕ) (x y : List ℕ) where
   abbrev answered : EisRequest → Told
   answered r =
       record {
-        framed = Request.timed d t (itemIn (requestIn r x));
+        framed = Queued.timed d t (itemIn (requestIn r x));
         length = textLength r;
         count = cond (isText r) 1 0;
         bytes = textLength r + 0;
@@ -83,7 +83,7 @@ module _ (d t : ℕ) (x y : List ℕ) where
   same (TextUtf8 a b c) = refl
 
 -- one that is untimed is no text
-stays-untimed : (b : Bool) (p q : Request Load) (u : Untimed) → textsOf p ≡ cond b 1 0 → q ≡ cond b q p → p ≡ Request.untimed u → q ≡ Request.untimed u
+stays-untimed : (b : Bool) (p q : Queued Load) (u : Untimed) → textsOf p ≡ cond b 1 0 → q ≡ cond b q p → p ≡ Queued.untimed u → q ≡ Queued.untimed u
 stays-untimed true p q u n e z = let k : _≡_ {A = ℕ} 0 1 = sym (ap textsOf z) ∙ n in absurd (omega arith)
 stays-untimed false p q u n e z = e ∙ z
 
@@ -94,10 +94,10 @@ cut-text (some n) x = refl
 
 pub record Shape (r : EisRequest) : Type 0 where
   -- framed it is the same, on the device and at the time of the frame
-  pub framed : (d t : ℕ) (x : List ℕ) → requestIn (framedRequest d t r) x ≡ Request.timed d t (itemIn (requestIn r x))
+  pub framed : (d t : ℕ) (x : List ℕ) → requestIn (framedRequest d t r) x ≡ Queued.timed d t (itemIn (requestIn r x))
   pub length-kept : (d t : ℕ) → textLength (framedRequest d t r) ≡ textLength r
   -- an untimed one is the same with any text
-  pub untimed : (x y : List ℕ) (u : Untimed) → requestIn r x ≡ Request.untimed u → requestIn r y ≡ Request.untimed u
+  pub untimed : (x y : List ℕ) (u : Untimed) → requestIn r x ≡ Queued.untimed u → requestIn r y ≡ Queued.untimed u
   -- the texts and the bytes that the model counts, and the text that it gives
   pub count : (x : List ℕ) → textsOf (requestIn r x) ≡ cond (isText r) 1 0
   pub bytes : (x : List ℕ) → textBytes (requestIn r x ∷ []) ≡ textLength r

@@ -11,7 +11,7 @@ use lib.Ieee.{Float}
 use lib.ListN.{length, getD}
 use Rattle.requests.specs.Row.{Row, rowAt}
 use Rattle.model.specs.Call.{Load}
-use Rattle.model.specs.Session.{Request, Device, Connection, Session, mapDevice, mapSession, blank, view}
+use Rattle.model.specs.Session.{Queued, Device, Connection, Session, mapDevice, mapSession, blank, view}
 use Rattle.model.specs.Edit.{Edit, enactAll}
 use Rattle.model.specs.Decide.{find, deviceOf, linksIn, deviceForInterface, seatIn, seatOf}
 use Rattle.model.specs.Step.{counts}
@@ -260,7 +260,7 @@ module _ (s : Store) where
 
 -- ---- when two stores show the same
 
-pub session-of : (c : List ℕ) (rows : ℕ → Row) (t : List ℕ) {n : Connection} {ds : List (Device Load)} {rs : List (Request Load)} → connectionOf c ≡ n
+pub session-of : (c : List ℕ) (rows : ℕ → Row) (t : List ℕ) {n : Connection} {ds : List (Device Load)} {rs : List (Queued Load)} → connectionOf c ≡ n
     → tab (deviceCount c) (deviceIn c rows t) ≡ ds → queueIn c rows t ≡ rs → sessionIn c rows t ≡ record { connection = n; devices = ds; requests = rs }
 unfolding sessionIn
 session-of c rows t n d q = λ x. record { connection = n x; devices = d x; requests = q x }

@@ -12,7 +12,7 @@ use Rattle.requests.specs.declared.request.EisRequest.the-variants.{Disconnect,
 use Rattle.requests.specs.Request.{textLength}
 use Rattle.requests.specs.Row.{textsLimit, Row, rowWords, rowReals, rowAt}
 use Rattle.model.specs.Call.{Kind, Load}
-use Rattle.model.specs.Session.{Item, Untimed, Request, Device, Session}
+use Rattle.model.specs.Session.{Item, Untimed, Queued, Device, Session}
 use Rattle.control.specs.Table.{tab}
 use Rattle.control.specs.Control.{devicesLimit, pendingLimit, queueLimit, deviceCount, queueHead, queueLength, connectionOf, coreAt}
 use Rattle.control.specs.Sound.{Sound, isSound}
@@ -66,35 +66,35 @@ abbrev pub itemOf : Kind → (touch : ℕ) → Load → Item Load
 itemOf k t p = record { kind = k; touch = t; size = 0; load = p }
 
 -- a request of the code, with its text, as the model has it
-unfoldable pub requestIn : EisRequest → (text : List ℕ) → Request Load
-requestIn Disconnect text = Request.untimed Untimed.Disconnect
-requestIn (Bind s m) text = Request.untimed (Untimed.Bind s m)
-requestIn (DeviceClosed d) text = Request.untimed (Untimed.DeviceClosed d)
-requestIn (RequestDevice s m) text = Request.untimed (Untimed.RequestDevice s m)
-requestIn (Frame d n t) text = Request.untimed (Untimed.Frame d n t)
-requestIn (Ready d) text = Request.untimed (Untimed.Ready d)
-requestIn (DeviceStartEmulating d n q) text = Request.untimed (Untimed.DeviceStartEmulating d n q)
-requestIn (DeviceStopEmulating d n) text = Request.untimed (Untimed.DeviceStopEmulating d n)
-requestIn (PointerMotion d t x y) text = Request.timed d t (itemOf Kind.PointerMotion 0 (Load.Point x y))
-requestIn (PointerMotionAbsolute d t x y) text = Request.timed d t (itemOf Kind.PointerMotionAbsolute 0 (Load.Point x y))
-requestIn (Button d t b s) text = Request.timed d t (itemOf Kind.Button 0 (Load.ButtonPress b s))
-requestIn (ScrollDelta d t x y) text = Request.timed d t (itemOf Kind.ScrollDelta 0 (Load.Point x y))
-requestIn (ScrollStop d t x y) text = Request.timed d t (itemOf Kind.ScrollStop 0 (Load.Axes x y))
-requestIn (ScrollCancel d t x y) text = Request.timed d t (itemOf Kind.ScrollCancel 0 (Load.Axes x y))
-requestIn (ScrollDiscrete d t x y) text = Request.timed d t (itemOf Kind.ScrollDiscrete 0 (Load.Discrete x y))
-requestIn (KeyboardKey d t k s) text = Request.timed d t (itemOf Kind.KeyboardKey 0 (Load.KeyPress k s))
-requestIn (TouchDown d t i x y) text = Request.timed d t (itemOf Kind.TouchDown i (Load.Point x y))
-requestIn (TouchUp d t i) text = Request.timed d t (itemOf Kind.TouchUp i Load.None)
-requestIn (TouchMotion d t i x y) text = Request.timed d t (itemOf Kind.TouchMotion i (Load.Point x y))
-requestIn (TouchCancel d t i) text = Request.timed d t (itemOf Kind.TouchCancel i Load.None)
-requestIn (TextKeysym d t k s) text = Request.timed d t (itemOf Kind.TextKeysym 0 (Load.KeyPress k s))
-requestIn (TextUtf8 d t n) text = Request.timed d t (record { kind = Kind.TextUtf8; touch = 0; size = n; load = Load.Text text })
+unfoldable pub requestIn : EisRequest → (text : List ℕ) → Queued Load
+requestIn Disconnect text = Queued.untimed Untimed.Disconnect
+requestIn (Bind s m) text = Queued.untimed (Untimed.Bind s m)
+requestIn (DeviceClosed d) text = Queued.untimed (Untimed.DeviceClosed d)
+requestIn (RequestDevice s m) text = Queued.untimed (Untimed.RequestDevice s m)
+requestIn (Frame d n t) text = Queued.untimed (Untimed.Frame d n t)
+requestIn (Ready d) text = Queued.untimed (Untimed.Ready d)
+requestIn (DeviceStartEmulating d n q) text = Queued.untimed (Untimed.DeviceStartEmulating d n q)
+requestIn (DeviceStopEmulating d n) text = Queued.untimed (Untimed.DeviceStopEmulating d n)
+requestIn (PointerMotion d t x y) text = Queued.timed d t (itemOf Kind.PointerMotion 0 (Load.Point x y))
+requestIn (PointerMotionAbsolute d t x y) text = Queued.timed d t (itemOf Kind.PointerMotionAbsolute 0 (Load.Point x y))
+requestIn (Button d t b s) text = Queued.timed d t (itemOf Kind.Button 0 (Load.ButtonPress b s))
+requestIn (ScrollDelta d t x y) text = Queued.timed d t (itemOf Kind.ScrollDelta 0 (Load.Point x y))
+requestIn (ScrollStop d t x y) text = Queued.timed d t (itemOf Kind.ScrollStop 0 (Load.Axes x y))
+requestIn (ScrollCancel d t x y) text = Queued.timed d t (itemOf Kind.ScrollCancel 0 (Load.Axes x y))
+requestIn (ScrollDiscrete d t x y) text = Queued.timed d t (itemOf Kind.ScrollDiscrete 0 (Load.Discrete x y))
+requestIn (KeyboardKey d t k s) text = Queued.timed d t (itemOf Kind.KeyboardKey 0 (Load.KeyPress k s))
+requestIn (TouchDown d t i x y) text = Queued.timed d t (itemOf Kind.TouchDown i (Load.Point x y))
+requestIn (TouchUp d t i) text = Queued.timed d t (itemOf Kind.TouchUp i Load.None)
+requestIn (TouchMotion d t i x y) text = Queued.timed d t (itemOf Kind.TouchMotion i (Load.Point x y))
+requestIn (TouchCancel d t i) text = Queued.timed d t (itemOf Kind.TouchCancel i Load.None)
+requestIn (TextKeysym d t k s) text = Queued.timed d t (itemOf Kind.TextKeysym 0 (Load.KeyPress k s))
+requestIn (TextUtf8 d t n) text = Queued.timed d t (record { kind = Kind.TextUtf8; touch = 0; size = n; load = Load.Text text })
 
 -- a pending request: its device and its time come with its frame. One that is not timed, which only damage can leave there, counts as a
 -- ScrollStop of neither axis (`framedRequest`)
-unfoldable pub itemIn : Request Load → Item Load
-itemIn (Request.timed d t i) = i
-itemIn (Request.untimed r) = itemOf Kind.ScrollStop 0 (Load.Axes false false)
+unfoldable pub itemIn : Queued Load → Item Load
+itemIn (Queued.timed d t i) = i
+itemIn (Queued.untimed r) = itemOf Kind.ScrollStop 0 (Load.Axes false false)
 
 -- the text of a load; the empty one where it is none
 abbrev pub textIn : Load → List ℕ
@@ -110,7 +110,7 @@ textIn (Load.Axes x y) = []
 unfoldable pub textOf : List ℕ → Row → List ℕ
 textOf texts w = take (textLength (w .request)) (drop (slotLength * w .slot) texts)
 
-unfoldable pub requestAt : List ℕ → Row → Request Load
+unfoldable pub requestAt : List ℕ → Row → Queued Load
 unfolding requestIn textOf
 requestAt texts w = requestIn (w .request) (textOf texts w)
 
@@ -131,7 +131,7 @@ deviceIn c rows texts k =
     }
 
 -- the queue, oldest first
-unfoldable pub queueIn : List ℕ → (ℕ → Row) → List ℕ → List (Request Load)
+unfoldable pub queueIn : List ℕ → (ℕ → Row) → List ℕ → List (Queued Load)
 unfolding tab requestAt
 queueIn c rows texts = tab (queueLength c) (λ j. requestAt texts (rows (queueRow (queueHead c) j)))
 

@@ -4,12 +4,11 @@ use mathlib.Core.Path.{_≡_, refl, sym, ap, _∙_}
 use mathlib.Core.Bool.{Bool, true, false, cond, true≢false}
 use mathlib.Core.List.{List, [], _∷_}
 use mathlib.Core.Logic.{_⊎_, inl, inr}
-use mathlib.Core.Option.{none}
 use lib.Dec.{ltb}
 use Rattle.model.specs.Call.{Sight, Call, Split}
 use Rattle.model.specs.Session.{Seat, Session, View, view}
 use Rattle.model.specs.Edit.{Amend, Edit, enact}
-use Rattle.model.specs.Plan.{Sent, Outcome, refusal, Plan, answer, ignore, edit, send}
+use Rattle.model.specs.Plan.{Sent, Result, refusal, Plan, answer, ignore, edit, send}
 use Rattle.model.specs.Decide.{Found, sendNext, pendAfter, sendDestroyed, removeSeats, decide}
 use Rattle.model.specs.Step.{Step, gave, gaveAll, carriedOut, source, Counts, counts, over, anyOver, refuseIf, limits, refuses, unchanged, settled, bytesNeeded, limited, step}
 use Rattle.model.proofs.Walk.{Noted, Leaf, walk}
@@ -29,21 +28,21 @@ delivers (Edit.frame k serial time ∷ es) = delivers es
 delivers (Edit.queue r ∷ es) = delivers es
 delivers (Edit.deliver ∷ es) = true
 
-unfoldable pub isGiven : Outcome → Bool
-isGiven Outcome.accepted = false
-isGiven (Outcome.refused n) = false
-isGiven (Outcome.refusedVersion i v) = false
-isGiven (Outcome.seat id) = false
-isGiven (Outcome.device id) = false
-isGiven (Outcome.value n) = false
-isGiven (Outcome.truth b) = false
-isGiven Outcome.none = false
-isGiven Outcome.given = true
+unfoldable pub isGiven : Result → Bool
+isGiven Result.accepted = false
+isGiven (Result.refused n) = false
+isGiven (Result.refusedVersion i v) = false
+isGiven (Result.seat id) = false
+isGiven (Result.device id) = false
+isGiven (Result.value n) = false
+isGiven (Result.truth b) = false
+isGiven Result.none = false
+isGiven Result.given = true
 
 -- a plan that delivers says so
 data Tells : Plan → Type 0 where
-  silent : (o : Outcome) (events : List Sent) (edits : List Edit) → delivers edits ≡ false → Tells (record { outcome = o; events = events; edits = edits })
-  gives : (events : List Sent) (edits : List Edit) → Tells (record { outcome = Outcome.given; events = events; edits = edits })
+  silent : (o : Result) (events : List Sent) (edits : List Edit) → delivers edits ≡ false → Tells (record { outcome = o; events = events; edits = edits })
+  gives : (events : List Sent) (edits : List Edit) → Tells (record { outcome = Result.given; events = events; edits = edits })
 
 pend-silent : (amends : List Amend) (f : Found) (i : Sight) → delivers (pendAfter amends f i .edits) ≡ false
 unfolding pendAfter delivers
@@ -64,8 +63,8 @@ noted-silent (Noted.unlinks k i) = refl
 leaf-tells : {v : View} {now : ℕ} {c : Call Sight} {plan : Plan} → Leaf v now c plan → Tells plan
 unfolding answer ignore pendAfter edit send sendNext sendDestroyed delivers
 leaf-tells (Leaf.turned o h m) = Tells.silent o [] [] refl
-leaf-tells (Leaf.passed h) = Tells.silent Outcome.accepted [] [] refl
-leaf-tells (Leaf.pended {x = x} f amends e g t) = Tells.silent Outcome.accepted [] _ (pend-silent amends f x)
+leaf-tells (Leaf.passed h) = Tells.silent Result.accepted [] [] refl
+leaf-tells (Leaf.pended {x = x} f amends e g t) = Tells.silent Result.accepted [] _ (pend-silent amends f x)
 leaf-tells (Leaf.answered o m) = Tells.silent o [] [] refl
 leaf-tells (Leaf.synced callback) = Tells.silent _ _ _ refl
 leaf-tells (Leaf.noted object event edits h) = Tells.silent _ _ _ (noted-silent h)
@@ -84,13 +83,13 @@ decide-tells v now c = leaf-tells (walk v now c)
 
 -- ---- the step
 
-either : (b : Bool) (n : ℕ) (x : Outcome) → ltb 0 n ≡ true → (refuses x ≡ true) ⊎ (x ≡ Outcome.given)
-    → (refuses (refuseIf b n x) ≡ true) ⊎ (refuseIf b n x ≡ Outcome.given)
+either : (b : Bool) (n : ℕ) (x : Result) → ltb 0 n ≡ true → (refuses x ≡ true) ⊎ (x ≡ Result.given)
+    → (refuses (refuseIf b n x) ≡ true) ⊎ (refuseIf b n x ≡ Result.given)
 unfolding refuseIf refuses refusal
 either true n x h e = inl h
 either false n x h e = e
 
-limits-given : (room bytes : ℕ) (n m : Counts) → (refuses (limits room bytes n m Outcome.given) ≡ true) ⊎ (limits room bytes n m Outcome.given ≡ Outcome.given)
+limits-given : (room bytes : ℕ) (n m : Counts) → (refuses (limits room bytes n m Result.given) ≡ true) ⊎ (limits room bytes n m Result.given ≡ Result.given)
 unfolding limits
 limits-given room bytes n m =
     either (over 4 (n .seats) (m .seats)) 14 _ refl
@@ -99,7 +98,7 @@ limits-given room bytes n m =
     (either (over 256 (n .queued) (m .queued)) 17 _ refl
     (either (over 32 (n .texts) (m .texts)) 18 _ refl
     (either (over 0xffff_ffff_ffff_ffff (n .nextId) (m .nextId)) 20 _ refl
-    (either (ltb room bytes) 19 Outcome.given refl (inr refl)))))))
+    (either (ltb room bytes) 19 Result.given refl (inr refl)))))))
 
 module _ {P : Type 0} where
   silent-gave : (es : List Edit) (p : P) (s : Session P) → delivers es ≡ false → gaveAll es p s ≡ []
@@ -117,13 +116,13 @@ module _ {P : Type 0} where
   silent-gave (Edit.queue r ∷ es) p s h = silent-gave es p (enact (Edit.queue r) p s) h
   silent-gave (Edit.deliver ∷ es) p s h = absurd (true≢false h)
 
-  plan-gave : (plan : Plan) (p : P) (s : Session P) → Tells plan → (carriedOut plan p s .gave ≡ []) ⊎ (plan .outcome ≡ Outcome.given)
+  plan-gave : (plan : Plan) (p : P) (s : Session P) → Tells plan → (carriedOut plan p s .gave ≡ []) ⊎ (plan .outcome ≡ Result.given)
   unfolding carriedOut
   plan-gave plan p s (Tells.silent o events edits h) = inl (silent-gave edits p s h)
   plan-gave plan p s (Tells.gives events edits) = inr refl
 
   -- what is settled with nothing to give gives nothing; what is to be given is given, or the call is refused
-  settled-none : (s : Session P) (r : Step P) (o : Outcome) → r .gave ≡ [] → settled s r o .gave ≡ []
+  settled-none : (s : Session P) (r : Step P) (o : Result) → r .gave ≡ [] → settled s r o .gave ≡ []
   unfolding settled unchanged
   settled-none s r o e = go (refuses o)
     where
@@ -131,12 +130,12 @@ module _ {P : Type 0} where
       go true = refl
       go false = e
 
-  settled-given : (s : Session P) (r : Step P) (o : Outcome) → (refuses o ≡ true) ⊎ (o ≡ Outcome.given) → isGiven (settled s r o .outcome) ≡ false → settled s r o .gave ≡ []
+  settled-given : (s : Session P) (r : Step P) (o : Result) → (refuses o ≡ true) ⊎ (o ≡ Result.given) → isGiven (settled s r o .outcome) ≡ false → settled s r o .gave ≡ []
   unfolding settled unchanged isGiven refuses refusal
   settled-given s r o (inl e) h = rw e
-  settled-given s r o (inr e) h = absurd (true≢false (sym (ap (λ (x : Outcome). isGiven (settled s r x .outcome)) e) ∙ h))
+  settled-given s r o (inr e) h = absurd (true≢false (sym (ap (λ (x : Result). isGiven (settled s r x .outcome)) e) ∙ h))
 
-  limited-gave : (room : ℕ) (s : Session P) (r : Step P) → (r .gave ≡ []) ⊎ (r .outcome ≡ Outcome.given) → isGiven (limited room s r .outcome) ≡ false → limited room s r .gave ≡ []
+  limited-gave : (room : ℕ) (s : Session P) (r : Step P) → (r .gave ≡ []) ⊎ (r .outcome ≡ Result.given) → isGiven (limited room s r .outcome) ≡ false → limited room s r .gave ≡ []
   unfolding limited refuses refusal
   limited-gave room s r (inl e) h = settled-none s r (cond (refuses (r .outcome)) (r .outcome) (limits room (bytesNeeded r) (counts s) (counts (r .session)) (r .outcome))) e
   limited-gave room s r (inr e) h =

@@ -1,16 +1,16 @@
 -- Each call of the code is a step of the definitions, so a list of calls is a run of them. Assumes nothing.
 use Prim.Native.Nat.{ℕ, _+_}
 use mathlib.Core.Path.{_≡_, refl, sym, ap, ap₂, _∙_}
-use mathlib.Core.Bool.{Bool, true, false, false≢true}
+use mathlib.Core.Bool.{true, false, false≢true}
 use mathlib.Core.List.{List, [], _∷_, _++_, map}
 use lib.ListN.{length, take, drop}
 use lib.Seq.{take-append-seam}
 use Rattle.wire.specs.Bits.{splice}
-use Rattle.model.specs.Call.{Input, Load, Call, Turn, split}
-use Rattle.model.specs.Session.{Item, Request, Session, mapRequest, blank}
+use Rattle.model.specs.Call.{Input, Load, Call, split}
+use Rattle.model.specs.Session.{Item, Queued, Session, mapQueued, blank}
 use Rattle.model.specs.Plan.{records, refusal}
 use Rattle.model.specs.Plan as plan
-use Rattle.model.specs.Step.{Step, refuses, step, run}
+use Rattle.model.specs.Step.{Step, refuses, run}
 use Rattle.model.specs.Demand3.{Observed, observed, trail, itemsOf, given, In-order}
 use Rattle.model.specs.Payload.{Matched-trails}
 use Rattle.model.proofs.EqualTrails.{matched-trails}
@@ -22,9 +22,8 @@ use Rattle.answers.specs.Meets.{Meets, turn, Handled}
 use Rattle.answers.specs.declared.Outcome.{Outcome}
 use Rattle.answers.specs.declared.Answer.{Answer}
 use Rattle.answers.proofs.Meetings.{answered-handled, error-refuses}
-use Rattle.converter.specs.Next.{givenIn, Gives}
-use Rattle.converter.specs.declared.request.NextRequest.{NextRequest}
-use Rattle.session_theorems.specs.Trail.{Exchange, turnOf, isAsked, Made, seen, shown, shownAll, Seen-is-run, Equal-seen, givenTo, Given-in-order}
+use Rattle.converter.specs.Next.{givenIn}
+use Rattle.session_theorems.specs.Trail.{Exchange, turnOf, isAsked, Calls, seen, shownAll, Seen-is-run, Equal-seen, givenTo, Given-in-order}
 use Rattle.session_theorems.proofs.Deliveries.{isGiven, step-gave}
 
 -- the bytes at the start of `out`, as many as the count says, are the step's
@@ -52,14 +51,14 @@ call-seen call clock {e = e} {out = out} xs m rest =
 
 pub seen-is-run : Seen-is-run
 unfolding Rest-seen shownAll run observed
-seen-is-run s [] whole Made.none = refl
-seen-is-run s (Exchange.called call clock out later answer e ∷ xs) whole (Made.called a rest) =
+seen-is-run s [] whole Calls.none = refl
+seen-is-run s (Exchange.called call clock out later answer e ∷ xs) whole (Calls.called a rest) =
     let m = answered-handled s a whole in call-seen call clock xs m (seen-is-run e xs (whole-is e (m .whole)) rest)
-seen-is-run s (Exchange.asked clock buffer later answer e ∷ xs) whole (Made.asked a rest) =
+seen-is-run s (Exchange.asked clock buffer later answer e ∷ xs) whole (Calls.asked a rest) =
     let m = a .handled clock whole in
     let n = serial-is e (m .view) in
     ap₂ (λ (o : Observed) (os : List Observed). o ∷ os)
-    (λ i. record { outcome = m .outcome i; bytes = []; lastSerial = n i; given = map (mapRequest blank) (m .gave i) })
+    (λ i. record { outcome = m .outcome i; bytes = []; lastSerial = n i; given = map (mapQueued blank) (m .gave i) })
     (seen-is-run e xs (whole-is e (m .whole)) rest ∙ ap (λ (t : Session Load). shownAll (map isAsked xs) (map observed (run (map split (map turnOf xs)) t))) (m .view))
 
 pub equal-seen : Equal-seen
@@ -74,17 +73,17 @@ equal-seen c n i vs s s′ xs xs′ whole whole′ f f′ made made′ matched k
 -- ---- what is given
 
 -- what refuses gives nothing
-refused-not-given : (o : plan.Outcome) → refuses o ≡ true → isGiven o ≡ false
+refused-not-given : (o : plan.Result) → refuses o ≡ true → isGiven o ≡ false
 unfolding refuses refusal isGiven
-refused-not-given plan.Outcome.accepted h = refl
-refused-not-given (plan.Outcome.refused n) h = refl
-refused-not-given (plan.Outcome.refusedVersion i v) h = refl
-refused-not-given (plan.Outcome.seat id) h = refl
-refused-not-given (plan.Outcome.device id) h = refl
-refused-not-given (plan.Outcome.value n) h = refl
-refused-not-given (plan.Outcome.truth b) h = refl
-refused-not-given plan.Outcome.none h = refl
-refused-not-given plan.Outcome.given h = absurd (false≢true h)
+refused-not-given plan.Result.accepted h = refl
+refused-not-given (plan.Result.refused n) h = refl
+refused-not-given (plan.Result.refusedVersion i v) h = refl
+refused-not-given (plan.Result.seat id) h = refl
+refused-not-given (plan.Result.device id) h = refl
+refused-not-given (plan.Result.value n) h = refl
+refused-not-given (plan.Result.truth b) h = refl
+refused-not-given plan.Result.none h = refl
+refused-not-given plan.Result.given h = absurd (false≢true h)
 
 outcome-not-given : (o : Outcome) → isGiven (outcomeOf o) ≡ false
 unfolding isGiven
@@ -102,17 +101,17 @@ call-gave : (d : ℕ) (call : Call Input) (clock : ℕ) {s e : Store} {out later
 unfolding given run itemsOf
 call-gave d call clock {s = s} {out = out} {answer = answer} xs m =
     let nothing = step-gave (split (turn call clock out)) (session s) (ap isGiven (sym (m .outcome)) ∙ outcome-not-given (answer .outcome)) in
-    ap₂ (λ (rs : List (Request Load)) (t : Session Load). itemsOf d rs ++ given d (run (map split (map turnOf xs)) t)) (sym nothing) (m .view)
+    ap₂ (λ (rs : List (Queued Load)) (t : Session Load). itemsOf d rs ++ given d (run (map split (map turnOf xs)) t)) (sym nothing) (m .view)
 
-given-is : (d : ℕ) (s : Store) (xs : List Exchange) → isWhole s ≡ true → Made s xs → givenTo d xs ≡ given d (run (map split (map turnOf xs)) (session s))
+given-is : (d : ℕ) (s : Store) (xs : List Exchange) → isWhole s ≡ true → Calls s xs → givenTo d xs ≡ given d (run (map split (map turnOf xs)) (session s))
 unfolding givenTo given run itemsOf
-given-is d s [] whole Made.none = refl
-given-is d s (Exchange.called call clock out later answer e ∷ xs) whole (Made.called a rest) =
+given-is d s [] whole Calls.none = refl
+given-is d s (Exchange.called call clock out later answer e ∷ xs) whole (Calls.called a rest) =
     let m = answered-handled s a whole in given-is d e xs (whole-is e (m .whole)) rest ∙ call-gave d call clock xs m
-given-is d s (Exchange.asked clock buffer later answer e ∷ xs) whole (Made.asked a rest) =
+given-is d s (Exchange.asked clock buffer later answer e ∷ xs) whole (Calls.asked a rest) =
     let m = a .handled clock whole in
     ap (λ (is : List (Item Load)). itemsOf d (givenIn answer later) ++ is) (given-is d e xs (whole-is e (m .whole)) rest)
-    ∙ ap₂ (λ (rs : List (Request Load)) (t : Session Load). itemsOf d rs ++ given d (run (map split (map turnOf xs)) t)) (m .gave) (m .view)
+    ∙ ap₂ (λ (rs : List (Queued Load)) (t : Session Load). itemsOf d rs ++ given d (run (map split (map turnOf xs)) t)) (m .gave) (m .view)
 
 pub given-in-order : Given-in-order
 unfolding trail In-order

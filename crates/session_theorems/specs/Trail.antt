@@ -6,7 +6,7 @@ use mathlib.Core.List.{List, [], _∷_, _++_, map}
 use mathlib.Core.Option.{Option}
 use lib.ListN.{take}
 use Rattle.model.specs.Call.{Input, Load, Plain, Call, Turn, split}
-use Rattle.model.specs.Session.{Item, fresh, mapRequest, blank}
+use Rattle.model.specs.Session.{Item, fresh, mapQueued, blank}
 use Rattle.model.specs.Step.{run}
 use Rattle.model.specs.Demand3.{Observed, observed, taken, itemsOf}
 use Rattle.model.specs.Payload.{Matched}
@@ -32,13 +32,13 @@ isAsked (Exchange.called call clock out later answer e) = false
 isAsked (Exchange.asked clock buffer later answer e) = true
 
 -- "each call gets the session the one before returned, and nobody else changes it"
-pub data Made : Store → List Exchange → Type 0 where
-  none : {s : Store} → Made s []
+pub data Calls : Store → List Exchange → Type 0 where
+  none : {s : Store} → Calls s []
   -- whatever part of the session it is lent
   called : {l : Lending} {s e : Store} {call : Call Input} {clock : ℕ} {out later : List ℕ} {answer : Answer} {xs : List Exchange}
-      → Answered l s e out later call clock answer → Made e xs → Made s (Exchange.called call clock out later answer e ∷ xs)
+      → Answered l s e out later call clock answer → Calls e xs → Calls s (Exchange.called call clock out later answer e ∷ xs)
   asked : {s e : Store} {clock : ℕ} {buffer later : List ℕ} {answer : NextRequest} {xs : List Exchange} → Delivered s e buffer later answer
-      → Made e xs → Made s (Exchange.asked clock buffer later answer e ∷ xs)
+      → Calls e xs → Calls s (Exchange.asked clock buffer later answer e ∷ xs)
 
 -- What is seen of a call, payload aside: "the outcome ..; the count of event bytes and those bytes in `out`; the last serial; a station call's answer; what
 -- `next_request` gives, payload aside, and its text's length"
@@ -46,7 +46,7 @@ abbrev pub seen : Exchange → Observed
 seen (Exchange.called call clock out later answer e) =
     record { outcome = outcomeOf (answer .outcome); bytes = take (answer .count) later; lastSerial = session e .connection .lastSerial; given = [] }
 seen (Exchange.asked clock buffer later answer e) =
-    record { outcome = nextOutcome answer; bytes = []; lastSerial = session e .connection .lastSerial; given = map (mapRequest blank) (givenIn answer later) }
+    record { outcome = nextOutcome answer; bytes = []; lastSerial = session e .connection .lastSerial; given = map (mapQueued blank) (givenIn answer later) }
 
 -- the same of what the definitions say of the call: `next_request` writes no events, and no other call gives a request
 abbrev pub shown : (asked : Bool) → Observed → Observed
@@ -61,14 +61,14 @@ shownAll (b ∷ bs) (o ∷ os) = shown b o ∷ shownAll bs os
 -- what is seen of calls on a session that is not damaged is what the definitions say of them, and nothing else has a part in it
 abbrev pub Seen-is-run : Type 0
 Seen-is-run =
-    (s : Store) (xs : List Exchange) → isWhole s ≡ true → Made s xs → map seen xs ≡ shownAll (map isAsked xs) (map observed (run (map split (map turnOf xs)) (session s)))
+    (s : Store) (xs : List Exchange) → isWhole s ≡ true → Calls s xs → map seen xs ≡ shownAll (map isAsked xs) (map observed (run (map split (map turnOf xs)) (session s)))
 
 -- DEMAND 3, FIRST HALF, OF THE CODE. "Both lists start from the same session, as a successful Finish leaves it"; equally placed calls are the same in all but
 -- payload (`Matched`): then everything that is seen but payload is equal
 abbrev pub Equal-seen : Type 0
 Equal-seen =
     (c n i : ℕ) (vs : List (Option ℕ)) (s s′ : Store) (xs xs′ : List Exchange) → isWhole s ≡ true → isWhole s′ ≡ true
-    → session s ≡ fresh c n i vs → session s′ ≡ fresh c n i vs → Made s xs → Made s′ xs′
+    → session s ≡ fresh c n i vs → session s′ ≡ fresh c n i vs → Calls s xs → Calls s′ xs′
     → Matched (map turnOf xs) (map turnOf xs′) → map isAsked xs ≡ map isAsked xs′ → map seen xs ≡ map seen xs′
 
 -- the timed requests that `next_request` gave for a device, in order, as its answers and the text buffers tell them
@@ -82,5 +82,5 @@ givenTo d (Exchange.asked clock buffer later answer e ∷ xs) = itemsOf d (given
 -- payload is, bit for bit, that of the one request it came from": kind, touch id, length and payload; `left` is what is not given (yet)
 abbrev pub Given-in-order : Type 0
 Given-in-order =
-    (c n i : ℕ) (vs : List (Option ℕ)) (s : Store) (xs : List Exchange) (d : ℕ) → isWhole s ≡ true → session s ≡ fresh c n i vs → Made s xs
+    (c n i : ℕ) (vs : List (Option ℕ)) (s : Store) (xs : List Exchange) (d : ℕ) → isWhole s ≡ true → session s ≡ fresh c n i vs → Calls s xs
     → (left : List (Item Load)) × (taken c n i vs d (map turnOf xs) ≡ givenTo d xs ++ left)

@@ -13,7 +13,7 @@ use Rattle.eiproto.proofs.Bits.{bits-none}
 use Rattle.requests.specs.Row.{textsLimit, rowAt}
 use Rattle.requests.proofs.Cells.{slot-text}
 use Rattle.model.specs.Call.{Load}
-use Rattle.model.specs.Session.{Item, Request, Device}
+use Rattle.model.specs.Session.{Item, Queued, Device}
 use Rattle.model.specs.Step.{texts, pendingTexts, devicesTexts, queuedTexts, counts}
 use Rattle.control.specs.Table.{tab}
 use Rattle.control.specs.Control.{pendingLimit, queueLimit, deviceCount, queueHead, queueLength, coreAt}
@@ -26,10 +26,10 @@ use Rattle.texts.proofs.Marks.{counted-more}
 
 -- ---- a request has a text if it has a slot for it
 
-item-texts : (r : Request Load) → texts (itemIn r .kind) ≡ textsOf r
+item-texts : (r : Queued Load) → texts (itemIn r .kind) ≡ textsOf r
 unfolding itemIn texts
-item-texts (Request.timed d t i) = refl
-item-texts (Request.untimed r) = refl
+item-texts (Queued.timed d t i) = refl
+item-texts (Queued.untimed r) = refl
 
 module _ (w : List ℕ) (r : List Float) (ts : List ℕ) where
   row-texts : (i : ℕ) → textsOf (requestAt ts (rowAt w r i)) ≡ cond (ltb (rowAt w r i .slot) textsLimit) 1 0
@@ -48,12 +48,12 @@ unfolding devicesTexts
 devices-more [] d = omega arith
 devices-more (e ∷ ds) d = omega (arith, devices-more ds d)
 
-queued-more : (rs : List (Request Load)) (r : Request Load) → queuedTexts (rs ++ (r ∷ [])) ≡ queuedTexts rs + textsOf r
+queued-more : (rs : List (Queued Load)) (r : Queued Load) → queuedTexts (rs ++ (r ∷ [])) ≡ queuedTexts rs + textsOf r
 unfolding queuedTexts
-queued-more [] (Request.timed d t i) = omega arith
-queued-more [] (Request.untimed r) = refl
-queued-more (Request.timed d t i ∷ rs) r = omega (arith, queued-more rs r)
-queued-more (Request.untimed q ∷ rs) r = queued-more rs r
+queued-more [] (Queued.timed d t i) = omega arith
+queued-more [] (Queued.untimed r) = refl
+queued-more (Queued.timed d t i ∷ rs) r = omega (arith, queued-more rs r)
+queued-more (Queued.untimed q ∷ rs) r = queued-more rs r
 
 module _ (w : List ℕ) (r : List Float) (ts : List ℕ) (at : ℕ → ℕ) where
   pending-texts : (n : ℕ) → pendingTexts (tab n (λ j. itemAt ts (rowAt w r (at j)))) ≡ textsAmong n (λ j. rowAt w r (at j) .slot)

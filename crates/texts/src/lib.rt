@@ -1,9 +1,9 @@
 // The texts that lie beside their requests, each in a slot. A slot is in use while a pending or queued request has its text there.
-use queue::PENDING_LIMIT;
-use queue::QUEUE_LIMIT;
+use control::PENDING_LIMIT;
+use control::QUEUE_LIMIT;
 use requests::cell;
 use requests::row;
-pub use requests::row::TEXTS_LIMIT;
+use requests::row::TEXTS_LIMIT;
 use session::QUEUE_START;
 use session::SLOT_LENGTH;
 ghost use mathlib.Core.Path.{_≡_};

@@ -31,7 +31,7 @@ unfoldable pub without : ℕ → List ℕ → List ℕ
 without x [] = []
 without x (y ∷ ys) = cond (eqb x y) ys (y ∷ without x ys)
 
--- document 01's number of a refused Down, 0 for none
+-- the number of a refused Down, 0 for none
 abbrev pub refusal : DownAnswer → ℕ
 refusal Inserted = 0
 refusal TooManyTouches = 4

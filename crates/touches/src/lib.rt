@@ -9,12 +9,12 @@ ghost use Rattle.touches.specs.Touches.{held, member, position};
 ghost use Rattle.touches.specs.Changes.{Holds, Inserts, Removes};
 
 // The source's EIS_MAX_TOUCHES.
-pub const TOUCHES_LIMIT: usize = 16;
+pub const EIS_MAX_TOUCHES: usize = 16;
 
 // The first `count` ids are held, in the order in which they went down; what the places behind them hold means nothing. A count above
 // sixteen, which no function here makes, counts as sixteen: nothing is inserted, and what is removed leaves fifteen.
 pub struct DownTouchIds {
-    pub ids: [u32; TOUCHES_LIMIT],
+    pub ids: [u32; EIS_MAX_TOUCHES],
     pub count: usize,
 }
 
@@ -41,7 +41,7 @@ impl DownTouchIds {
         ensures { λ r. ⌜ Holds [] r ⌝ }
     {
         Self {
-            ids: [0; TOUCHES_LIMIT],
+            ids: [0; EIS_MAX_TOUCHES],
             count: 0,
         }
     }
@@ -49,10 +49,10 @@ impl DownTouchIds {
     pub fn len(self) -> usize
         ensures { λ r. ⌜ r ≡ length (held self) ⌝ }
     {
-        if self.count < TOUCHES_LIMIT {
+        if self.count < EIS_MAX_TOUCHES {
             self.count
         } else {
-            TOUCHES_LIMIT
+            EIS_MAX_TOUCHES
         }
     }
 
@@ -82,7 +82,7 @@ impl DownTouchIds {
         ensures { λ r. ⌜ Inserts id self (r .touches) (r .answer) ⌝ }
     {
         let n = self.len();
-        if n == TOUCHES_LIMIT {
+        if n == EIS_MAX_TOUCHES {
             return Insertion {
                 touches: self,
                 answer: DownAnswer::TooManyTouches,

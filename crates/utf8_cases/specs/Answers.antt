@@ -8,8 +8,8 @@ use lib.Dec.{leb, eqb}
 use lib.ListN.{length, take}
 use Rattle.utf8.specs.Rfc3629.{isUtf8}
 use Rattle.utf8_cases.specs.Hex.{bytesOf}
-use Rattle.utf8_cases.specs.declared.Answer.{Answer}
-use Rattle.utf8_cases.specs.declared.Answer.the-variants.{Comment, TooLong, NotHexadecimal, Valid, NotValid}
+use Rattle.utf8_cases.specs.declared.Verdict.{Verdict}
+use Rattle.utf8_cases.specs.declared.Verdict.the-variants.{Comment, TooLong, NotHexadecimal, Valid, NotValid}
 use Rattle.utf8_cases.specs.declared.Bytes.{Bytes}
 use Rattle.utf8_cases.specs.declared.Bytes.the-variants.{Count, Nothing}
 
@@ -34,11 +34,11 @@ isComment [] = false
 isComment (c ∷ l) = eqb c 0x23
 
 -- on the bytes of a line
-unfoldable pub verdict : Option (List ℕ) → Answer
+unfoldable pub verdict : Option (List ℕ) → Verdict
 verdict none = NotHexadecimal
 verdict (some bs) = cond (isUtf8 bs) Valid NotValid
 
 -- a comment has no answer, and a line of more than 1,024 characters is too long
-unfoldable pub answerTo : List ℕ → Answer
+unfoldable pub answerTo : List ℕ → Verdict
 unfolding isComment verdict
 answerTo l = cond (isComment l) Comment (cond (leb (length l) 1024) (verdict (bytesOf l)) TooLong)

@@ -8,7 +8,7 @@ ghost use lib.ListN.{length};
 ghost use Rattle.utf8_cases.specs.Hex.{valueOf};
 ghost use Rattle.utf8_cases.specs.Answers.{Read, isComment, answerTo};
 
-enum Answer {
+enum Verdict {
     Comment,
     // The line has more than 1,024 characters.
     TooLong,
@@ -74,36 +74,36 @@ fn is_comment(line: &[u8]) -> bool
     }
 }
 
-fn answer_to(line: &[u8]) -> Answer
+fn answer_to(line: &[u8]) -> Verdict
     ensures { λ r. ⌜ r ≡ answerTo (now (line .entry)) ⌝ }
 {
     if is_comment(line) {
-        return Answer::Comment;
+        return Verdict::Comment;
     }
     if 1024 < line.len() {
-        return Answer::TooLong;
+        return Verdict::TooLong;
     }
     let mut text = [0u8; 1024];
     match bytes_of(line, &mut text) {
         Bytes::Count(n) => {
             if utf8::valid(&text[..n]) {
-                Answer::Valid
+                Verdict::Valid
             } else {
-                Answer::NotValid
+                Verdict::NotValid
             }
         }
-        Bytes::Nothing => Answer::NotHexadecimal,
+        Bytes::Nothing => Verdict::NotHexadecimal,
     }
 }
 
 // Writes the end of a line, and answers whether that was written.
-fn say(a: Answer) -> bool {
+fn say(a: Verdict) -> bool {
     match a {
-        Answer::Comment => io::write_all(STDOUT_FILENO, b"\n"),
-        Answer::TooLong => io::write_all(STDOUT_FILENO, b": too long\n"),
-        Answer::NotHexadecimal => io::write_all(STDOUT_FILENO, b": not hexadecimal\n"),
-        Answer::Valid => io::write_all(STDOUT_FILENO, b": valid\n"),
-        Answer::NotValid => io::write_all(STDOUT_FILENO, b": not valid\n"),
+        Verdict::Comment => io::write_all(STDOUT_FILENO, b"\n"),
+        Verdict::TooLong => io::write_all(STDOUT_FILENO, b": too long\n"),
+        Verdict::NotHexadecimal => io::write_all(STDOUT_FILENO, b": not hexadecimal\n"),
+        Verdict::Valid => io::write_all(STDOUT_FILENO, b": valid\n"),
+        Verdict::NotValid => io::write_all(STDOUT_FILENO, b": not valid\n"),
     }
 }
 
@@ -145,12 +145,12 @@ fn lines(piece: &[u8], line: &mut [u8], n: usize) -> usize
 }
 
 // What one read leaves: how much of a line is begun, and whether there is more to read.
-struct Turn {
+struct Progress {
     begun: usize,
     more: bool,
 }
 
-fn read_some(line: &mut [u8], n: usize) -> Turn
+fn read_some(line: &mut [u8], n: usize) -> Progress
     requires { ⌜ n ≤ length (now line) ⌝ }
     ensures { λ r. ⌜ r .begun ≤ length (now (line .exit)) ⌝ }
 {
@@ -161,14 +161,14 @@ fn read_some(line: &mut [u8], n: usize) -> Turn
         if 0 < n {
             end_line(line, n);
         }
-        return Turn {
+        return Progress {
             begun: 0,
             more: false,
         };
     }
     let count = io::count(got, &piece);
     let begun = lines(&piece[..count], line, n);
-    Turn { begun, more: true }
+    Progress { begun, more: true }
 }
 
 // A proved loop has to end, and nothing says that the input does. So the loop counts its turns

@@ -1,4 +1,4 @@
--- Document 01's worked example of a record. Assumes nothing.
+-- The scope's worked example of a record. Assumes nothing.
 use mathlib.Core.List.{[], _∷_}
 use mathlib.Core.Path.{_≡_, refl}
 use Rattle.wire.specs.Record.{eventRecord}

@@ -23,7 +23,7 @@ bytes f = be (f .n1) (f .x1) ++ (be (f .n2) (f .x2) ++ be (f .n3) (f .x3))
 abbrev pub start : (object : ℕ) → Fields → (length : ℕ) → List ℕ
 start object f length = be 2 (f .kind * 2048 + length % 2048) ++ (be 8 object ++ bytes f)
 
--- these are the kind, the fields and the text that document 01 lists for the event
+-- these are the kind, the fields and the text that the layout lists for the event
 pub record Laid (e : Event) (f : Fields) : Type 0 where
   pub kind : f .kind ≡ layout e .kind
   pub small : f .kind < 32

@@ -5,7 +5,7 @@ use lib.Dec.{ltb}
 use Rattle.wire.specs.declared.backend.NewObjects.{NewObjects}
 use Rattle.wire.specs.declared.backend.NewObjects.the-variants.{NextId, Spent}
 
--- document 01: "New ids start where src/wire/backend.rs starts the server's"
+-- "New ids start where src/wire/backend.rs starts the server's"
 abbrev pub firstServerId : ℕ
 firstServerId = 0xff00_0000_0000_0000
 

@@ -1,4 +1,4 @@
--- Event records, as document 01 lays them out under "Event records". Assumes nothing.
+-- Event records, as docs/REFERENCE.md lists them. Assumes nothing.
 use Prim.Native.Nat.{ℕ, _+_, _/_}
 use mathlib.Core.Bool.{Bool, true, false, cond}
 use mathlib.Core.List.{List, [], _∷_, _++_}
@@ -17,7 +17,7 @@ pub record Layout : Type 0 where
 abbrev pub fixed : ℕ → List Field → Layout
 fixed kind fields = record { kind = kind; fields = fields; text = false }
 
--- document 01's list. The text of 14 is "empty without one", an explanation
+-- the list. The text of 14 is "empty without one", an explanation
 unfoldable pub layout : Event → Layout
 layout (Seat id version) = fixed 1 (64 bits id ∷ 32 bits version ∷ [])
 layout Name = record { kind = 2; fields = []; text = true }

@@ -1,4 +1,4 @@
-// Event records: what document 01 has in place of the messages that src/eiproto_eis.rs of reis writes.
+// Event records: what this module has in place of the messages that src/eiproto_eis.rs of reis writes.
 ghost use Prim.Native.Nat.{_+_, _≤_, _<_};
 ghost use mathlib.Core.Bool.{true, false};
 ghost use mathlib.Core.List.{_++_};

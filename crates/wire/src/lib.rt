@@ -1,3 +1,3 @@
-// What a server sends: object ids as src/wire/backend.rs of reis gives them, and event records as document 01 lays them out.
+// What a server sends: object ids as src/wire/backend.rs of reis gives them, and event records as docs/REFERENCE.md lays them out.
 pub mod backend;
 pub mod event;

@@ -2,7 +2,6 @@
 use Rattle.control.proofs.Sounds.{row-true}
 use lib.Bits.{or-add-and, and-le-l, and-le-r}
 use Prim.Native.Nat.{ℕ, _≤_, _<_, _-_}
-use mathlib.Core.Path.{_≡_}
 use borrow.Author.Count.{below-more}
 use borrow.Author.Tests.{ltb-true}
 use borrow.Author.Needs.{needs}

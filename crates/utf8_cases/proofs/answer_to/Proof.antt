@@ -10,7 +10,7 @@ use lib.ListN.{length, take}
 use lib.Seq.{length-take-le}
 use Rattle.utf8.specs.Rfc3629.{isUtf8}
 use Rattle.utf8_cases.specs.Answers.{Read, told, countOf, isComment, verdict, answerTo}
-use Rattle.utf8_cases.specs.declared.Answer.the-variants.{Comment, TooLong, Valid, NotValid}
+use Rattle.utf8_cases.specs.declared.Verdict.the-variants.{Comment, TooLong, Valid, NotValid}
 use Rattle.utf8_cases.specs.declared.Bytes.{Bytes}
 use Rattle.utf8_cases.specs.declared.Bytes.the-variants.{Count, Nothing}
 use Rattle.utf8_cases.proofs.answer_to.Statement.{statement}

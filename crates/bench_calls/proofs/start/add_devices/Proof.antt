@@ -1,4 +1,4 @@
--- `bench_calls::session::add_devices` is safe and ends with its devices; the slices keep their lengths. Assumes nothing.
+-- `bench_calls::start::add_devices` is safe and ends with its devices; the slices keep their lengths. Assumes nothing.
 use Prim.Native.Nat.{_≤_, _-_}
 use Rattle.bench_calls.proofs.start.add_devices.Statement.{statement}
 use Rattle.bench_calls.proofs.start.add_devices.Tie as tie

@@ -79,7 +79,14 @@ pend-text-requires c κs =
     let s = store (a .control .now) (a .words .now) (a .reals .now) (a .texts .now) in
     let k = sym (at-device-for-interface .device-for-interface .ensures) ∙ ap slotTold (at-k .k .given .1) in
     let slot = c .free-slot .ensures in
-    (p .0, (linked-within DeviceCapability.Text (a .interface) (a .control .now) k, (omega (arith, at-pending-count .pending-count .ensures, at-if3 .if3 .left), (ltb-false 254 (length (a .text .now)) (at-if2 .if2 .left), (slot .0, at-live-texts .live-texts .ensures .free _ (slot .0) (slot .1))))))
+    record {
+      whole = p .0;
+      device = linked-within DeviceCapability.Text (a .interface) (a .control .now) k;
+      room = omega (arith, at-pending-count .pending-count .ensures, at-if3 .if3 .left);
+      short = ltb-false 254 (length (a .text .now)) (at-if2 .if2 .left);
+      low = slot .0;
+      free = at-live-texts .live-texts .ensures .free _ (slot .0) (slot .1);
+    }
 
 returns-4 : tie.Need-returns-4
 returns-4 c =

@@ -8,7 +8,6 @@ use lib.ListN.{drop, length-drop}
 use Rattle.script.specs.declared.verb.Slot.{Slot}
 use Rattle.script.specs.declared.line.Step.{Step}
 use Rattle.script.specs.declared.value.Value.{Value}
-use Rattle.script.specs.Words.{before}
 use Rattle.script.specs.Script.{readAs}
 use Rattle.script.specs.Told.{wordTold, valueTold, Stepped, one, part}
 use Rattle.script.proofs.Words.{before-le}

@@ -1,4 +1,4 @@
--- `crate::plain::amount` is safe: minus 1 less a negative amount is one of 31 bits. Assumes nothing.
+-- `script_show::plain::amount` is safe: minus 1 less a negative amount is one of 31 bits. Assumes nothing.
 use native.Mathlib.Omega.{arith}
 use borrow.Author.Needs.{needs}
 use Rattle.requests.proofs.Amounts.{turned-fits, turned-cast, turned-small, natural-cast}

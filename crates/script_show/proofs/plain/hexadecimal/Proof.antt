@@ -1,4 +1,4 @@
--- `crate::plain::hexadecimal` is safe: two digits for each byte passed lie within the buffer. Assumes nothing.
+-- `script_show::plain::hexadecimal` is safe: two digits for each byte passed lie within the buffer. Assumes nothing.
 use Prim.Native.Nat.{_≤_, _-_}
 use Rattle.script_show.proofs.plain.hexadecimal.Statement.{statement}
 use Rattle.script_show.proofs.plain.hexadecimal.Tie as tie

@@ -1,4 +1,4 @@
--- `crate::plain::real` is safe: a real that equals itself is no NaN, and the bits of one are a number of 32 bits. Assumes nothing.
+-- `script_show::plain::real` is safe: a real that equals itself is no NaN, and the bits of one are a number of 32 bits. Assumes nothing.
 use mathlib.Core.Path.{_≡_}
 use mathlib.Core.Bool.{true, false, not}
 use Prim.Native.Nat.{ℕ, _<_}

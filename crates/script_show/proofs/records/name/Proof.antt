@@ -1,4 +1,4 @@
--- `crate::records::name` ends with the name. Assumes nothing.
+-- `script_show::records::name` ends with the name. Assumes nothing.
 use Prim.Native.Nat.{_≤_, _-_}
 use Rattle.script_show.proofs.records.name.Statement.{statement}
 use Rattle.script_show.proofs.records.name.Tie as tie

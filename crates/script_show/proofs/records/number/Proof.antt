@@ -1,4 +1,4 @@
--- `crate::records::number` is safe: each turn keeps seven bytes of what was read and puts one more behind them. Assumes nothing.
+-- `script_show::records::number` is safe: each turn keeps seven bytes of what was read and puts one more behind them. Assumes nothing.
 use Prim.Native.Nat.{_≤_, _-_}
 use Rattle.script_show.proofs.records.number.Statement.{statement}
 use Rattle.script_show.proofs.records.number.Tie as tie

@@ -1,4 +1,4 @@
--- `crate::records::pattern` ends: each turn passes a letter of the pattern. Assumes nothing.
+-- `script_show::records::pattern` ends: each turn passes a letter of the pattern. Assumes nothing.
 use Prim.Native.Nat.{_≤_, _-_}
 use Rattle.script_show.proofs.records.pattern.Statement.{statement}
 use Rattle.script_show.proofs.records.pattern.Tie as tie

@@ -1,4 +1,4 @@
--- Each way out is one of document 01's cases; with fewer than sixteen held, the count is their number, and the store puts the id behind them. Assumes nothing.
+-- Each way out is one of the scope's cases; with fewer than sixteen held, the count is their number, and the store puts the id behind them. Assumes nothing.
 use Prim.Native.Nat.{ℕ, _+_, _≤_, _<_}
 use mathlib.Core.Path.{_≡_, refl, sym, _∙_}
 use mathlib.Core.Bool.{true, false}

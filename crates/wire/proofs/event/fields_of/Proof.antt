@@ -1,4 +1,4 @@
--- `wire::event::fields_of` meets its contract: each kind's numbers have the layout of document 01's list, by computation. Assumes nothing.
+-- `wire::event::fields_of` meets its contract: each kind's numbers have the layout of the definition's list, by computation. Assumes nothing.
 use mathlib.Core.Path.{refl}
 use borrow.Author.Needs.{needs}
 use Rattle.wire.specs.Record.{layout}
