@@ -185,7 +185,7 @@ pub fn queue_for_interface(
     request: Cell,
 ) -> Answer
     requires { ⌜ Lent (now control) (now words) (now reals) ⌝ }
-    ensures { λ r. ⌜ ((version clock : ℕ) (input : Input) → OnlyQueued capability input → Waits input request → SilentRows control words reals (Call.timed interface version input) clock r) ⌝ }
+    ensures { λ r. ⌜ ((version clock : ℕ) (i : Input) → OnlyQueued capability i → Waits i request → SilentRows control words reals (Call.timed interface version i) clock r) ⌝ }
 {
     match device_for_interface(control, capability, interface) {
         Slot::At(k) => {

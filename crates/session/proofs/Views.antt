@@ -62,9 +62,6 @@ whole-parts s e =
 pub lent-part : (s : Store) → Whole s → Lent (s .control) (s .words) (s .reals)
 lent-part s w = record { sound = w .sound; words-long = w .words-long; reals-long = w .reals-long }
 
-pub whole-lent : (s : Store) → isWhole s ≡ true → Lent (s .control) (s .words) (s .reals)
-whole-lent s w = lent-part s (whole-parts s w)
-
 pub lent-after : {c d w : List ℕ} {r : List Float} {edits : List Edit} → Lent c w r → EnactedControl c d edits → Lent d w r
 lent-after l done = record { sound = done [] [] [] Load.None .sound; words-long = l .words-long; reals-long = l .reals-long }
 

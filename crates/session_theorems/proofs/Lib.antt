@@ -1,2 +1,3 @@
 pub mod Deliveries
 pub mod Trails
+pub mod Extending

@@ -1,1 +1,2 @@
 pub mod Trail
+pub mod Extends
