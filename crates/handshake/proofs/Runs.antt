@@ -1,6 +1,6 @@
 -- Whole lists of calls: equal calls, rising ids, a second Finish, and the code's answers. Assumes nothing.
 use Prim.Native.Nat.{ℕ, zero, suc, _+_, _≤_, _<_, zero-le}
-use mathlib.Core.Bool.{Bool, true, false, cond}
+use mathlib.Core.Bool.{Bool, true, false, cond, true≢false}
 use mathlib.Core.List.{List, [], _∷_, _++_, map}
 use mathlib.Core.Option.{Option, none, some}
 use mathlib.Core.Path.{_≡_, refl, sym, ap, ap₂, _∙_}
@@ -97,6 +97,68 @@ rising-order (Rising.above p r) (suc i) (suc j) l h = rising-order r i j (omega 
 
 pub ids-rise : Ids-rise
 ids-rise cs h = rising-order (run-rises cs h)
+
+-- ---- what a Finish settles
+
+isFinished : paper.Result → Bool
+isFinished paper.Result.accepted = false
+isFinished (paper.Result.refused n) = false
+isFinished (paper.Result.finished r) = true
+
+responseIn : paper.Response → paper.Result → paper.Response
+responseIn r paper.Result.accepted = r
+responseIn r (paper.Result.refused n) = r
+responseIn r (paper.Result.finished s) = s
+
+-- if the step finishes, it settles what the handshake has
+pub record Settles (h : Handshake) (s : Step) : Type 0 where
+  pub is : (r : paper.Response) → s .outcome ≡ paper.Result.finished r → r ≡ paper.settled h
+
+module _ (h : Handshake) where
+  unfinished-settles : (s : Step) → isFinished (s .outcome) ≡ false → Settles h s
+  unfolding isFinished
+  unfinished-settles s u = record { is = λ r e. absurd (true≢false (sym (ap isFinished e) ∙ u)) }
+
+  cond-settles : (b : Bool) {s t : Step} → Settles h s → Settles h t → Settles h (cond b s t)
+  cond-settles true p q = p
+  cond-settles false p q = q
+
+  refuse-settles : (n : ℕ) → Settles h (refuse h n)
+  unfolding refuse isFinished
+  refuse-settles n = unfinished-settles (refuse h n) refl
+
+  concluded-settles : Settles h (concluded h)
+  unfolding concluded responseIn
+  concluded-settles = record { is = λ r e. sym (ap (responseIn r) e) }
+
+  finish-settles : (room : ℕ) → Settles h (finish h room)
+  unfolding finish checkRoom missing isFinished
+  finish-settles room =
+      cond-settles (complete (h .versions))
+      (cond-settles (ltb 0xffff_ffff_ffff_ffff (h .nextId + 1)) (refuse-settles 20)
+      (cond-settles (ltb room (length (concluded h .bytes))) (refuse-settles 19) concluded-settles))
+      (cond-settles (ltb room (length (missing h .bytes))) (refuse-settles 19) (unfinished-settles (missing h) refl))
+
+  name-settles : (name : List ℕ) (old : Option (List ℕ)) → Settles h (setName h name old)
+  unfolding setName accept isFinished
+  name-settles name none = unfinished-settles (setName h name none) refl
+  name-settles name (some old) = refuse-settles 8
+
+  context-settles : (c : ContextType) (old : Option ContextType) → Settles h (setContext h c old)
+  unfolding setContext accept isFinished
+  context-settles c none = unfinished-settles (setContext h c none) refl
+  context-settles c (some old) = refuse-settles 8
+
+  -- of all requests, Finish alone finishes
+  pub request-settles : (m : paper.Message) (room : ℕ) → Settles h (handleRequest h m room)
+  unfolding handleRequest checkUtf8 accept isFinished
+  request-settles (paper.Message.HandshakeVersion v) room = unfinished-settles (accept h) refl
+  request-settles paper.Message.Finish room = finish-settles room
+  request-settles (paper.Message.Context c) room = context-settles c (h .contextType)
+  request-settles (paper.Message.Name name) room =
+      cond-settles (isUtf8 name) (cond-settles (ltb 254 (length name)) (refuse-settles 11) (name-settles name (h .name))) (refuse-settles 10)
+  request-settles (paper.Message.InterfaceVersion name v) room = cond-settles (isUtf8 name) (unfinished-settles (accept _) refl) (refuse-settles 10)
+  request-settles (paper.Message.Other text) room = cond-settles (isUtf8 text) (refuse-settles 7) (refuse-settles 10)
 
 -- ---- a second Finish
 

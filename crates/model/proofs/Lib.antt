@@ -5,6 +5,7 @@ pub mod EqualTrails
 pub mod Walk
 pub mod Plans
 pub mod Within
+pub mod Refusals
 pub mod Lists
 pub mod OneDevice
 pub mod Order

@@ -22,12 +22,13 @@ use Rattle.model.specs.Edit.{Amend, Edit}
 use Rattle.model.specs.Plan.{on, Result, Plan, answer, refuse, ignore, edit, send}
 use Rattle.model.specs.Decide.{Found, Rule, handler, deviceForInterface, deviceOf, seatOf, checkUtf8, checkName, checkOptional, checkCapabilities, onFound, sendNext, pendAfter, ifHeld, handle, handleTimed, handleHandshake, handleSync, handleSeat, handleDevice, handleFrame, handleRelease, nextOf, seatAdded, addSeat, deviceAdded, addDevice, objectsOf, seatObjects, seatsObjects, sendDestroyed, removeDevice, removeSeat, removeSeats, farewell, disconnected, notify, negotiated, versionAnswer, decidePlain, decide}
 use Rattle.model.specs.Step.{refuses}
+use Rattle.model.specs.Refusals.{ofSession}
 use Rattle.model.specs.Demand3.{wantsHeld, ignoredOn, ignored}
 
--- an outcome that neither tells an id nor gives a request
+-- an outcome that neither tells an id nor gives a request, and if it refuses, with a number of a running session
 unfoldable pub modest : Result → Bool
 modest Result.accepted = true
-modest (Result.refused n) = true
+modest (Result.refused n) = ofSession n
 modest (Result.refusedVersion i v) = true
 modest (Result.seat id) = false
 modest (Result.device id) = false
@@ -92,9 +93,9 @@ module _ (v : View) (now i ver : ℕ) (x : Sight) where
   abbrev Here : Plan → Type 0
   Here plan = Leaf v now (Call.timed i ver x) plan
 
-  refuse-here : (n : ℕ) → refuses (Result.refused n) ≡ true → Here (refuse n)
+  refuse-here : (n : ℕ) → refuses (Result.refused n) ≡ true → ofSession n ≡ true → Here (refuse n)
   unfolding refuse modest
-  refuse-here n h = turned (Result.refused n) h refl
+  refuse-here n h own = turned (Result.refused n) h own
 
   module _ (f : Found) (e : deviceForInterface (capabilityIndex (handler (x .kind) .capability)) i v ≡ some f) where
     held-here : (amends : List Amend) → Touched (f .device .downTouchIds) (x .touch) amends →
@@ -123,17 +124,17 @@ module _ (v : View) (now i ver : ℕ) (x : Sight) where
     handle-here : (r : Rule) → ignored v i x ≡ (wantsHeld r && not (member (x .touch) (f .device .downTouchIds))) → Here (handle r ver f x)
     unfolding handle wantsHeld refuses modest
     handle-here Rule.queued g = pended f [] e g Touched.same
-    handle-here Rule.down g = down-here _ (omega arith) g (refuse-here 4 refl) (refuse-here 5 refl)
+    handle-here Rule.down g = down-here _ (omega arith) g (refuse-here 4 refl refl) (refuse-here 5 refl refl)
     handle-here Rule.motion g = held-here [] Touched.same g
     handle-here Rule.up g = held-here (Amend.touchUp (x .touch) ∷ []) Touched.up g
     handle-here Rule.cancel g =
         cond-leaf (ltb ver 2) (turned (Result.refusedVersion eiTouchscreen ver) refl refl) (held-here (Amend.touchUp (x .touch) ∷ []) Touched.up g)
     handle-here Rule.utf8 g =
-        cond-leaf (eqb (x .size) 0) (refuse-here 6 refl) (cond-leaf (ltb 254 (x .size)) (refuse-here 6 refl) (pended f [] e g Touched.same))
+        cond-leaf (eqb (x .size) 0) (refuse-here 6 refl refl) (cond-leaf (ltb 254 (x .size)) (refuse-here 6 refl refl) (pended f [] e g Touched.same))
 
   timed-leaf : Here (handleTimed v i ver x)
   unfolding handleTimed onFound ignored ignoredOn refuses
-  timed-leaf = cond-leaf (x .valid) (go (deviceForInterface (capabilityIndex (handler (x .kind) .capability)) i v) refl) (refuse-here 10 refl)
+  timed-leaf = cond-leaf (x .valid) (go (deviceForInterface (capabilityIndex (handler (x .kind) .capability)) i v) refl) (refuse-here 10 refl refl)
     where
       go : (w : Option Found) → deviceForInterface (capabilityIndex (handler (x .kind) .capability)) i v ≡ w →
           Here (onFound w ignore (λ f. handle (handler (x .kind) .rule) ver f x))
@@ -143,9 +144,9 @@ module _ (v : View) (now i ver : ℕ) (x : Sight) where
 -- ---- any other call
 
 module _ {v : View} {now : ℕ} {c : Plain} where
-  refuse-leaf : (n : ℕ) → Leaf v now (Call.plain c) (refuse n)
+  refuse-leaf : (n : ℕ) → ofSession n ≡ true → Leaf v now (Call.plain c) (refuse n)
   unfolding refuse modest
-  refuse-leaf n = answered (Result.refused n) refl
+  refuse-leaf n own = answered (Result.refused n) own
 
   ignore-leaf : Leaf v now (Call.plain c) ignore
   unfolding ignore modest
@@ -153,11 +154,11 @@ module _ {v : View} {now : ℕ} {c : Plain} where
 
   checkUtf8-leaf : (text : List ℕ) {x : Plan} → Leaf v now (Call.plain c) x → Leaf v now (Call.plain c) (checkUtf8 text x)
   unfolding checkUtf8
-  checkUtf8-leaf text h = cond-leaf (isUtf8 text) h (refuse-leaf 10)
+  checkUtf8-leaf text h = cond-leaf (isUtf8 text) h (refuse-leaf 10 refl)
 
   checkName-leaf : (text : List ℕ) {x : Plan} → Leaf v now (Call.plain c) x → Leaf v now (Call.plain c) (checkName text x)
   unfolding checkName
-  checkName-leaf text h = checkUtf8-leaf text (cond-leaf (ltb 254 (length text)) (refuse-leaf 11) h)
+  checkName-leaf text h = checkUtf8-leaf text (cond-leaf (ltb 254 (length text)) (refuse-leaf 11 refl) h)
 
   checkOptional-leaf : (text : Option (List ℕ)) {x : Plan} → Leaf v now (Call.plain c) x → Leaf v now (Call.plain c) (checkOptional text x)
   unfolding checkOptional
@@ -166,21 +167,21 @@ module _ {v : View} {now : ℕ} {c : Plain} where
 
   checkCapabilities-leaf : (caps : ℕ) {x : Plan} → Leaf v now (Call.plain c) x → Leaf v now (Call.plain c) (checkCapabilities caps x)
   unfolding checkCapabilities
-  checkCapabilities-leaf caps h = cond-leaf (unknownBits caps) (refuse-leaf 13) h
+  checkCapabilities-leaf caps h = cond-leaf (unknownBits caps) (refuse-leaf 13 refl) h
 
   handshake-leaf : (r : HandshakeRequest) → Leaf v now (Call.plain c) (handleHandshake r)
   unfolding handleHandshake
-  handshake-leaf (HandshakeRequest.HandshakeVersion n) = refuse-leaf 1
-  handshake-leaf HandshakeRequest.Finish = refuse-leaf 1
-  handshake-leaf (HandshakeRequest.ContextType t) = refuse-leaf 1
-  handshake-leaf (HandshakeRequest.Name t) = checkName-leaf t (refuse-leaf 1)
-  handshake-leaf (HandshakeRequest.InterfaceVersion t n) = checkUtf8-leaf t (refuse-leaf 1)
+  handshake-leaf (HandshakeRequest.HandshakeVersion n) = refuse-leaf 1 refl
+  handshake-leaf HandshakeRequest.Finish = refuse-leaf 1 refl
+  handshake-leaf (HandshakeRequest.ContextType t) = refuse-leaf 1 refl
+  handshake-leaf (HandshakeRequest.Name t) = checkName-leaf t (refuse-leaf 1 refl)
+  handshake-leaf (HandshakeRequest.InterfaceVersion t n) = checkUtf8-leaf t (refuse-leaf 1 refl)
 
   seat-leaf : (id caps : ℕ) (u : Untimed) → Leaf v now (Call.plain c) (handleSeat v id caps u)
   unfolding handleSeat
   seat-leaf id caps u =
       onFound-leaf (seatOf id v) ignore-leaf λ s e.
-      cond-leaf (unknownBits caps) (refuse-leaf 3) (cond-leaf (contains (s .capabilities) caps) (queued u) (refuse-leaf 3))
+      cond-leaf (unknownBits caps) (refuse-leaf 3 refl) (cond-leaf (contains (s .capabilities) caps) (queued u) (refuse-leaf 3 refl))
 
   device-leaf : (id : ℕ) (u : Untimed) → Leaf v now (Call.plain c) (handleDevice v now id u)
   unfolding handleDevice
@@ -198,7 +199,7 @@ module _ {v : View} {now : ℕ} {c : Plain} where
 
   notify-leaf : (id : ℕ) (event : ℕ → Event) (edits : ℕ → List Edit) → ((k : ℕ) → Noted (edits k)) → Leaf v now (Call.plain c) (notify v id event edits)
   unfolding notify
-  notify-leaf id event edits h = onFound-leaf (deviceOf id v) (refuse-leaf 12) λ f e. noted id event (edits (f .slot)) (h (f .slot))
+  notify-leaf id event edits h = onFound-leaf (deviceOf id v) (refuse-leaf 12 refl) λ f e. noted id event (edits (f .slot)) (h (f .slot))
 
 plain-leaf : (v : View) (now : ℕ) (c : Plain) → Leaf v now (Call.plain c) (decidePlain v now c)
 unfolding decidePlain handleSync handleFrame handleRelease addSeat addDevice removeDevice removeSeat disconnected modest
@@ -220,9 +221,9 @@ plain-leaf v now Plain.nextRequest = next-leaf (v .requests)
 plain-leaf v now (Plain.addSeat name caps) = checkOptional-leaf name (checkCapabilities-leaf caps (newSeat name caps))
 plain-leaf v now (Plain.addDevice seat name type caps) =
     checkOptional-leaf name
-    (checkCapabilities-leaf caps (onFound-leaf (seatOf seat v) (refuse-leaf 12) λ s e. newDevice seat name (deviceTypeNumber type) (common caps (s .capabilities))))
-plain-leaf v now (Plain.removeSeat seat) = onFound-leaf (seatOf seat v) (refuse-leaf 12) λ s e. seatGone seat
-plain-leaf v now (Plain.removeDevice d) = onFound-leaf (deviceOf d v) (refuse-leaf 12) λ f e. deviceGone d f e
+    (checkCapabilities-leaf caps (onFound-leaf (seatOf seat v) (refuse-leaf 12 refl) λ s e. newDevice seat name (deviceTypeNumber type) (common caps (s .capabilities))))
+plain-leaf v now (Plain.removeSeat seat) = onFound-leaf (seatOf seat v) (refuse-leaf 12 refl) λ s e. seatGone seat
+plain-leaf v now (Plain.removeDevice d) = onFound-leaf (deviceOf d v) (refuse-leaf 12 refl) λ f e. deviceGone d f e
 plain-leaf v now (Plain.resumed d) = notify-leaf d (λ s. Event.Resumed s) (λ k. []) (λ k. Noted.nothing)
 plain-leaf v now (Plain.paused d) = notify-leaf d (λ s. Event.Paused s) (λ k. Edit.amend k Amend.clearTouches ∷ []) (λ k. Noted.clears k)
 plain-leaf v now (Plain.startEmulating d q) = notify-leaf d (λ s. Event.StartEmulating s q) (λ k. []) (λ k. Noted.nothing)
@@ -232,7 +233,7 @@ plain-leaf v now (Plain.disconnected reason explanation) = checkOptional-leaf ex
 plain-leaf v now Plain.lastSerial = answered (Result.value (v .connection .lastSerial)) refl
 plain-leaf v now (Plain.hasInterface name) = checkUtf8-leaf name (answered _ refl)
 plain-leaf v now (Plain.interfaceVersion name) = checkUtf8-leaf name (version-leaf (negotiated (v .connection) (lookup name)))
-plain-leaf v now (Plain.hasCapability d cap) = onFound-leaf (deviceOf d v) (refuse-leaf 12) λ f e. answered _ refl
+plain-leaf v now (Plain.hasCapability d cap) = onFound-leaf (deviceOf d v) (refuse-leaf 12 refl) λ f e. answered _ refl
 
 pub walk : (v : View) (now : ℕ) (c : Call Sight) → Leaf v now c (decide v now c)
 unfolding decide

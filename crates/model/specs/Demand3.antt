@@ -34,6 +34,7 @@ Alike ts ts′ = map unloaded ts ≡ map unloaded ts′
 -- the last serial; a station call's answer; what `next_request` gives, payload aside, and its text's length."
 pub record Observed : Type 0 where
   pub outcome : Result
+  pub count : ℕ
   pub bytes : List ℕ
   pub lastSerial : ℕ
   pub given : List (Queued (Unit {0}))
@@ -43,6 +44,7 @@ unfolding records mapQueued blank
 observed r =
     record {
       outcome = r .outcome;
+      count = length (records (r .events));
       bytes = records (r .events);
       lastSerial = r .session .connection .lastSerial;
       given = map (mapQueued blank) (r .gave);

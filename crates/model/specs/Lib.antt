@@ -7,6 +7,7 @@ pub mod Step
 pub mod Demand3
 pub mod Payload
 pub mod Within
+pub mod Refusals
 pub mod Reachable
 pub mod Kept
 pub mod Trials

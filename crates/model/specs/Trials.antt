@@ -1,6 +1,6 @@
 -- The scope's trial lines in one table, the starred ones first, then what it warns of: the calls, and what they are to answer.
 -- (proofs/Trials.antt has the one proof.) Assumes nothing.
-use Prim.Native.Nat.{ℕ, zero, suc}
+use Prim.Native.Nat.{ℕ, zero, suc, _-_}
 use mathlib.Core.List.{List, [], _∷_, _++_, map}
 use mathlib.Core.Option.{Option, none, some}
 use lib.ListN.{length, drop, replicate}
@@ -20,9 +20,10 @@ pub record Expected : Type 0 where
   pub bytes : List ℕ
   pub given : List (Queued Load)
 
--- a trial: the session's first serial, calls that lead up to it, the calls in question and what they are to answer
+-- a trial: the session's first serial and next id, calls that lead up to it, the calls in question and what they are to answer
 pub record Trial : Type 0 where
   pub serial : ℕ
+  pub nextId : ℕ
   pub before : List Turn
   pub calls : List Turn
   pub answers : List Expected
@@ -88,7 +89,7 @@ abbrev pub frameAt : (lastSerial time : ℕ) → Queued Load
 frameAt s t = Queued.untimed (Untimed.Frame device s t)
 
 abbrev pub trial : List Turn → List Turn → List Expected → Trial
-trial before calls answers = record { serial = 7; before = opening ++ before; calls = calls; answers = answers }
+trial before calls answers = record { serial = 7; nextId = seat; before = opening ++ before; calls = calls; answers = answers }
 
 -- n keys wait in the queue, with the frames that sent them there
 abbrev pub queued : (keys : ℕ) → List Turn
@@ -98,8 +99,10 @@ queued keys = replicate keys key ++ (frame 1 ∷ [])
 
 abbrev pub starred : List Trial
 starred =
-    -- ★ Frame, nothing pending: queue unchanged.
+    -- ★ Frame, nothing pending: queue unchanged. The queue is empty, then it holds a Disconnect.
     trial [] (frame 500 ∷ next ∷ []) (says Result.accepted ∷ says Result.none ∷ [])
+    ∷ trial (a Plain.disconnect ∷ []) (frame 500 ∷ next ∷ next ∷ [])
+    (says Result.accepted ∷ gives (Queued.untimed Untimed.Disconnect) ∷ says Result.none ∷ [])
     -- ★ Key, Frame at 500: KeyboardKey at 500, Frame at 500.
     ∷ trial [] (key ∷ frame 500 ∷ next ∷ next ∷ next ∷ []) (says Result.accepted ∷ says Result.accepted ∷ gives (keyAt 500) ∷ gives (frameAt 3 500) ∷ says Result.none ∷ [])
     -- ★ Key, Ready, `now` 70: Key 70, Frame 70, Ready.
@@ -120,6 +123,7 @@ starred =
     -- ★ Last serial 4294967295, `resumed`: serial 0.
     ∷ record {
       serial = 4294967295;
+      nextId = seat;
       before = opening;
       calls = a (Plain.resumed device) ∷ a Plain.lastSerial ∷ [];
       answers = record { outcome = Result.accepted; bytes = 0x48 ∷ 0x0e ∷ 0xff ∷ 0 ∷ 0 ∷ 0 ∷ 0 ∷ 0 ∷ 0 ∷ 2 ∷ 0 ∷ 0 ∷ 0 ∷ 0 ∷ []; given = [] } ∷ says (Result.value 0) ∷ [];
@@ -152,6 +156,7 @@ falseFriends =
     -- "raising the serial for `disconnected`"
     ∷ record {
       serial = 7;
+      nextId = seat;
       before = [];
       calls = a (Plain.disconnected DisconnectReason.Disconnected none) ∷ a Plain.lastSerial ∷ [];
       answers =
@@ -167,6 +172,35 @@ falseFriends =
     ∷ [])
     ∷ []
 
+-- the last ids, with no room in `out`: "20 IDS_SPENT: the next object id after the call would exceed 2^64 − 1", and 20 comes before 19
+abbrev pub spentBy : (nextId : ℕ) (before : List Turn) → Plain → (number : ℕ) → Trial
+spentBy n before call number =
+    record {
+      serial = 7;
+      nextId = n;
+      before = before;
+      calls = record { call = Call.plain call; now = 70; room = 0 } ∷ [];
+      answers = says (Result.refused number) ∷ [];
+    }
+
+abbrev pub aSeat : Plain
+aSeat = Plain.addSeat none 127
+
+-- on the seat that took the id before n
+abbrev pub aDeviceAt : (n capabilities : ℕ) → Plain
+aDeviceAt n caps = Plain.addDevice (n - 1) none DeviceType.Virtual caps
+
+abbrev pub idsSpent : List Trial
+idsSpent =
+    -- 2^64 − 2 can still be given, so that the want of room is told; 2^64 − 1 cannot
+    spentBy 0xffff_ffff_ffff_fffe [] aSeat 19
+    ∷ spentBy 0xffff_ffff_ffff_ffff [] aSeat 20
+    -- a device without interfaces takes one id, one with a keyboard two
+    ∷ spentBy 0xffff_ffff_ffff_fffd (a aSeat ∷ []) (aDeviceAt 0xffff_ffff_ffff_fffe 0) 19
+    ∷ spentBy 0xffff_ffff_ffff_fffd (a aSeat ∷ []) (aDeviceAt 0xffff_ffff_ffff_fffe 4) 20
+    ∷ spentBy 0xffff_ffff_ffff_fffe (a aSeat ∷ []) (aDeviceAt 0xffff_ffff_ffff_ffff 0) 20
+    ∷ []
+
 -- ---- what the definitions compute
 
 unfoldable pub answerOf : Step Load → Expected
@@ -180,7 +214,7 @@ versions = map some (1 ∷ 1 ∷ 1 ∷ 2 ∷ 3 ∷ 1 ∷ 1 ∷ 1 ∷ 1 ∷ 1 ∷
 unfoldable pub computed : Trial → List Expected
 unfolding trail answerOf versions
 computed t =
-    map answerOf (drop (length (t .before)) (trail 0xff00_0000_0000_0000 (t .serial) 0xff00_0000_0000_0001 versions (t .before ++ t .calls)))
+    map answerOf (drop (length (t .before)) (trail 0xff00_0000_0000_0000 (t .serial) (t .nextId) versions (t .before ++ t .calls)))
 
 unfoldable pub expected : Trial → List Expected
 expected t = t .answers

@@ -1,15 +1,16 @@
--- No call but `next_request` gives a request: a step whose outcome is not `given` gave nothing. By the plans that `decide` can make. Assumes nothing.
+-- No call but `next_request` gives a request: a step whose outcome is not `given` gave nothing. By the plans that `decide` can make. And `next_request` writes
+-- no event. Assumes nothing.
 use Prim.Native.Nat.{ℕ}
 use mathlib.Core.Path.{_≡_, refl, sym, ap, _∙_}
 use mathlib.Core.Bool.{Bool, true, false, cond, true≢false}
 use mathlib.Core.List.{List, [], _∷_}
 use mathlib.Core.Logic.{_⊎_, inl, inr}
 use lib.Dec.{ltb}
-use Rattle.model.specs.Call.{Sight, Call, Split}
-use Rattle.model.specs.Session.{Seat, Session, View, view}
+use Rattle.model.specs.Call.{Sight, Plain, Call, Split}
+use Rattle.model.specs.Session.{Seat, Queued, Session, View, view}
 use Rattle.model.specs.Edit.{Amend, Edit, enact}
 use Rattle.model.specs.Plan.{Sent, Result, refusal, Plan, answer, ignore, edit, send}
-use Rattle.model.specs.Decide.{Found, sendNext, pendAfter, sendDestroyed, removeSeats, decide}
+use Rattle.model.specs.Decide.{Found, sendNext, pendAfter, sendDestroyed, removeSeats, nextOf, decidePlain, decide}
 use Rattle.model.specs.Step.{Step, gave, gaveAll, carriedOut, source, Counts, counts, over, anyOver, refuseIf, limits, refuses, unchanged, settled, bytesNeeded, limited, step}
 use Rattle.model.proofs.Walk.{Noted, Leaf, walk}
 
@@ -81,6 +82,15 @@ leaf-tells (Leaf.newDevice seat name type both) = Tells.silent _ _ _ refl
 decide-tells : (v : View) (now : ℕ) (c : Call Sight) → Tells (decide v now c)
 decide-tells v now c = leaf-tells (walk v now c)
 
+next-silent : (rs : List (Queued (Unit {0}))) → nextOf rs .events ≡ []
+unfolding nextOf answer
+next-silent [] = refl
+next-silent (r ∷ rs) = refl
+
+pub asked-silent : (v : View) (now : ℕ) → decide v now (Call.plain Plain.nextRequest) .events ≡ []
+unfolding decide decidePlain
+asked-silent v now = next-silent (v .requests)
+
 -- ---- the step
 
 either : (b : Bool) (n : ℕ) (x : Result) → ltb 0 n ≡ true → (refuses x ≡ true) ⊎ (x ≡ Result.given)
@@ -141,6 +151,23 @@ module _ {P : Type 0} where
   limited-gave room s r (inr e) h =
       settled-given s r (cond (refuses (r .outcome)) (r .outcome) (limits room (bytesNeeded r) (counts s) (counts (r .session)) (r .outcome)))
       (rw e (limits-given room (bytesNeeded r) (counts s) (counts (r .session)))) h
+
+  -- a plan that sends nothing writes nothing
+  settled-quiet : (s : Session P) (r : Step P) (o : Result) → r .events ≡ [] → settled s r o .events ≡ []
+  unfolding settled unchanged
+  settled-quiet s r o h = go (refuses o)
+    where
+      go : (b : Bool) → cond b (unchanged s o) (record { session = r .session; outcome = o; events = r .events; gave = r .gave }) .events ≡ []
+      go true = refl
+      go false = h
+
+  limited-quiet : (room : ℕ) (s : Session P) (r : Step P) → r .events ≡ [] → limited room s r .events ≡ []
+  unfolding limited
+  limited-quiet room s r = settled-quiet s r (cond (refuses (r .outcome)) (r .outcome) (limits room (bytesNeeded r) (counts s) (counts (r .session)) (r .outcome)))
+
+  pub step-quiet : (t : Split P) (s : Session P) → decide (view s) (t .now) (t .call) .events ≡ [] → step t s .events ≡ []
+  unfolding step source carriedOut
+  step-quiet t s h = limited-quiet (t .room) s (source t s) h
 
   pub step-gave : (t : Split P) (s : Session P) → isGiven (step t s .outcome) ≡ false → step t s .gave ≡ []
   unfolding step source

@@ -1,3 +1,4 @@
 pub mod Deliveries
 pub mod Trails
 pub mod Extending
+pub mod Serving

@@ -1,20 +1,26 @@
 -- Each call of the code is a step of the definitions, so a list of calls is a run of them. Assumes nothing.
 use Prim.Native.Nat.{ℕ, _+_}
 use mathlib.Core.Path.{_≡_, refl, sym, ap, ap₂, _∙_}
-use mathlib.Core.Bool.{true, false, false≢true}
+use mathlib.Core.Bool.{true, false, _&&_, false≢true}
 use mathlib.Core.List.{List, [], _∷_, _++_, map}
+use mathlib.Core.Option.{Option}
 use lib.ListN.{length, take, drop}
 use lib.Seq.{take-append-seam}
 use Rattle.wire.specs.Bits.{splice}
-use Rattle.model.specs.Call.{Input, Load, Call, split}
-use Rattle.model.specs.Session.{Item, Queued, Session, mapQueued, blank}
+use Rattle.model.specs.Call.{Input, Load, Plain, Call, split}
+use Rattle.model.specs.Session.{Item, Queued, Session, fresh, view, mapQueued, blank}
 use Rattle.model.specs.Plan.{records, refusal}
 use Rattle.model.specs.Plan as plan
-use Rattle.model.specs.Step.{Step, refuses, run}
+use Rattle.model.specs.Step.{Step, refuses, run, step}
 use Rattle.model.specs.Demand3.{Observed, observed, trail, itemsOf, given, In-order}
 use Rattle.model.specs.Payload.{Matched-trails}
+use Rattle.model.specs.Refusals.{ofSession, Own-refusals}
+use Rattle.model.specs.Reachable.{countOf, deviceIds, sessionAfter, newIds, idsIn, Ids-ascend}
+use Rattle.model.specs.Kept.{pendingOf, Nothing-lost}
 use Rattle.model.proofs.EqualTrails.{matched-trails}
-use Rattle.model.proofs.Provenance.{in-order}
+use Rattle.model.proofs.Provenance.{in-order, nothing-lost}
+use Rattle.model.proofs.Reachable.{ids-ascend}
+use Rattle.model.proofs.Refusals.{own-refusals}
 use Rattle.session.specs.View.{Store, session, isWhole}
 use Rattle.session.proofs.Views.{whole-is}
 use Rattle.answers.specs.Answer.{errorOf, outcomeOf}
@@ -22,9 +28,14 @@ use Rattle.answers.specs.Meets.{Meets, turn, Handled}
 use Rattle.answers.specs.declared.Outcome.{Outcome}
 use Rattle.answers.specs.declared.Answer.{Answer}
 use Rattle.answers.proofs.Meetings.{answered-handled, error-refuses}
-use Rattle.converter.specs.Next.{givenIn}
-use Rattle.session_theorems.specs.Trail.{Exchange, turnOf, isAsked, Calls, seen, shownAll, Seen-is-run, Equal-seen, givenTo, Given-in-order}
-use Rattle.session_theorems.proofs.Deliveries.{isGiven, step-gave}
+use Rattle.converter.specs.Next.{nextOutcome, givenIn}
+use Rattle.converter.specs.declared.request.NextRequest.{NextRequest}
+use Rattle.session_theorems.specs.Trail.{Exchange, turnOf, Calls, slicesAfter, seen, Seen-is-run, allOfSession, Never-21, FreshCalls, Equal-seen, givenTo, Given-in-order, Seen-nothing-lost, Gave, Seen-ids-ascend}
+use Rattle.session_theorems.proofs.Deliveries.{isGiven, step-gave, step-quiet, asked-silent}
+
+-- what the definitions say of calls of the code
+abbrev runOf : List Exchange → Session Load → List (Step Load)
+runOf xs t = run (map split (map turnOf xs)) t
 
 -- the bytes at the start of `out`, as many as the count says, are the step's
 bytes-are : {s e : Store} (out : List ℕ) {later : List ℕ} {to : Step Load} {r : Answer} → Meets s e out later to r → take (r .count) later ≡ records (to .events)
@@ -33,42 +44,6 @@ bytes-are out {to = to} m = rw (m .count, m .bytes) (take-append-seam (records (
 
 serial-is : (e : Store) {t : Session Load} → session e ≡ t → session e .connection .lastSerial ≡ t .connection .lastSerial
 serial-is e h = ap (λ (x : Session Load). x .connection .lastSerial) h
-
--- a call that was seen, by what it did on a session that is not damaged, and the calls behind it
-Rest-seen : Store → List Exchange → Type 0
-unfolding shownAll run observed
-Rest-seen e xs = map seen xs ≡ shownAll (map isAsked xs) (map observed (run (map split (map turnOf xs)) (session e)))
-
-call-seen : (call : Call Input) (clock : ℕ) {s e : Store} {out later : List ℕ} {answer : Answer} (xs : List Exchange) → Handled s e out later call clock answer
-    → Rest-seen e xs → Rest-seen s (Exchange.called call clock out later answer e ∷ xs)
-unfolding Rest-seen shownAll run observed
-call-seen call clock {e = e} {out = out} xs m rest =
-    let b = bytes-are out m in
-    let n = serial-is e (m .view) in
-    ap₂ (λ (o : Observed) (os : List Observed). o ∷ os)
-    (λ i. record { outcome = m .outcome i; bytes = b i; lastSerial = n i; given = [] })
-    (rest ∙ ap (λ (t : Session Load). shownAll (map isAsked xs) (map observed (run (map split (map turnOf xs)) t))) (m .view))
-
-pub seen-is-run : Seen-is-run
-unfolding Rest-seen shownAll run observed
-seen-is-run s [] whole Calls.none = refl
-seen-is-run s (Exchange.called call clock out later answer e ∷ xs) whole (Calls.called a rest) =
-    let m = answered-handled s a whole in call-seen call clock xs m (seen-is-run e xs (whole-is e (m .whole)) rest)
-seen-is-run s (Exchange.asked clock buffer later answer e ∷ xs) whole (Calls.asked a rest) =
-    let m = a .handled clock whole in
-    let n = serial-is e (m .view) in
-    ap₂ (λ (o : Observed) (os : List Observed). o ∷ os)
-    (λ i. record { outcome = m .outcome i; bytes = []; lastSerial = n i; given = map (mapQueued blank) (m .gave i) })
-    (seen-is-run e xs (whole-is e (m .whole)) rest ∙ ap (λ (t : Session Load). shownAll (map isAsked xs) (map observed (run (map split (map turnOf xs)) t))) (m .view))
-
-pub equal-seen : Equal-seen
-unfolding trail Matched-trails
-equal-seen c n i vs s s′ xs xs′ whole whole′ f f′ made made′ matched kinds =
-    seen-is-run s xs whole made
-    ∙ ap (λ (t : Session Load). shownAll (map isAsked xs) (map observed (run (map split (map turnOf xs)) t))) f
-    ∙ ap₂ shownAll kinds (matched-trails c n i vs (map turnOf xs) (map turnOf xs′) matched)
-    ∙ sym (ap (λ (t : Session Load). shownAll (map isAsked xs′) (map observed (run (map split (map turnOf xs′)) t))) f′)
-    ∙ sym (seen-is-run s′ xs′ whole′ made′)
 
 -- ---- what is given
 
@@ -95,26 +70,146 @@ outcome-not-given (Outcome.Value n) = refl
 outcome-not-given (Outcome.Truth b) = refl
 outcome-not-given Outcome.None = refl
 
--- a call gives no request
-call-gave : (d : ℕ) (call : Call Input) (clock : ℕ) {s e : Store} {out later : List ℕ} {answer : Answer} (xs : List Exchange) → Handled s e out later call clock answer
-    → given d (run (map split (map turnOf xs)) (session e)) ≡ given d (run (map split (map turnOf (Exchange.called call clock out later answer e ∷ xs))) (session s))
-unfolding given run itemsOf
-call-gave d call clock {s = s} {out = out} {answer = answer} xs m =
-    let nothing = step-gave (split (turn call clock out)) (session s) (ap isGiven (sym (m .outcome)) ∙ outcome-not-given (answer .outcome)) in
-    ap₂ (λ (rs : List (Queued Load)) (t : Session Load). itemsOf d rs ++ given d (run (map split (map turnOf xs)) t)) (sym nothing) (m .view)
+-- no call but `next_request` gives a request
+call-gave : (call : Call Input) (clock : ℕ) {s e : Store} (out : List ℕ) {later : List ℕ} {answer : Answer} → Handled s e out later call clock answer
+    → step (split (turn call clock out)) (session s) .gave ≡ []
+call-gave call clock {s = s} out {answer = answer} m = step-gave (split (turn call clock out)) (session s) (ap isGiven (sym (m .outcome)) ∙ outcome-not-given (answer .outcome))
 
-given-is : (d : ℕ) (s : Store) (xs : List Exchange) → isWhole s ≡ true → Calls s xs → givenTo d xs ≡ given d (run (map split (map turnOf xs)) (session s))
+-- and that one writes no event
+asked-quiet : (clock : ℕ) (buffer : List ℕ) (s : Session Load) → step (split (turn (Call.plain Plain.nextRequest) clock buffer)) s .events ≡ []
+unfolding split
+asked-quiet clock buffer s = step-quiet (split (turn (Call.plain Plain.nextRequest) clock buffer)) s (asked-silent (view s) clock)
+
+-- ---- what is seen
+
+pub seen-is-run : Seen-is-run
+unfolding run observed records
+seen-is-run s [] whole Calls.none = refl
+seen-is-run s (Exchange.called call other clock out later answer e ∷ xs) whole (Calls.called a rest) =
+    let m = answered-handled s a whole in
+    let b = bytes-are out m in
+    let n = serial-is e (m .view) in
+    let g = call-gave call clock out m in
+    ap₂ (λ (o : Observed) (os : List Observed). o ∷ os)
+    (λ i. record { outcome = m .outcome i; count = m .count i; bytes = b i; lastSerial = n i; given = map (mapQueued blank) (sym g i) })
+    (seen-is-run e xs (whole-is e (m .whole)) rest ∙ ap (λ (t : Session Load). map observed (runOf xs t)) (m .view))
+seen-is-run s (Exchange.asked clock buffer later answer e ∷ xs) whole (Calls.asked a rest) =
+    let m = a .handled clock whole in
+    let n = serial-is e (m .view) in
+    let q = asked-quiet clock buffer (session s) in
+    ap₂ (λ (o : Observed) (os : List Observed). o ∷ os)
+    (λ i.
+    record {
+      outcome = m .outcome i;
+      count = length (records (sym q i));
+      bytes = records (sym q i);
+      lastSerial = n i;
+      given = map (mapQueued blank) (m .gave i);
+    })
+    (seen-is-run e xs (whole-is e (m .whole)) rest ∙ ap (λ (t : Session Load). map observed (runOf xs t)) (m .view))
+
+-- the slices after the calls are not damaged, and hold the session after the steps
+stays-whole : (s : Store) (xs : List Exchange) → isWhole s ≡ true → Calls s xs → isWhole (slicesAfter s xs) ≡ true
+unfolding slicesAfter
+stays-whole s [] whole Calls.none = whole
+stays-whole s (Exchange.called call other clock out later answer e ∷ xs) whole (Calls.called a rest) =
+    stays-whole e xs (whole-is e (answered-handled s a whole .whole)) rest
+stays-whole s (Exchange.asked clock buffer later answer e ∷ xs) whole (Calls.asked a rest) = stays-whole e xs (whole-is e (a .handled clock whole .whole)) rest
+
+session-after : (s : Store) (xs : List Exchange) → isWhole s ≡ true → Calls s xs
+    → session (slicesAfter s xs) ≡ sessionAfter (map split (map turnOf xs)) (session s)
+unfolding slicesAfter sessionAfter
+session-after s [] whole Calls.none = refl
+session-after s (Exchange.called call other clock out later answer e ∷ xs) whole (Calls.called a rest) =
+    let m = answered-handled s a whole in
+    session-after e xs (whole-is e (m .whole)) rest ∙ ap (sessionAfter (map split (map turnOf xs))) (m .view)
+session-after s (Exchange.asked clock buffer later answer e ∷ xs) whole (Calls.asked a rest) =
+    let m = a .handled clock whole in session-after e xs (whole-is e (m .whole)) rest ∙ ap (sessionAfter (map split (map turnOf xs))) (m .view)
+
+run-of-session : (xs : List Exchange) (t : Session Load) → allOfSession (map observed (runOf xs t)) ≡ true
+unfolding allOfSession run observed Own-refusals
+run-of-session [] t = refl
+run-of-session (x ∷ xs) t =
+    let u = split (turnOf x) in ap₂ _&&_ (own-refusals u t) (run-of-session xs (step u t .session))
+
+pub never-21 : Never-21
+never-21 s xs whole calls = (ap allOfSession (seen-is-run s xs whole calls) ∙ run-of-session xs (session s), stays-whole s xs whole calls)
+
+module _ {c n i : ℕ} {vs : List (Option ℕ)} {s : Store} {xs : List Exchange} (f : FreshCalls c n i vs s xs) where
+  seen-is-trail : map seen xs ≡ map observed (trail c n i vs (map turnOf xs))
+  unfolding trail
+  seen-is-trail = seen-is-run s xs (f .whole) (f .calls) ∙ ap (λ (t : Session Load). map observed (runOf xs t)) (f .starts)
+
+pub equal-seen : Equal-seen
+unfolding Matched-trails
+equal-seen c n i vs s s′ xs xs′ f f′ matched = seen-is-trail f ∙ matched-trails c n i vs (map turnOf xs) (map turnOf xs′) matched ∙ sym (seen-is-trail f′)
+
+-- ---- what is given for a device
+
+given-is : (d : ℕ) (s : Store) (xs : List Exchange) → isWhole s ≡ true → Calls s xs → givenTo d xs ≡ given d (runOf xs (session s))
 unfolding givenTo given run itemsOf
 given-is d s [] whole Calls.none = refl
-given-is d s (Exchange.called call clock out later answer e ∷ xs) whole (Calls.called a rest) =
-    let m = answered-handled s a whole in given-is d e xs (whole-is e (m .whole)) rest ∙ call-gave d call clock xs m
+given-is d s (Exchange.called call other clock out later answer e ∷ xs) whole (Calls.called a rest) =
+    let m = answered-handled s a whole in
+    given-is d e xs (whole-is e (m .whole)) rest
+    ∙ ap₂ (λ (rs : List (Queued Load)) (t : Session Load). itemsOf d rs ++ given d (runOf xs t)) (sym (call-gave call clock out m)) (m .view)
 given-is d s (Exchange.asked clock buffer later answer e ∷ xs) whole (Calls.asked a rest) =
     let m = a .handled clock whole in
     ap (λ (is : List (Item Load)). itemsOf d (givenIn answer later) ++ is) (given-is d e xs (whole-is e (m .whole)) rest)
-    ∙ ap₂ (λ (rs : List (Queued Load)) (t : Session Load). itemsOf d rs ++ given d (run (map split (map turnOf xs)) t)) (m .gave) (m .view)
+    ∙ ap₂ (λ (rs : List (Queued Load)) (t : Session Load). itemsOf d rs ++ given d (runOf xs t)) (m .gave) (m .view)
+
+module _ {c n i : ℕ} {vs : List (Option ℕ)} {s : Store} {xs : List Exchange} (f : FreshCalls c n i vs s xs) where
+  given-is-trail : (d : ℕ) → given d (trail c n i vs (map turnOf xs)) ≡ givenTo d xs
+  unfolding trail
+  given-is-trail d = sym (given-is d s xs (f .whole) (f .calls) ∙ ap (λ (t : Session Load). given d (runOf xs t)) (f .starts))
+
+  after-is : sessionAfter (map split (map turnOf xs)) (fresh c n i vs) ≡ session (slicesAfter s xs)
+  after-is = sym (session-after s xs (f .whole) (f .calls) ∙ ap (sessionAfter (map split (map turnOf xs))) (f .starts))
 
 pub given-in-order : Given-in-order
-unfolding trail In-order
-given-in-order c n i vs s xs d whole f made =
-    let k = in-order c n i vs (map turnOf xs) d in
-    (k .0, k .1 ∙ ap (λ (is : List (Item Load)). is ++ k .0) (sym (given-is d s xs whole made ∙ ap (λ (t : Session Load). given d (run (map split (map turnOf xs)) t)) f)))
+unfolding In-order
+given-in-order c n i vs s xs d f =
+    let k = in-order c n i vs (map turnOf xs) d in (k .0, k .1 ∙ ap (λ (is : List (Item Load)). is ++ k .0) (given-is-trail f d))
+
+pub seen-nothing-lost : Seen-nothing-lost
+unfolding Nothing-lost
+seen-nothing-lost c n i vs s xs d f stands =
+    rw (sym (given-is-trail f d), sym (after-is f)) (nothing-lost c n i vs (map turnOf xs) d (rw (after-is f) stands))
+
+-- ---- ids
+
+-- what refuses tells no id
+refused-no-ids : (o : plan.Result) → refuses o ≡ true → newIds o [] ≡ []
+unfolding refuses refusal newIds
+refused-no-ids plan.Result.accepted h = refl
+refused-no-ids (plan.Result.refused n) h = refl
+refused-no-ids (plan.Result.refusedVersion i v) h = refl
+refused-no-ids (plan.Result.seat id) h = absurd (false≢true h)
+refused-no-ids (plan.Result.device id) h = absurd (false≢true h)
+refused-no-ids (plan.Result.value n) h = refl
+refused-no-ids (plan.Result.truth b) h = refl
+refused-no-ids plan.Result.none h = refl
+refused-no-ids plan.Result.given h = refl
+
+-- nor does `next_request`
+asked-no-ids : (r : NextRequest) → newIds (nextOutcome r) [] ≡ []
+unfolding newIds
+asked-no-ids (NextRequest.Given r) = refl
+asked-no-ids NextRequest.None = refl
+asked-no-ids (NextRequest.Refused e) = refused-no-ids (errorOf e) (error-refuses e)
+
+gave-is : (s : Store) (xs : List Exchange) → isWhole s ≡ true → Calls s xs → Gave xs (idsIn (runOf xs (session s)))
+unfolding idsIn run
+gave-is s [] whole Calls.none = Gave.none
+gave-is s (Exchange.called call other clock out later answer e ∷ xs) whole (Calls.called a rest) =
+    let m = answered-handled s a whole in
+    let to = step (split (turn call clock out)) (session s) in
+    rw (sym (m .outcome), sym (m .view)) (Gave.called (to .events) (bytes-are out m) (gave-is e xs (whole-is e (m .whole)) rest))
+gave-is s (Exchange.asked clock buffer later answer e ∷ xs) whole (Calls.asked a rest) =
+    let m = a .handled clock whole in
+    rw (sym (m .outcome), asked-quiet clock buffer (session s), sym (m .view), asked-no-ids answer) (Gave.asked (gave-is e xs (whole-is e (m .whole)) rest))
+
+pub seen-ids-ascend : Seen-ids-ascend
+unfolding Ids-ascend trail
+seen-ids-ascend c n i vs s xs f =
+    (idsIn (runOf xs (session s)), (gave-is s xs (f .whole) (f .calls), rw (f .starts) (ids-ascend c n i vs (map turnOf xs))))

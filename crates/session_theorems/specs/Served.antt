@@ -1,0 +1,78 @@
+-- A connection as the code serves it, from its handshake's first call on. proofs/Serving.antt proves the statements. Assumes nothing.
+use Prim.Native.Nat.{ℕ, _+_}
+use mathlib.Core.Path.{_≡_}
+use mathlib.Core.Bool.{true}
+use mathlib.Core.List.{List, [], _∷_, _++_, map}
+use lib.ListN.{length}
+use Rattle.handshake.specs.Handshake.{Step, start}
+use Rattle.handshake.specs.View.{isFinished, versionsOf, Meets}
+use Rattle.handshake.specs.Run as handshake
+use Rattle.handshake.specs.Run.{HandshakeExchange, HandshakeCalls, callOf, seenIn}
+use Rattle.handshake.specs.declared.handshake.HandshakeAnswer.{HandshakeAnswer}
+use Rattle.model.specs.Payload.{Matched}
+use Rattle.control.specs.Control.{controlLength}
+use Rattle.session.specs.View.{Store, session, wordsLength, realsLength, textsLength}
+use Rattle.answers.specs.declared.Answer.{Answer}
+use Rattle.converter.specs.Next.{Begins}
+use Rattle.session_theorems.specs.Trail.{Exchange, turnOf, Calls, seen, FreshCalls}
+
+-- what was called, and what it answered
+pub record Served : Type 0 where
+  -- `EisHandshaker::new`, its buffer before and after it
+  pub serial : ℕ
+  pub out : List ℕ
+  pub later : List ℕ
+  pub started : HandshakeAnswer
+  -- the client's requests, of which the last is the Finish that succeeds
+  pub requests : List HandshakeExchange
+  pub finish : HandshakeExchange
+  -- `converter::request::new`: the control words before it, and the session's slices after it
+  pub control : List ℕ
+  pub slices : Store
+  pub begun : Answer
+  -- the session's calls
+  pub calls : List Exchange
+
+abbrev pub shaken : Served → List HandshakeExchange
+shaken x = x .requests ++ (x .finish ∷ [])
+
+-- each call as its contract has it, on slices of the lengths that the module names
+pub record Serves (x : Served) : Type 0 where
+  pub starts : Meets (x .out) (x .later) (start (x .serial) (length (x .out))) (x .started)
+  pub shakes : HandshakeCalls (x .started .handshaker) (shaken x)
+  pub finished : isFinished (x .finish .answer .outcome) ≡ true
+  pub begins : Begins (x .control) (x .slices .control) (x .finish .answer .response) (x .begun)
+  pub control-long : length (x .control) ≡ controlLength
+  pub words-long : length (x .slices .words) ≡ wordsLength
+  pub reals-long : length (x .slices .reals) ≡ realsLength
+  pub texts-long : length (x .slices .texts) ≡ textsLength
+  pub calls : Calls (x .slices) (x .calls)
+
+-- FROM FINISH TO THE FRESH SESSION. The slices hold a whole session: the connection's id, the serial and the versions are what the Finish settled, and the ids
+-- go on after the connection's
+abbrev pub From-finish : Type 0
+From-finish =
+    (x : Served) → Serves x →
+    let settled = x .finish .answer .response in
+    FreshCalls (settled .connection) (settled .serial) (settled .connection + 1) (versionsOf (settled .interfaces)) (x .slices) (x .calls)
+
+-- "Two handshakes that get equal calls", in buffers of equal lengths
+pub record SameHandshake (x y : Served) : Type 0 where
+  pub serial : x .serial ≡ y .serial
+  pub room : length (x .out) ≡ length (y .out)
+  pub calls : map callOf (shaken x) ≡ map callOf (shaken y)
+
+-- what is seen of a handshake: states, outcomes and event bytes
+abbrev pub handshakeSeen : Served → List Step
+handshakeSeen x = seenIn (x .started) (x .later) ∷ map handshake.seen (shaken x)
+
+-- "give equal outcomes, event bytes and sessions."
+abbrev pub Equal-sessions : Type 0
+Equal-sessions =
+    (x y : Served) → Serves x → Serves y → SameHandshake x y → (handshakeSeen x ≡ handshakeSeen y) × (session (x .slices) ≡ session (y .slices))
+
+-- DEMAND 3, FIRST HALF, FROM THE HANDSHAKE'S FIRST CALL ON
+abbrev pub Equal-served : Type 0
+Equal-served =
+    (x y : Served) → Serves x → Serves y → SameHandshake x y → Matched (map turnOf (x .calls)) (map turnOf (y .calls))
+    → (handshakeSeen x ≡ handshakeSeen y) × (map seen (x .calls) ≡ map seen (y .calls))
