@@ -81,11 +81,10 @@ pub fn decide_down(control: &[u64], touchscreen: u64, touch: u32, request: Cell)
 {
     match device_for_interface(control, DeviceCapability::Touch, touchscreen) {
         Slot::At(k) => {
-            let held = control::edits::down_touch_ids(control, k);
-            if EIS_MAX_TOUCHES <= held.len() {
+            if EIS_MAX_TOUCHES <= control::touch_count(control, k) {
                 return Decision::Refused(Error::TooManyTouches);
             }
-            if held.contains(touch) {
+            if control::is_down(control, k, touch) {
                 return Decision::Refused(Error::DuplicatedTouchDown);
             }
             queue_on(control, k, TouchChange::Down(touch), request)
@@ -107,7 +106,7 @@ pub fn decide_held(
 {
     match device_for_interface(control, DeviceCapability::Touch, touchscreen) {
         Slot::At(k) => {
-            if !control::edits::down_touch_ids(control, k).contains(touch) {
+            if !control::is_down(control, k, touch) {
                 return Decision::Ignored;
             }
             queue_on(control, k, change, request)

@@ -131,7 +131,7 @@ pub fn queue_frame(
 {
     match control::find_device(control, device) {
         Slot::At(k) => {
-            if !queue::has_room(control, queue::frame_entries(control, k)) {
+            if !queue::frame_fits(control, k) {
                 return Answer::refused(Error::FullQueue);
             }
             queue::frame(control, words, reals, k, serial, time);

@@ -1,21 +1,40 @@
 -- A row's held touches, read and written. Assumes nothing.
-use Prim.Native.Nat.{ℕ, _+_, _%_, _^_, _≤_, _<_}
+use Prim.Native.Nat.{ℕ, suc, _+_, _%_, _^_, _≤_, _<_}
 use mathlib.Core.Path.{_≡_, ap, sym, _∙_}
+use mathlib.Core.Bool.{true, false}
 use mathlib.Core.List.{List}
+use borrow.Author.Tests.{eq-eqb, ne-eqb}
 use native.Mathlib.Nat.{mod-eq-of-lt}
+use native.Mathlib.Numerals.{add-one}
 use native.Mathlib.Omega.{arith}
-use lib.ListN.{length, getD, set, take, length-set}
-use lib.Seq.{ext-getD, length-take-le, getD-take, getD-set-same, getD-set-other}
+use lib.ListN.{length, getD, set, take, drop, length-set, drop-of-length-le}
+use lib.Seq.{drop-cons, ext-getD, length-take-le, getD-take, getD-set-same, getD-set-other}
 use Rattle.touches.specs.declared.DownTouchIds.{DownTouchIds}
-use Rattle.touches.specs.Touches.{touchesLimit, held}
+use Rattle.touches.specs.Touches.{touchesLimit, held, member}
 use Rattle.touches.specs.Changes.{Holds}
 use Rattle.control.specs.Table.{tab}
-use Rattle.control.specs.Control.{devicePlace, deviceCount, deviceWord, heldAt, interfacesOn, coreAt}
+use Rattle.control.specs.Control.{devicePlace, deviceCount, deviceWord, heldAt, interfacesOn, coreAt, touchesAt}
 use Rattle.control.specs.Sound.{Sound}
 use Rattle.control.proofs.Tables.{tab-at, tab-length}
 use Rattle.control.specs.Change.{Amended, withTouches}
 use Rattle.control.proofs.Views.{amended}
 use Rattle.control.proofs.Changes.{Wrote}
+
+-- ---- a list gone through for a number: it is passed, found, or not there
+
+pub member-passes : (x : ℕ) (l : List ℕ) (i : ℕ) → i < length l → (getD l i 0 ≡ x → ⊥) → member x (drop i l) ≡ member x (drop (i + 1) l)
+unfolding member
+member-passes x l i h n = rw (drop-cons l i 0, ne-eqb x (getD l i 0) (λ e. n (sym e)), add-one i)
+
+pub member-is : (x : ℕ) (l : List ℕ) (i : ℕ) → i < length l → getD l i 0 ≡ x → member x (drop i l) ≡ true
+unfolding member
+member-is x l i h e = rw (drop-cons l i 0, eq-eqb x (getD l i 0) (sym e))
+
+pub member-ends : (x : ℕ) (l : List ℕ) (i : ℕ) → length l ≤ i → member x (drop i l) ≡ false
+unfolding member
+member-ends x l i h = rw (drop-of-length-le l h)
+
+-- ---- the words of a row
 
 -- the first n of sixteen values, where they are those of a table
 held-is : (xs : List ℕ) (n : ℕ) (f : ℕ → ℕ) → n ≤ touchesLimit → length xs ≡ touchesLimit → ((i : ℕ) → i < n → getD xs i 0 ≡ f i) → take n (tab touchesLimit f) ≡ take n xs
@@ -27,6 +46,18 @@ held-is xs n f few l h =
     getD-take n (tab touchesLimit f) i 0 below ∙ tab-at touchesLimit f i 0 (omega arith) ∙ sym (getD-take n xs i 0 below ∙ h i below))
 
 module _ (c : List ℕ) (ok : Sound c) (k : ℕ) (in-table : k < deviceCount c) where
+  pub touches-length : length (touchesAt c k) ≡ heldAt c k
+  unfolding coreAt
+  touches-length =
+      let f : ℕ → ℕ = λ j. deviceWord c k (6 + j) % 2 ^ 32 in
+      length-take-le (heldAt c k) (tab touchesLimit f) (omega (arith, tab-length touchesLimit f, ok .held k in-table))
+
+  pub touch-at : (j : ℕ) → j < heldAt c k → getD (touchesAt c k) j 0 ≡ deviceWord c k (6 + j) % 2 ^ 32
+  unfolding coreAt
+  touch-at j l =
+      let f : ℕ → ℕ = λ i. deviceWord c k (6 + i) % 2 ^ 32 in
+      getD-take (heldAt c k) (tab touchesLimit f) j 0 l ∙ tab-at touchesLimit f j 0 (omega (arith, ok .held k in-table))
+
   pub touches-read : (ids : List ℕ) → length ids ≡ touchesLimit → ((i : ℕ) → i < heldAt c k → getD ids i 0 ≡ deviceWord c k (6 + i) % 2 ^ 32)
       → Holds (coreAt c k .downTouchIds) (record { ids = ids; count = heldAt c k })
   unfolding coreAt

@@ -12,10 +12,11 @@ ghost use lib.Dec.{eqb};
 ghost use mathlib.Core.Option.{none};
 ghost use lib.ListN.{length, getD};
 ghost use Rattle.eiproto.specs.Bits.{bit};
+ghost use Rattle.touches.specs.Touches.{member};
 ghost use Rattle.model.specs.Decide.{version, versionOr1, linksIn, lists};
 ghost use Rattle.control.specs.Table.{first};
 ghost use Rattle.control.specs.Control.{seatsLimit, devicesLimit, controlLength, seatCount, deviceCount, queueHead, queueLength, capabilitiesAt, linkedAt};
-ghost use Rattle.control.specs.Control.{connectionOf, seatAt, interfaceId, coreAt, coresOf};
+ghost use Rattle.control.specs.Control.{connectionOf, seatAt, interfaceId, coreAt, touchesAt, coresOf};
 ghost use Rattle.control.specs.Sound.{rowSound, rowsSound, isSound, Sound};
 ghost use Rattle.control.specs.Answer.{slotTold, versionTold};
 
@@ -342,4 +343,29 @@ pub fn find_interface(control: &[u64], bit: u32, id: u64) -> Slot
         slot += 1;
     }
     Slot::Unknown
+}
+
+// How many touches are down on the device in slot k.
+pub fn touch_count(control: &[u64], k: usize) -> usize
+    requires { ⌜ Sound (now control) × (k < deviceCount (now control)) ⌝ }
+    ensures { λ r. ⌜ r ≡ length (touchesAt (now (control .entry)) k) ⌝ }
+{
+    control[layout::DEVICES + layout::DEVICE_WORDS * k + layout::HELD] as usize
+}
+
+// Whether a touch is down on the device in slot k.
+pub fn is_down(control: &[u64], k: usize, touch: u32) -> bool
+    requires { ⌜ Sound (now control) × (k < deviceCount (now control)) ⌝ }
+    ensures { λ r. ⌜ r ≡ member touch (touchesAt (now (control .entry)) k) ⌝ }
+{
+    let at = layout::DEVICES + layout::DEVICE_WORDS * k;
+    let count = control[at + layout::HELD] as usize;
+    let mut j: usize = 0;
+    while j < count {
+        if (control[at + (layout::TOUCHES + j)] % 4294967296) as u32 == touch {
+            return true;
+        }
+        j += 1;
+    }
+    false
 }

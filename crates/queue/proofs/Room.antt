@@ -2,6 +2,8 @@
 use Prim.Native.Nat.{ℕ, zero, suc, _+_, _≤_, _<_}
 use native.Mathlib.Omega.{arith}
 use mathlib.Core.Path.{_≡_, refl, ap}
+use mathlib.Core.Bool.{true}
+use borrow.Author.Tests.{le-leb}
 use mathlib.Core.List.{List}
 use lib.Dec.{leb}
 use Rattle.control.specs.Control.{queueLimit, queueLength, pendingAt, coreAt}
@@ -20,6 +22,11 @@ pub entries-some : (n : ℕ) → 0 < n → frameEntries n ≡ n + 1
 unfolding frameEntries
 entries-some zero l = absurd (omega arith)
 entries-some (suc n) l = refl
+
+-- a frame of nothing fits
+pub frame-none-fits : (c : List ℕ) (n : ℕ) → n ≡ 0 → queueLength c ≤ queueLimit → hasRoom c (frameEntries n) ≡ true
+unfolding hasRoom
+frame-none-fits c n e l = rw (entries-none n e) (le-leb (queueLength c + 0) queueLimit (omega arith))
 
 -- where something is pending
 pub frame-room : (c : List ℕ) (k : ℕ) {n queued : ℕ} → n ≡ coreAt c k .pending → 0 < n → queued ≡ queueLength c → queueLength c + frameEntries (pendingAt c k) ≤ queueLimit

@@ -36,6 +36,15 @@ pub fn frame_entries(control: &[u64], k: usize) -> usize
     if n == 0 { 0 } else { n + 1 }
 }
 
+// Whether the queue has room for a frame of the device in slot k.
+pub fn frame_fits(control: &[u64], k: usize) -> bool
+    requires { ⌜ Sound (now control) × (k < deviceCount (now control)) ⌝ }
+    ensures { λ r. ⌜ r ≡ hasRoom (now (control .entry)) (frameEntries (coreAt (now (control .entry)) k .pending)) ⌝ }
+{
+    let n = control::pending_count(control, k);
+    n == 0 || has_room(control, n + 1)
+}
+
 // The row of entry j of the queue.
 fn queue_row(head: usize, j: usize) -> usize
     requires { ⌜ (head < queueLimit) × (j ≤ queueLimit) ⌝ }

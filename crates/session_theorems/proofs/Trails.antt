@@ -30,7 +30,7 @@ use Rattle.answers.specs.declared.Answer.{Answer}
 use Rattle.answers.proofs.Meetings.{answered-handled, error-refuses}
 use Rattle.converter.specs.Next.{nextOutcome, givenIn}
 use Rattle.converter.specs.declared.request.NextRequest.{NextRequest}
-use Rattle.session_theorems.specs.Trail.{Exchange, turnOf, Calls, slicesAfter, seen, Seen-is-run, allOfSession, Never-21, FreshCalls, Equal-seen, givenTo, Given-in-order, Seen-nothing-lost, Gave, Seen-ids-ascend}
+use Rattle.session_theorems.specs.Trail.{Exchange, turnOf, Calls, slicesAfter, serialIn, seen, Seen-is-run, allOfSession, Never-21, FreshCalls, Equal-seen, givenTo, Given-in-order, Seen-nothing-lost, Gave, Seen-ids-ascend}
 use Rattle.session_theorems.proofs.Deliveries.{isGiven, step-gave, step-quiet, asked-silent}
 
 -- what the definitions say of calls of the code
@@ -42,7 +42,7 @@ bytes-are : {s e : Store} (out : List ℕ) {later : List ℕ} {to : Step Load} {
 unfolding splice
 bytes-are out {to = to} m = rw (m .count, m .bytes) (take-append-seam (records (to .events)) (drop (0 + length (records (to .events))) out))
 
-serial-is : (e : Store) {t : Session Load} → session e ≡ t → session e .connection .lastSerial ≡ t .connection .lastSerial
+serial-is : (e : Store) {t : Session Load} → session e ≡ t → serialIn e ≡ t .connection .lastSerial
 serial-is e h = ap (λ (x : Session Load). x .connection .lastSerial) h
 
 -- ---- what is given

@@ -46,6 +46,9 @@ slicesAfter s [] = s
 slicesAfter s (Exchange.called call other clock out later answer e ∷ xs) = slicesAfter e xs
 slicesAfter s (Exchange.asked clock buffer later answer e ∷ xs) = slicesAfter e xs
 
+abbrev pub serialIn : Store → ℕ
+serialIn e = session e .connection .lastSerial
+
 -- What is seen of a call, payload aside: "the outcome ..; the count of event bytes and those bytes in `out`; the last serial; a station call's answer; what
 -- `next_request` gives, payload aside, and its text's length"
 abbrev pub seen : Exchange → Observed
@@ -54,7 +57,7 @@ seen (Exchange.called call other clock out later answer e) =
       outcome = outcomeOf (answer .outcome);
       count = answer .count;
       bytes = take (answer .count) later;
-      lastSerial = session e .connection .lastSerial;
+      lastSerial = serialIn e;
       given = [];
     }
 seen (Exchange.asked clock buffer later answer e) =
@@ -62,7 +65,7 @@ seen (Exchange.asked clock buffer later answer e) =
       outcome = nextOutcome answer;
       count = 0;
       bytes = [];
-      lastSerial = session e .connection .lastSerial;
+      lastSerial = serialIn e;
       given = map (mapQueued blank) (givenIn answer later);
     }
 

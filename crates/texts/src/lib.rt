@@ -90,8 +90,11 @@ pub fn live_texts(control: &[u64], words: &[u64], reals: &[f32]) -> LiveTexts
         live = texts_in(words, reals, PENDING_LIMIT * k, n, live);
         k += 1;
     }
-    let head = control::queue_head(control);
     let queued = control::queue_length(control);
+    if queued == 0 {
+        return live;
+    }
+    let head = control::queue_head(control);
     let n = to_the_end(head, queued);
     live = texts_in(words, reals, QUEUE_START + head, n, live);
     texts_in(words, reals, QUEUE_START, queued - n, live)

@@ -1,6 +1,9 @@
 -- The devices before k are passed; then the two runs of the queue. Assumes nothing.
 use Prim.Native.Nat.{_-_, _≤_}
+use mathlib.Core.Path.{refl}
+use Rattle.control.specs.Control.{queueHead}
 use Rattle.control.proofs.Sounds.{pending-bound}
+use Rattle.texts.proofs.Marks.{counted-none}
 use Rattle.texts.proofs.Scans.{Passed, passed-none, passed-step, queue-counted, passed-live}
 use borrow.Author.Needs.{needs}
 use native.Mathlib.Omega.{arith}
@@ -45,7 +48,7 @@ loop-again c =
 
 texts-in-requires-2 : tie.Need-texts-in-requires-2 Inv-loop μ-loop
 texts-in-requires-2 c κs =
-    let at-loop = c .before .before .before .before in
+    let at-loop = c .before .before .before .before .before in
     let at-start = at-loop .before .before .before .before .before in
     let p = at-loop .loop .inv .1 in
     let s = at-start .pre .sound in
@@ -60,13 +63,13 @@ texts-in-requires-2 c κs =
 
 texts-in-requires-3 : tie.Need-texts-in-requires-3 Inv-loop μ-loop
 texts-in-requires-3 c κs =
-    let at-loop = c .before .before .before .before .before in
+    let at-loop = c .before .before .before .before .before .before in
     let at-start = at-loop .before .before .before .before .before in
     let p = at-loop .loop .inv .1 in
     let s = at-start .pre .sound in
     let run = c .before .to-the-end .ensures in
     let front = c .texts-in2 .ensures in
-    let queued = c .before .before .queue-length .ensures in
+    let queued = c .before .before .before .before .queue-length .ensures in
     record {
       words-long = at-start .pre .words-long;
       reals-long = at-start .pre .reals-long;
@@ -75,14 +78,24 @@ texts-in-requires-3 c κs =
       below = front .below;
     }
 
+-- with nothing queued, the devices are all
 returns : tie.Need-returns Inv-loop μ-loop
 returns c =
-    let at-head = c .before .before .before .before in
-    let at-loop = at-head .before .before in
+    let at-loop = c .before .before .before in
+    let a = at-loop .before .before .before .before .before .args in
+    let at = at-loop .loop in
+    passed-live (a .control .now) (a .words .now) (a .reals .now) (at .k) (queueHead (a .control .now)) 0 (omega arith) refl (omega (arith, c .before .queue-length .ensures)) (at .inv .1)
+    (counted-none (at .live) _ (at .inv .1 .below))
+
+returns-2 : tie.Need-returns-2 Inv-loop μ-loop
+returns-2 c =
+    let at-head = c .before .before .before in
+    let at-queued = at-head .before .before in
+    let at-loop = at-queued .before .before in
     let at-start = at-loop .before .before .before .before .before in
     let a = at-start .args in
     let at = at-loop .loop in
-    let queued = c .before .before .before .queue-length .ensures in
+    let queued = at-queued .queue-length .ensures in
     passed-live (a .control .now) (a .words .now) (a .reals .now) (at .k) _ _ (omega arith) (at-head .queue-head .ensures) queued (at .inv .1)
     (queue-counted (a .control .now) (a .words .now) (a .reals .now) (c .before .before .to-the-end .ensures) (omega (arith, at-start .pre .sound .queued, queued)) (c .before .texts-in2 .ensures)
     (c .texts-in3 .ensures))
@@ -101,11 +114,12 @@ live-texts-spec =
     (λ c. search needs)  -- add-k
     (λ c. search needs)  -- loop-less
     loop-again
-    (λ c κs. search needs)  -- queue-head-requires
     (λ c κs. search needs)  -- queue-length-requires
+    returns
+    (λ c κs. search needs)  -- queue-head-requires
     (λ c κs. search needs)  -- to-the-end-requires
     (λ c. search needs)  -- add-texts-in
     texts-in-requires-2
     (λ c. search needs)  -- sub-texts-in
     texts-in-requires-3
-    returns)
+    returns-2)

@@ -4,8 +4,6 @@ use native.Mathlib.Omega.{arith}
 use Rattle.control.specs.Answer.{slotTold}
 use Rattle.eiproto.specs.declared.event.DeviceCapability.{DeviceCapability}
 use mathlib.Core.Path.{refl}
-use lib.ListN.{length}
-use Rattle.touches.specs.Touches.{member}
 use Rattle.model.specs.Call.{Kind}
 use Rattle.model.specs.Decide.{handler}
 use Rattle.client_requests.proofs.Decisions.{linked-within, touch-unknown, down-many, down-twice, down-queued}
@@ -13,8 +11,9 @@ use borrow.Author.Needs.{needs}
 use Rattle.client_requests.proofs.timed.decide_down.Statement.{statement}
 use Rattle.client_requests.proofs.timed.decide_down.Tie as tie
 
-down-touch-ids-requires : tie.Need-down-touch-ids-requires
-down-touch-ids-requires c κs =
+-- the device, before anything is asked of it
+touch-count-requires : tie.Need-touch-count-requires
+touch-count-requires c κs =
     let at-device-for-interface = c .before .before .before in
     let at-start = at-device-for-interface .before .before in
     let k = sym (at-device-for-interface .device-for-interface .ensures) ∙ ap slotTold (c .before .k .given .1) in
@@ -22,27 +21,32 @@ down-touch-ids-requires c κs =
 
 returns : tie.Need-returns
 returns c =
-    let at-k = c .before .before .before .before in
+    let at-k = c .before .before .before in
+    let at-device-for-interface = at-k .before .before in
+    let a = at-device-for-interface .before .before .args in
+    let k = sym (at-device-for-interface .device-for-interface .ensures) ∙ ap slotTold (at-k .k .given .1) in
+    down-many (a .control .now) (a .touchscreen) (a .touch) (a .request) k (omega (arith, c .before .touch-count .ensures))
+
+is-down-requires : tie.Need-is-down-requires
+is-down-requires c κs =
+    let at-k = c .before .before .before in
     let at-device-for-interface = at-k .before .before in
     let at-start = at-device-for-interface .before .before in
-    let a = at-start .args in
     let k = sym (at-device-for-interface .device-for-interface .ensures) ∙ ap slotTold (at-k .k .given .1) in
-    down-many (a .control .now) (a .touchscreen) (a .touch) (a .request) k (omega (arith, c .before .len .ensures, ap length (c .before .before .down-touch-ids .ensures .ids-are)))
+    (at-start .pre, linked-within DeviceCapability.Touch (at-start .args .touchscreen) (at-start .args .control .now) k)
 
 returns-2 : tie.Need-returns-2
 returns-2 c =
-    let at-len = c .before .before .before in
-    let at-down-touch-ids = at-len .before in
-    let at-k = at-down-touch-ids .before .before in
+    let at-touch-count = c .before .before .before in
+    let at-k = at-touch-count .before .before in
     let at-device-for-interface = at-k .before .before in
-    let at-start = at-device-for-interface .before .before in
-    let a = at-start .args in
+    let a = at-device-for-interface .before .before .args in
     let k = sym (at-device-for-interface .device-for-interface .ensures) ∙ ap slotTold (at-k .k .given .1) in
-    down-twice (a .control .now) (a .touchscreen) (a .touch) (a .request) k (omega (arith, at-len .len .ensures, ap length (at-down-touch-ids .down-touch-ids .ensures .ids-are))) (ap (member (a .touch)) (sym (at-down-touch-ids .down-touch-ids .ensures .ids-are)) ∙ sym (c .before .contains .ensures) ∙ c .if2 .taken)
+    down-twice (a .control .now) (a .touchscreen) (a .touch) (a .request) k (omega (arith, at-touch-count .touch-count .ensures)) (sym (c .before .is-down .ensures) ∙ c .if2 .taken)
 
 queue-on-requires : tie.Need-queue-on-requires
 queue-on-requires c κs =
-    let at-k = c .before .before .before .before .before .before in
+    let at-k = c .before .before .before .before .before in
     let at-device-for-interface = at-k .before .before in
     let at-start = at-device-for-interface .before .before in
     let k = sym (at-device-for-interface .device-for-interface .ensures) ∙ ap slotTold (at-k .k .given .1) in
@@ -50,14 +54,13 @@ queue-on-requires c κs =
 
 returns-3 : tie.Need-returns-3
 returns-3 c =
-    let at-len = c .before .before .before .before in
-    let at-down-touch-ids = at-len .before in
-    let at-k = at-down-touch-ids .before .before in
+    let at-touch-count = c .before .before .before .before in
+    let at-k = at-touch-count .before .before in
     let at-device-for-interface = at-k .before .before in
-    let at-start = at-device-for-interface .before .before in
-    let a = at-start .args in
+    let a = at-device-for-interface .before .before .args in
     let k = sym (at-device-for-interface .device-for-interface .ensures) ∙ ap slotTold (at-k .k .given .1) in
-    down-queued (a .control .now) (a .touchscreen) (a .touch) (a .request) k (omega (arith, at-len .len .ensures, ap length (at-down-touch-ids .down-touch-ids .ensures .ids-are))) (ap (member (a .touch)) (sym (at-down-touch-ids .down-touch-ids .ensures .ids-are)) ∙ sym (c .before .before .contains .ensures) ∙ c .before .if2 .left) (c .queue-on .ensures)
+    down-queued (a .control .now) (a .touchscreen) (a .touch) (a .request) k (omega (arith, at-touch-count .touch-count .ensures))
+    (sym (c .before .before .is-down .ensures) ∙ c .before .if2 .left) (c .queue-on .ensures)
 
 returns-4 : tie.Need-returns-4
 unfolding handler
@@ -71,10 +74,9 @@ decide-down-spec =
     (tie.spec
     (λ c κs. search needs)  -- device-for-interface-requires
     (λ c. search needs)  -- enum-known-k
-    down-touch-ids-requires
-    (λ c κs. search needs)  -- len-requires
+    touch-count-requires
     returns
-    (λ c κs. search needs)  -- contains-requires
+    is-down-requires
     returns-2
     queue-on-requires
     (λ c. search needs)  -- enum-told

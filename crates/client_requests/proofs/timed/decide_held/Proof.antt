@@ -3,14 +3,13 @@ use mathlib.Core.Path.{sym, ap, _∙_}
 use Rattle.control.specs.Answer.{slotTold}
 use Rattle.eiproto.specs.declared.event.DeviceCapability.{DeviceCapability}
 use borrow.Author.Tests.{not-true, not-false}
-use Rattle.touches.specs.Touches.{member}
 use Rattle.client_requests.proofs.Decisions.{linked-within, touch-unknown, touch-not-held, touch-held}
 use borrow.Author.Needs.{needs}
 use Rattle.client_requests.proofs.timed.decide_held.Statement.{statement}
 use Rattle.client_requests.proofs.timed.decide_held.Tie as tie
 
-down-touch-ids-requires : tie.Need-down-touch-ids-requires
-down-touch-ids-requires c κs =
+is-down-requires : tie.Need-is-down-requires
+is-down-requires c κs =
     let at-device-for-interface = c .before .before .before in
     let at-start = at-device-for-interface .before .before in
     let k = sym (at-device-for-interface .device-for-interface .ensures) ∙ ap slotTold (c .before .k .given .1) in
@@ -18,16 +17,15 @@ down-touch-ids-requires c κs =
 
 returns : tie.Need-returns
 returns c =
-    let at-k = c .before .before .before .before in
+    let at-k = c .before .before .before in
     let at-device-for-interface = at-k .before .before in
-    let at-start = at-device-for-interface .before .before in
-    let a = at-start .args in
+    let a = at-device-for-interface .before .before .args in
     let k = sym (at-device-for-interface .device-for-interface .ensures) ∙ ap slotTold (at-k .k .given .1) in
-    λ kind version only. touch-not-held (a .control .now) (a .touchscreen) (a .touch) only (a .request) k (ap (member (a .touch)) (sym (c .before .before .down-touch-ids .ensures .ids-are)) ∙ sym (c .before .contains .ensures) ∙ not-true _ (c .if1 .taken))
+    λ kind version only. touch-not-held (a .control .now) (a .touchscreen) (a .touch) only (a .request) k (sym (c .before .is-down .ensures) ∙ not-true _ (c .if1 .taken))
 
 queue-on-requires : tie.Need-queue-on-requires
 queue-on-requires c κs =
-    let at-k = c .before .before .before .before in
+    let at-k = c .before .before .before in
     let at-device-for-interface = at-k .before .before in
     let at-start = at-device-for-interface .before .before in
     let k = sym (at-device-for-interface .device-for-interface .ensures) ∙ ap slotTold (at-k .k .given .1) in
@@ -35,13 +33,14 @@ queue-on-requires c κs =
 
 returns-2 : tie.Need-returns-2
 returns-2 c =
-    let at-down-touch-ids = c .before .before .before in
-    let at-k = at-down-touch-ids .before .before in
+    let at-is-down = c .before .before in
+    let at-k = at-is-down .before .before in
     let at-device-for-interface = at-k .before .before in
     let at-start = at-device-for-interface .before .before in
     let a = at-start .args in
     let k = sym (at-device-for-interface .device-for-interface .ensures) ∙ ap slotTold (at-k .k .given .1) in
-    λ kind version only. touch-held (a .control .now) (a .touchscreen) (a .touch) only (a .request) k (at-start .pre .1) (ap (member (a .touch)) (sym (at-down-touch-ids .down-touch-ids .ensures .ids-are)) ∙ sym (c .before .before .contains .ensures) ∙ not-false _ (c .before .if1 .left)) (c .queue-on .ensures)
+    λ kind version only.
+    touch-held (a .control .now) (a .touchscreen) (a .touch) only (a .request) k (at-start .pre .1) (sym (at-is-down .is-down .ensures) ∙ not-false _ (c .before .if1 .left)) (c .queue-on .ensures)
 
 returns-3 : tie.Need-returns-3
 returns-3 c =
@@ -54,8 +53,7 @@ decide-held-spec =
     (tie.spec
     (λ c κs. search needs)  -- device-for-interface-requires
     (λ c. search needs)  -- enum-known-k
-    down-touch-ids-requires
-    (λ c κs. search needs)  -- contains-requires
+    is-down-requires
     returns
     queue-on-requires
     (λ c. search needs)  -- enum-told

@@ -1,5 +1,5 @@
 -- The frame of the device that was found, where there is room for it. Assumes nothing.
-use mathlib.Core.Path.{sym, ap, _∙_}
+use mathlib.Core.Path.{refl, sym, ap, _∙_}
 use borrow.Author.Tests.{not-true, not-false}
 use lib.Dec.{eqb}
 use Rattle.model.specs.Call.{Plain, Call}
@@ -12,8 +12,8 @@ use borrow.Author.Needs.{needs}
 use Rattle.client_requests.proofs.untimed.queue_frame.Statement.{statement}
 use Rattle.client_requests.proofs.untimed.queue_frame.Tie as tie
 
-frame-entries-requires : tie.Need-frame-entries-requires
-frame-entries-requires c κs =
+frame-fits-requires : tie.Need-frame-fits-requires
+frame-fits-requires c κs =
     let at-find-device = c .before .before .before .before in
     let at-start = at-find-device .before .before .before .before .before in
     let a = at-start .args in
@@ -22,8 +22,8 @@ frame-entries-requires c κs =
 
 returns : tie.Need-returns
 returns c =
-    let at-frame-entries = c .before .before .before in
-    let at-k = at-frame-entries .before .before .before in
+    let at-fits = c .before .before in
+    let at-k = at-fits .before .before .before in
     let at-find-device = at-k .before .before in
     let at-start = at-find-device .before .before .before .before .before in
     let a = at-start .args in
@@ -32,15 +32,14 @@ returns c =
     let s = store (a .control .now) (a .words .now) (a .reals .now) texts in
     frame-full s out (Call.plain (Plain.deviceFrame (a .device) (a .serial) (a .time))) clock _ _ (a .serial) (a .time)
     (device-passes (a .control .now) (λ d. eqb (d .id) (a .device)) _ f .within)
-    (frame-plan (view (session s)) clock (a .device) (a .serial) (a .time) ∙ device-frame s (a .device) f (a .serial) (a .time)) (at-frame-entries .frame-entries .ensures .0) w
-    (sym (c .before .before .has-room .ensures) ∙ not-true _ (c .before .if1 .taken)) (c .refused .ensures)
+    (frame-plan (view (session s)) clock (a .device) (a .serial) (a .time) ∙ device-frame s (a .device) f (a .serial) (a .time)) refl w
+    (sym (at-fits .frame-fits .ensures) ∙ not-true _ (c .before .if1 .taken)) (c .refused .ensures)
 
 frame-requires : tie.Need-frame-requires
 frame-requires c κs =
     let at-if1 = c .before .before .before in
-    let at-has-room = at-if1 .before in
-    let at-frame-entries = at-has-room .before in
-    let at-k = at-frame-entries .before .before .before in
+    let at-fits = at-if1 .before in
+    let at-k = at-fits .before .before .before in
     let at-find-device = at-k .before .before in
     let at-start = at-find-device .before .before .before .before .before in
     let a = at-start .args in
@@ -48,7 +47,7 @@ frame-requires c κs =
       at-start .pre,
       (
         device-passes (a .control .now) (λ d. eqb (d .id) (a .device)) _ f .within,
-        room-frame (a .control .now) _ (at-frame-entries .frame-entries .ensures .0) (sym (at-has-room .has-room .ensures) ∙ not-false _ (at-if1 .if1 .left)),
+        room-frame (a .control .now) _ refl (sym (at-fits .frame-fits .ensures) ∙ not-false _ (at-if1 .if1 .left)),
       ),
     )
 
@@ -56,9 +55,8 @@ returns-2 : tie.Need-returns-2
 returns-2 c =
     let at-frame = c .before .before .before .before .before .before .before in
     let at-if1 = at-frame .before .before .before .before in
-    let at-has-room = at-if1 .before in
-    let at-frame-entries = at-has-room .before in
-    let at-k = at-frame-entries .before .before .before in
+    let at-fits = at-if1 .before in
+    let at-k = at-fits .before .before .before in
     let at-find-device = at-k .before .before in
     let at-start = at-find-device .before .before .before .before .before in
     let a = at-start .args in
@@ -68,8 +66,8 @@ returns-2 c =
     let o = at-frame .frame .ensures texts _ in
     frame-done s out (Call.plain (Plain.deviceFrame (a .device) (a .serial) (a .time))) clock _ _ (a .serial) (a .time)
     (device-passes (a .control .now) (λ d. eqb (d .id) (a .device)) _ f .within)
-    (frame-plan (view (session s)) clock (a .device) (a .serial) (a .time) ∙ device-frame s (a .device) f (a .serial) (a .time)) (at-frame-entries .frame-entries .ensures .0)
-    (sym (at-has-room .has-room .ensures) ∙ not-false _ (at-if1 .if1 .left)) (whole-rows w o (at-frame .frame .kept .1 .0) (at-frame .frame .kept .1 .1 .0)) o (c .accepted .ensures)
+    (frame-plan (view (session s)) clock (a .device) (a .serial) (a .time) ∙ device-frame s (a .device) f (a .serial) (a .time)) refl
+    (sym (at-fits .frame-fits .ensures) ∙ not-false _ (at-if1 .if1 .left)) (whole-rows w o (at-frame .frame .kept .1 .0) (at-frame .frame .kept .1 .1 .0)) o (c .accepted .ensures)
 
 returns-3 : tie.Need-returns-3
 returns-3 c =
@@ -87,8 +85,7 @@ queue-frame-spec =
     (tie.spec
     (λ c κs. search needs)  -- find-device-requires
     (λ c. search needs)  -- enum-known-k
-    frame-entries-requires
-    (λ c κs. search needs)  -- has-room-requires
+    frame-fits-requires
     (λ c κs. search needs)  -- refused-requires
     (λ c. search needs)  -- same-length
     returns
