@@ -12,7 +12,7 @@ docs/CALL-SCRIPTS.md:
   #= ANSWER   what the call above answers (the last, where it is repeated)
   #~ ANSWER   what the crate answers to it, where that is something else
 
-Every script has to be named in docs/DIFFERENCES.md, and every script that is named there has to exist. With ORACLE, the oracle's folder
+Every script has to be named in docs/DIFFERENCES.md or docs/DECISIONS.md, and every script that is named there has to exist. With ORACLE, the oracle's folder
 (`./build.sh` in it builds target/release/oracle; Rust is needed, and no network), the oracle has to give the same answers, and with `--source-only`
 the answers `#~`; and each quotation of DIFFERENCES.md has to stand in the crate's files (ORACLE/../docs/src/src) from the line that it is given with.
 """
@@ -25,6 +25,7 @@ import sys
 HERE = os.path.dirname(os.path.abspath(__file__))
 SCRIPTS = os.path.join(HERE, "differences")
 PAGE = os.path.join(HERE, "../docs/DIFFERENCES.md")
+READINGS = os.path.join(HERE, "../docs/DECISIONS.md")
 SETTINGS = ("now", "out", "buffer")
 FILES = {"protocol": "eiproto_eis.rs", "eiproto_eis.rs": "eiproto_eis.rs", "eiproto_enum.rs": "eiproto_enum.rs", "request.rs": "request.rs",
          "handshake.rs": "handshake.rs", "backend.rs": "wire/backend.rs"}
@@ -106,10 +107,10 @@ def main():
     oracle = sys.argv[1] if len(sys.argv) == 2 else None
     replay = shlex.split(os.environ.get("REPLAY", "target/bin/replay"))
     page = open(PAGE).read()
-    named = set(re.findall(r"`differences/([a-z0-9-]+)`", page))
+    named = set(re.findall(r"`differences/([a-z0-9-]+)`", page + open(READINGS).read()))
     there = {name[:-7] for name in os.listdir(SCRIPTS) if name.endswith(".script")}
-    faults = [f"{name}: named in DIFFERENCES.md, and no such script" for name in sorted(named - there)]
-    faults += [f"{name}: a script that DIFFERENCES.md does not name" for name in sorted(there - named)]
+    faults = [f"{name}: named in the docs, and no such script" for name in sorted(named - there)]
+    faults += [f"{name}: a script that the docs do not name" for name in sorted(there - named)]
     answers = quoted = 0
     for name in sorted(there):
         lines = list(lines_of(os.path.join(SCRIPTS, name + ".script")))
