@@ -3,7 +3,7 @@
 
 usage: bench.py ORACLE [ROUNDS]     run at the repository's root, after `rt check bench`
 
-ORACLE is the oracle's folder (target/release/oracle in it). Each of its five workloads is run ROUNDS times (7) by turns, ours and the crate's: for both a turn is
+ORACLE is the oracle's folder (`./build.sh` there builds target/release/oracle; Rust is needed, and no network). Each of its five workloads is run ROUNDS times (7) by turns, ours and the crate's: for both a turn is
 the same calls, and making the requests is counted in. Ours is the time of the program `bench` less that of its start, divided by the calls. Medians are printed, and
 how many times faster ours is. Behind them, where valgrind is at hand, the instructions of a call, from the difference of two runs.
 
@@ -47,6 +47,8 @@ def instructions(commands, calls):
 
 
 def main():
+    if len(sys.argv) not in (2, 3):
+        sys.exit(__doc__)
     oracle, rounds = sys.argv[1], int(sys.argv[2]) if len(sys.argv) > 2 else 7
     valgrind = shutil.which("valgrind")
     print("workload   ours ns/call   crate ns/call   times faster" + ("   instructions/call: ours   crate" if valgrind else ""))

@@ -3,7 +3,7 @@
 
 usage: compare_sessions.py ORACLE FIRST LAST [CALLS [REPLAY]]     run at the repository's root, after `rt check replay`
 
-ORACLE is the oracle's folder (gen.py and target/release/oracle in it). For each seed from FIRST to LAST, one script of about CALLS calls (400) for each of
+ORACLE is the oracle's folder (gen.py in it; `./build.sh` there builds target/release/oracle; Rust is needed, and no network). For each seed from FIRST to LAST, one script of about CALLS calls (400) for each of
 gen.py's six profiles. Trails are compared line by line; the first line that differs of each script is printed with its call. What the answers were is
 counted, so that it can be seen what the scripts reached. gen.py goes through sets, so its scripts are the same at each run only with PYTHONHASHSEED=0, which
 is set here.
@@ -21,6 +21,8 @@ def calls_of(script):
 
 
 def main():
+    if len(sys.argv) not in (4, 5, 6):
+        sys.exit(__doc__)
     oracle, first, last = sys.argv[1], int(sys.argv[2]), int(sys.argv[3])
     count = sys.argv[4] if len(sys.argv) > 4 else "400"
     replay = sys.argv[5] if len(sys.argv) > 5 else "target/bin/replay"

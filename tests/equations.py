@@ -3,6 +3,7 @@
 
 usage: equations.py SCRIPT TRAIL > NAME.antt
 
+TRAIL is what the oracle writes of SCRIPT (target/release/oracle in its folder, which `./build.sh` there builds; Rust is needed, and no network).
 A session begins with each accepted handshake.finish; the handshake itself is no part of the definitions, and what it settled (connection,
 serial, versions) is read off the trail. An equation says that the trail of the session's calls, as the definitions compute it, is the given
 one: each call's answer, its event records as one number (0x1 and then the bytes, so that none is lost) and what next_request gave. antt

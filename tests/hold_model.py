@@ -3,7 +3,7 @@
 
 usage: hold_model.py ORACLE FIRST LAST [N]     run at the repository's root
 
-ORACLE is the oracle's folder (gen.py and target/release/oracle in it). For the seeds FIRST to LAST and every profile of gen.py a script of about N
+ORACLE is the oracle's folder (gen.py in it; `./build.sh` there builds target/release/oracle; Rust is needed, and no network). For the seeds FIRST to LAST and every profile of gen.py a script of about N
 calls (300) is made and run through the oracle; equations.py turns script and trail into closed equations, and antt checks these in a copy of the
 crates. It prints what was compared, and stops with 1 at the first batch that does not agree.
 """

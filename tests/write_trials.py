@@ -1,11 +1,12 @@
 #!/usr/bin/env python3
 """Writes the scripts that the gate runs and the trails that are expected of them. The trails are the oracle's: the crate's own Rust makes them.
 
-usage: write_trials.py ORACLE [FOLDER]     run at the repository's root
+usage: write_trials.py [--check] ORACLE [FOLDER]     run at the repository's root
 
-ORACLE is the oracle's folder (cases/ in it, and target/release/oracle, or that of FOLDER). crates/trials gets the trial lines, the five false
-friends and the oracle's other cases, one session behind the other; crates/replay gets examples/token.script. The lines `#= LINE` of the cases, by hand from
-the scope, stay in the script behind their calls, and the trail is held to them here.
+ORACLE is the oracle's folder (cases/ in it; `./build.sh` there builds target/release/oracle, for which Rust is needed, and no network; or the program is that
+of FOLDER). crates/trials gets the trial lines, the five false friends and the oracle's other cases, one session behind the other; crates/replay gets
+examples/token.script. The lines `#= LINE` of the cases, by hand from the scope, stay in the script behind their calls, and the trail is held to them here.
+With --check nothing is written: the files have to be what would be written.
 """
 import glob
 import os
@@ -54,8 +55,12 @@ def hold_to_hand(script, trail):
 
 
 def main():
-    cases = {int(os.path.basename(p)[:2]): p for p in glob.glob(f"{sys.argv[1]}/cases/*.script")}
-    oracle = f"{sys.argv[2] if len(sys.argv) > 2 else sys.argv[1]}/target/release/oracle"
+    check = sys.argv[1:2] == ["--check"]
+    folders = sys.argv[1 + check:]
+    if len(folders) not in (1, 2):
+        sys.exit(__doc__)
+    cases = {int(os.path.basename(p)[:2]): p for p in glob.glob(f"{folders[0]}/cases/*.script")}
+    oracle = f"{folders[-1]}/target/release/oracle"
     scripts = {number: open(path).read().splitlines() for number, path in cases.items()}
     scripts[24] = held_ids(cases)
     lines = ["# Written by tests/write_trials.py. A line that begins with #= is what the call above it answers, by hand from the scope; stdout is what the crate's own Rust answers."]
@@ -75,8 +80,12 @@ def main():
     token = open("examples/token.script").read()
     for name, script, expected in [("trials", text, trail), ("replay", token, run(oracle, token))]:
         for kind, content in [("stdin", script), ("stdout", expected)]:
-            with open(f"crates/{name}/{kind}", "w") as f:
-                f.write(content)
+            path = f"crates/{name}/{kind}"
+            if check and open(path).read() != content:
+                sys.exit(f"{path} is not what would be written")
+            if not check:
+                with open(path, "w") as f:
+                    f.write(content)
     print(f"{len(scripts)} scripts, {calls} calls, {hand} lines by hand")
 
 
