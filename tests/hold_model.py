@@ -1,12 +1,15 @@
 #!/usr/bin/env python3
-"""Holds the definitions of the crate `model` to the oracle on random call scripts.
+"""Holds the definitions of the crate `model` to the oracle, on random call scripts or on the oracle's own cases.
 
 usage: hold_model.py ORACLE FIRST LAST [N]     run at the repository's root
+       hold_model.py ORACLE cases
 
-ORACLE is the oracle's folder (gen.py in it; `./build.sh` there builds target/release/oracle; Rust is needed, and no network). For the seeds FIRST to LAST and every profile of gen.py a script of about N
-calls (300) is made and run through the oracle; equations.py turns script and trail into closed equations, and antt checks these in a copy of the
-crates. It prints what was compared, and stops with 1 at the first batch that does not agree.
+ORACLE is the oracle's folder (gen.py and cases/ in it; `./build.sh` there builds target/release/oracle; Rust is needed, and no network). For the seeds
+FIRST to LAST and every profile of gen.py a script of about N calls (300) is made, or each script of cases/ is taken, and run through the oracle; equations.py
+turns script and trail into closed equations, and antt checks these in a copy of the crates. It prints what was compared, and stops with 1 at the first
+batch that does not agree.
 """
+import glob
 import os
 import shutil
 import subprocess
@@ -21,20 +24,30 @@ PROFILES = ["mixed", "limits", "touch", "text", "removal", "frames"]
 BATCH = 30
 
 
-def script_and_trail(oracle, seed, profile, calls):
+def made(oracle, seed, profile, calls):
     # gen.py goes through sets of words, whose order hangs on the hash seed: with it fixed, a seed gives the same script at each run.
     fixed = {**os.environ, "PYTHONHASHSEED": "0"}
-    made = subprocess.run([os.path.join(oracle, "gen.py"), str(seed), str(calls), "--profile", profile], capture_output=True, text=True, check=True, env=fixed)
-    ran = subprocess.run([os.path.join(oracle, "target/release/oracle")], input=made.stdout, capture_output=True, text=True, check=True)
-    return made.stdout.split("\n"), ran.stdout.split("\n")
+    return subprocess.run([os.path.join(oracle, "gen.py"), str(seed), str(calls), "--profile", profile], capture_output=True, text=True, check=True, env=fixed).stdout
+
+
+def scripts_of(oracle, words):
+    """What is to be compared: for each script the name of its module, its title, and how to get it."""
+    if words == ["cases"]:
+        for path in sorted(glob.glob(os.path.join(oracle, "cases/*.script"))):
+            number, _, name = os.path.basename(path)[:-len(".script")].partition("-")
+            yield f"Case{number}", f"Case {number}, {name}.", lambda path=path: open(path).read()
+        return
+    calls = words[2] if len(words) == 3 else "300"
+    for seed in range(int(words[0]), int(words[1]) + 1):
+        for profile in PROFILES:
+            yield f"{profile.capitalize()}{seed}", f"Seed {seed}, profile {profile}.", lambda seed=seed, profile=profile: made(oracle, seed, profile, calls)
 
 
 def main():
-    if len(sys.argv) not in (4, 5):
+    words = sys.argv[2:]
+    if len(sys.argv) < 2 or (words != ["cases"] and len(words) not in (2, 3)):
         sys.exit(__doc__)
-    oracle, first, last = sys.argv[1], int(sys.argv[2]), int(sys.argv[3])
-    calls = sys.argv[4] if len(sys.argv) == 5 else "300"
-    work = [(seed, profile) for seed in range(first, last + 1) for profile in PROFILES]
+    oracle, work = sys.argv[1], list(scripts_of(sys.argv[1], words))
     scripts = sessions = turns = 0
     with tempfile.TemporaryDirectory() as copy:
         for name in ("crates", "crates.txt", "target"):
@@ -47,13 +60,15 @@ def main():
             for old in os.listdir(proofs):
                 os.remove(os.path.join(proofs, old))
             modules = []
-            for seed, profile in work[at:at + BATCH]:
-                script, trail = script_and_trail(oracle, seed, profile, calls)
+            for module, title, get in work[at:at + BATCH]:
+                text = get()
+                ran = subprocess.run([os.path.join(oracle, "target/release/oracle")], input=text, capture_output=True, text=True, check=True)
+                script, trail = text.split("\n"), ran.stdout.split("\n")
                 found = equations.sessions(script, trail)
                 scripts, sessions, turns = scripts + 1, sessions + len(found), turns + sum(len(s["turns"]) for s in found)
-                modules.append(f"{profile.capitalize()}{seed}")
-                with open(os.path.join(proofs, modules[-1] + ".antt"), "w") as f:
-                    f.write(equations.module(f"Seed {seed}, profile {profile}.", script, trail))
+                modules.append(module)
+                with open(os.path.join(proofs, module + ".antt"), "w") as f:
+                    f.write(equations.module(title, script, trail))
             with open(os.path.join(proofs, "Lib.antt"), "w") as f:
                 f.write("".join(f"pub mod {m}\n" for m in modules))
             done = subprocess.run(["rt", "check", "model_cases"], cwd=copy, capture_output=True, text=True)

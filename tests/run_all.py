@@ -30,7 +30,8 @@ def main():
         ("damaged lines", ["compare_lines.py", oracle, "1", "10"]),
         ("handshakes", ["compare_handshakes.py", oracle, "1", "30"]),
         ("sessions", ["compare_sessions.py", oracle, "1", "20", "600"]),
-        ("the definitions", ["hold_model.py", oracle, "1", "2", "200"]),
+        ("the definitions on the oracle's cases", ["hold_model.py", oracle, "cases"]),
+        ("the definitions on random scripts", ["hold_model.py", oracle, "1", "2", "200"]),
     ]
     failed = []
     for name, (program, *words) in runs:
