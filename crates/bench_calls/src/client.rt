@@ -8,6 +8,15 @@ use requests::eis::InterfaceRequest;
 use requests::eis::KeyboardRequest;
 use requests::eis::Request;
 use requests::eis::TouchscreenRequest;
+ghost use mathlib.Core.Path.{_≡_};
+ghost use mathlib.Core.List.{[], _∷_};
+ghost use Prim.Native.Nat.{_%_, _^_, _+_};
+ghost use lib.Ieee.{Float};
+ghost use lib.ListN.{length};
+ghost use Rattle.session.specs.Slices.{before, after};
+ghost use Rattle.handlers.specs.Call.{callOf};
+ghost use Rattle.bench_calls.specs.Sent as said;
+ghost use Rattle.bench_calls.specs.Sent.{Sends, Asked, givenBy};
 
 pub fn with_text(
     control: &mut [u64],
@@ -17,7 +26,9 @@ pub fn with_text(
     object: u64,
     r: Request,
     text: &[u8],
-) {
+)
+    ensures { λ _. ⌜ Sends control words reals texts (callOf r object 2 (now (text .entry)) ∷ []) ⌝ }
+{
     let mut out = [0u8; 16];
     request::handle_request(
         control,
@@ -40,27 +51,39 @@ pub fn without_text(
     texts: &mut [u8],
     object: u64,
     r: Request,
-) {
+)
+    ensures { λ _. ⌜ Sends control words reals texts (callOf r object 2 [] ∷ []) ⌝ }
+{
     with_text(control, words, reals, texts, object, r, b"");
 }
 
-fn key(key: u32, state: KeyState) -> Request {
-    Request::Interface(InterfaceRequest::Keyboard(KeyboardRequest::Key { key, state }))
+fn key(code: u32, state: KeyState) -> Request
+    ensures { λ r. ⌜ r ≡ Request.Interface (InterfaceRequest.Keyboard (KeyboardRequest.Key code state)) ⌝ }
+{
+    Request::Interface(InterfaceRequest::Keyboard(KeyboardRequest::Key { key: code, state }))
 }
 
-fn down(touchid: u32, x: f32, y: f32) -> Request {
+fn down(touchid: u32, x: f32, y: f32) -> Request
+    ensures { λ r. ⌜ r ≡ Request.Interface (InterfaceRequest.Touchscreen (TouchscreenRequest.Down touchid x y)) ⌝ }
+{
     Request::Interface(InterfaceRequest::Touchscreen(TouchscreenRequest::Down { touchid, x, y }))
 }
 
-fn motion(touchid: u32, x: f32, y: f32) -> Request {
+fn motion(touchid: u32, x: f32, y: f32) -> Request
+    ensures { λ r. ⌜ r ≡ Request.Interface (InterfaceRequest.Touchscreen (TouchscreenRequest.Motion touchid x y)) ⌝ }
+{
     Request::Interface(InterfaceRequest::Touchscreen(TouchscreenRequest::Motion { touchid, x, y }))
 }
 
-fn up(touchid: u32) -> Request {
+fn up(touchid: u32) -> Request
+    ensures { λ r. ⌜ r ≡ Request.Interface (InterfaceRequest.Touchscreen (TouchscreenRequest.Up touchid)) ⌝ }
+{
     Request::Interface(InterfaceRequest::Touchscreen(TouchscreenRequest::Up { touchid }))
 }
 
-pub fn frame(timestamp: u64) -> Request {
+pub fn frame(timestamp: u64) -> Request
+    ensures { λ r. ⌜ r ≡ Request.Device (DeviceRequest.Frame 7 timestamp) ⌝ }
+{
     Request::Device(DeviceRequest::Frame {
         last_serial: 7,
         timestamp,
@@ -75,7 +98,9 @@ pub fn keys(
     texts: &mut [u8],
     keyboard: u64,
     i: u64,
-) {
+)
+    ensures { λ _. ⌜ Sends control words reals texts (said.keys keyboard (i % 256)) ⌝ }
+{
     let code = (i % 256) as u32;
     without_text(
         control,
@@ -96,7 +121,9 @@ pub fn keys(
 }
 
 // A touch that moves.
-pub fn stroke(control: &mut [u64], words: &mut [u64], reals: &mut [f32], texts: &mut [u8], i: u64) {
+pub fn stroke(control: &mut [u64], words: &mut [u64], reals: &mut [f32], texts: &mut [u8], i: u64)
+    ensures { λ _. ⌜ ((x : Float) × ((y : Float) × Sends control words reals texts (said.stroke (i % 2 ^ 32) x y))) ⌝ }
+{
     let touchid = (i % 4294967296) as u32;
     // Of 16 bits, which an f32 holds exactly.
     let x = (i % 65536) as u16 as f32;
@@ -126,7 +153,9 @@ pub fn many_keys(
     reals: &mut [f32],
     texts: &mut [u8],
     n: u32,
-) {
+)
+    ensures { λ _. ⌜ Sends control words reals texts (said.presses n) ⌝ }
+{
     let mut j: u32 = 0;
     while j < n {
         without_text(
@@ -148,7 +177,9 @@ fn next_in(
     texts: &[u8],
     most: u64,
     buffer: &mut [u8],
-) -> u64 {
+) -> u64
+    ensures { λ r. ⌜ Asked (length (now (buffer .entry))) most (before control words reals texts) (after control words reals texts) r ⌝ }
+{
     let mut given: u64 = 0;
     let mut i: u64 = 0;
     while i < most {
@@ -159,15 +190,20 @@ fn next_in(
     given
 }
 
-fn count(answer: NextRequest) -> u64 {
+fn count(answer: NextRequest) -> u64
+    ensures { λ r. ⌜ r ≡ givenBy answer ⌝ }
+{
     match answer {
         NextRequest::Given(_) => 1,
-        _ => 0,
+        NextRequest::None => 0,
+        NextRequest::Refused(_) => 0,
     }
 }
 
 // Takes the queued requests, at most so many; how many there were.
-pub fn next(control: &mut [u64], words: &[u64], reals: &[f32], texts: &[u8], most: u64) -> u64 {
+pub fn next(control: &mut [u64], words: &[u64], reals: &[f32], texts: &[u8], most: u64) -> u64
+    ensures { λ r. ⌜ Asked 254 most (before control words reals texts) (after control words reals texts) r ⌝ }
+{
     let mut buffer = [0u8; 254];
     next_in(control, words, reals, texts, most, &mut buffer)
 }

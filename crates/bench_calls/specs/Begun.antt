@@ -1,0 +1,46 @@
+-- The session that the turns of the benchmark begin with: a handshake, a seat, devices, each call as its contract has it. Assumes nothing.
+use Prim.Native.Nat.{ℕ, _+_}
+use mathlib.Core.List.{List}
+use mathlib.Core.Option.{none}
+use lib.Ieee.{Float}
+use lib.ListN.{length}
+use Rattle.eiproto.specs.Interface.{ascii}
+use Rattle.eiproto.specs.declared.eiproto_enum.DeviceType.{DeviceType}
+use Rattle.handshake.specs.Handshake as paper
+use Rattle.handshake.specs.View.{Meets, Handled}
+use Rattle.handshake.specs.declared.handshake.EisHandshaker.{EisHandshaker}
+use Rattle.handshake.specs.declared.handshake.HandshakeAnswer.{HandshakeAnswer}
+use Rattle.model.specs.Call.{Plain, Call}
+use Rattle.session.specs.View.{store, Lending}
+use Rattle.answers.specs.Meets.{Answered}
+use Rattle.answers.specs.declared.Answer.{Answer}
+use Rattle.converter.specs.Next.{Begins}
+
+-- the client knows an interface in version 9; the handshake after that
+pub data Knows (h : EisHandshaker) (name : List ℕ) : EisHandshaker → Type 0 where
+  knows : {out later : List ℕ} {answer : HandshakeAnswer} → Handled h (paper.Message.InterfaceVersion name 9) out later answer → Knows h name (answer .handshaker)
+
+-- a handshake from serial 7 on, with the three interfaces that a session needs, and the session that its Finish leaves in the control words
+pub data Shaken : (c d : List ℕ) → Type 0 where
+  shaken : {out later last after c d : List ℕ} {started finished : HandshakeAnswer} {one two three : EisHandshaker} {answer : Answer}
+      → Meets out later (paper.start 7 (length out)) started → Knows (started .handshaker) (ascii "ei_connection") one → Knows one (ascii "ei_callback") two
+      → Knows two (ascii "ei_pingpong") three → Handled three paper.Message.Finish last after finished → Begins c d (finished .response) answer → Shaken c d
+
+-- a call of the station on the control words, whatever the other slices are
+abbrev pub Promised : (c d out later : List ℕ) → Plain → Answer → Type 0
+Promised c d out later call answer =
+    (clock : ℕ) (w : List ℕ) (r : List Float) (t : List ℕ) → Answered Lending.control (store c w r t) (store d w r t) out later (Call.plain call) clock answer
+
+abbrev pub seat : ℕ
+seat = 0xff00_0000_0000_0001
+
+-- so many devices more on the seat
+pub data Added (capabilities : ℕ) : (devices : ℕ) → (c d : List ℕ) → Type 0 where
+  nothing : {c : List ℕ} → Added capabilities 0 c c
+  added : {devices : ℕ} {c d e out later : List ℕ} {answer : Answer} → Added capabilities devices c d
+      → Promised d e out later (Plain.addDevice seat none DeviceType.Virtual capabilities) answer → Added capabilities (devices + 1) c e
+
+-- the handshake, the seat, the devices
+pub data Begun (devices capabilities : ℕ) : (c d : List ℕ) → Type 0 where
+  begun : {c fresh seated d out later : List ℕ} {answer : Answer} → Shaken c fresh → Promised fresh seated out later (Plain.addSeat none capabilities) answer
+      → Added capabilities devices seated d → Begun devices capabilities c d
