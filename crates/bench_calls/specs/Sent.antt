@@ -2,7 +2,8 @@
 use Prim.Native.Nat.{ℕ, zero, suc, _+_, _%_, _^_}
 use mathlib.Core.Path.{_≡_}
 use mathlib.Core.List.{List, [], _∷_, _++_}
-use lib.Ieee.{Float}
+use lib.IntN.{pos}
+use lib.Ieee.{binary32, ofInt, ofBits}
 use lib.ListN.{length, replicate}
 use Rattle.eiproto.specs.declared.eiproto_enum.KeyState.{KeyState}
 use Rattle.model.specs.Call.{Input, Call}
@@ -36,8 +37,11 @@ abbrev pub keys : (keyboard code : ℕ) → List (Call Input)
 keys keyboard code = key keyboard code KeyState.Press ∷ key keyboard code KeyState.Released ∷ []
 
 -- a touch that goes down, moves to where it is, and goes up
-abbrev pub stroke : (touch : ℕ) (x y : Float) → List (Call Input)
-stroke touch x y =
+abbrev pub stroke : (i : ℕ) → List (Call Input)
+stroke i =
+    let touch = i % 2 ^ 32 in
+    let x = ofInt binary32 (pos (i % 65536)) in
+    let y = ofBits binary32 0x4000_0000 in
     Call.timed (device + 1) 2 (Input.Down touch x y) ∷ Call.timed (device + 1) 2 (Input.Motion touch x y) ∷ Call.timed (device + 1) 2 (Input.Up touch) ∷ []
 
 -- presses of the keys 0 to n - 1

@@ -10,8 +10,7 @@ use requests::eis::Request;
 use requests::eis::TouchscreenRequest;
 ghost use mathlib.Core.Path.{_≡_};
 ghost use mathlib.Core.List.{[], _∷_};
-ghost use Prim.Native.Nat.{_%_, _^_, _+_};
-ghost use lib.Ieee.{Float};
+ghost use Prim.Native.Nat.{_%_};
 ghost use lib.ListN.{length};
 ghost use Rattle.session.specs.Slices.{before, after};
 ghost use Rattle.handlers.specs.Call.{callOf};
@@ -122,7 +121,7 @@ pub fn keys(
 
 // A touch that moves.
 pub fn stroke(control: &mut [u64], words: &mut [u64], reals: &mut [f32], texts: &mut [u8], i: u64)
-    ensures { λ _. ⌜ ((x : Float) × ((y : Float) × Sends control words reals texts (said.stroke (i % 2 ^ 32) x y))) ⌝ }
+    ensures { λ _. ⌜ Sends control words reals texts (said.stroke i) ⌝ }
 {
     let touchid = (i % 4294967296) as u32;
     // Of 16 bits, which an f32 holds exactly.

@@ -1,41 +1,23 @@
--- The changes in the model's words: as lists of the cores, and of any table of devices that has them; a new device's interfaces; an interface unlinked by its id. Assumes nothing.
+-- The changes in the model's words: of any table of devices; a new device's interfaces; an interface unlinked by its id. Assumes nothing.
 use Prim.Native.Nat.{ℕ, suc, _+_, _^_, _≤_, _<_}
 use mathlib.Core.Path.{_≡_, sym, ap, _∙_}
 use mathlib.Core.Bool.{true}
-use mathlib.Core.List.{List, [], _∷_, _++_, map}
+use mathlib.Core.List.{List, map}
 use native.Mathlib.Omega.{arith}
-use lib.ListN.{length, set}
+use lib.ListN.{length}
 use Rattle.eiproto.specs.Bits.{bitsOf}
 use Rattle.model.specs.Session.{Device, Connection}
 use Rattle.model.specs.Edit.{newInterfaces, unlinked, at, withoutSlot}
 use Rattle.model.specs.Decide.{linksIn}
-use Rattle.control.specs.Table.{tab, cutAt}
-use Rattle.control.specs.Control.{deviceCount, deviceWord, capabilitiesAt, linkedAt, Core, coreAt, coresOf}
-use Rattle.control.proofs.Tables.{tab-same, tab-push, tab-set, tab-cut}
+use Rattle.control.specs.Table.{tab}
+use Rattle.control.specs.Control.{deviceCount, deviceWord, capabilitiesAt, linkedAt, Core, coreAt}
+use Rattle.control.proofs.Tables.{tab-cut}
 use Rattle.control.proofs.Interfaces.{new-interfaces}
 use Rattle.control.proofs.Models.{without-slot, at-slot}
-use Rattle.control.specs.Change.{SameDevices, Reconnected, Amended, Appended, Removed, newCore, unlinkedBit}
+use Rattle.control.specs.Change.{Reconnected, Amended, Removed, newCore, unlinkedBit}
 use Rattle.control.proofs.LinkBits.{unlinked-found}
 
 module _ {c e : List ℕ} where
-  pub same-cores : SameDevices c e → coresOf e ≡ coresOf c
-  unfolding coresOf
-  same-cores s = tab-same (deviceCount e) (deviceCount c) (coreAt e) (coreAt c) (s .count) (λ j l. s .core j)
-
-  pub amended-cores : {k : ℕ} {to : Core} → k < deviceCount c → Amended c e k to → coresOf e ≡ set (coresOf c) k to
-  unfolding coresOf
-  amended-cores {k} {to} l a =
-      ap (λ (n : ℕ). tab n (coreAt e)) (a .count) ∙ tab-set (deviceCount c) k (coreAt c) (coreAt e) to l (a .here) (λ j q n. a .other j n)
-
-  pub appended-cores : {new : Core} → Appended c e new → coresOf e ≡ coresOf c ++ (new ∷ [])
-  unfolding coresOf
-  appended-cores {new} a =
-      tab-push (deviceCount c) (deviceCount e) (coreAt c) (coreAt e) new (a .count) (a .here) (λ j l. a .other j (λ z. omega arith))
-
-  pub removed-cores : {k : ℕ} → k < deviceCount c → Removed c e k → coresOf e ≡ cutAt k (coresOf c)
-  unfolding coresOf
-  removed-cores {k} l r = tab-cut (deviceCount c) (deviceCount e) k (coreAt c) (coreAt e) (r .count) l (r .before) (r .behind)
-
   -- f and g: the devices with their pending requests, before and after
   module _ {P : Type 0} (f g : ℕ → Device P) where
     pub amended-devices : {k : ℕ} {to : Core} (change : Device P → Device P) → k < deviceCount c → Amended c e k to → g k ≡ change (f k)

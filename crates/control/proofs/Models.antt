@@ -105,10 +105,6 @@ module _ (c : List ℕ) where
   pub seats-length : length (connectionOf c .seats) ≡ seatCount c
   seats-length = ap length seats-are ∙ tab-length (seatCount c) (seatAt c)
 
-  pub cores-are : coresOf c ≡ tab (deviceCount c) (coreAt c)
-  unfolding coresOf
-  cores-are = refl
-
   -- for a table f of devices of which a test sees what t sees of the cores: `deviceOf` and `deviceForInterface` are such
   pub devices-find : (test : Device (Unit {0}) → Bool) (t : Core → Bool) (f : ℕ → Device (Unit {0}))
       → ((j : ℕ) → j < deviceCount c → test (f j) ≡ t (coreAt c j))

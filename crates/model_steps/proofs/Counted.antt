@@ -33,10 +33,6 @@ unfoldable pub framedLength : ℕ → ℕ
 framedLength zero = 0
 framedLength (suc n) = suc n + 1
 
-pub framedLength-none : (n : ℕ) → n ≡ 0 → framedLength n ≡ 0
-unfolding framedLength
-framedLength-none n e = rw e
-
 pub framedLength-some : (n : ℕ) → 0 < n → framedLength n ≡ n + 1
 unfolding framedLength
 framedLength-some zero h = absurd (omega arith)

@@ -18,7 +18,7 @@ use Rattle.model.specs.Decide.{Found, Rule, handler, pendAfter, seatPlan, devic
 use Rattle.model.specs.Step.{Step, gaveAll, carriedOut, textsBy, texts, textBytes, Counts, counts, over, anyOver, limits, refuses, unchanged, settled, bytesNeeded, limited, step}
 use Rattle.model.proofs.All.{All, none, more}
 use Rattle.model.proofs.Within.{settled-refused, settled-accepted}
-use Rattle.model_steps.proofs.Counted.{change, framedLength, framedLength-none, framedLength-some, waiting, afterPend, afterFrame, afterQueue, afterSeat, afterDevice, counts-frame, counts-queue, counts-addSeat, counts-addDevice, Lessens, lessens-same, lessens-deliver, removesAll, quietAll, quiet, pends, removed}
+use Rattle.model_steps.proofs.Counted.{change, framedLength, framedLength-some, waiting, afterPend, afterFrame, afterQueue, afterSeat, afterDevice, counts-frame, counts-queue, counts-addSeat, counts-addDevice, Lessens, lessens-same, lessens-deliver, removesAll, quietAll, quiet, pends, removed}
 
 -- ---- the tests
 
@@ -326,9 +326,6 @@ module _ {P : Type 0} where
           step t s ≡ carriedOut (edit (Edit.frame k serial time ∷ [])) (t .load) s
       unfolding counts
       step-frame h = framed-fits (over-fits 256 _ _ h)
-
-      pub step-frame-none : getD (counts s .pending) k 0 ≡ 0 → step t s ≡ carriedOut (edit (Edit.frame k serial time ∷ [])) (t .load) s
-      step-frame-none h = let q = framedLength-none _ h in framed-fits (over-less 256 _ _ (omega arith))
 
     -- a request that is queued behind the frame of its device
     module _ (k serial time : ℕ) (r : Untimed) (e : decide (view s) (t .now) (t .call) ≡ edit (Edit.frame k serial time ∷ Edit.queue r ∷ [])) where

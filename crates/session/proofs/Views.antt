@@ -217,9 +217,6 @@ module _ (s : Store) where
     pub found-bound : {k : ℕ} → first (λ d. eqb (d .id) id) (coresOf (s .control)) ≡ some k → k < deviceCount (s .control)
     found-bound {k} e = models.device-passes (s .control) (λ d. eqb (d .id) id) k e .within
 
-    pub found-id : {k : ℕ} → first (λ d. eqb (d .id) id) (coresOf (s .control)) ≡ some k → coreAt (s .control) k .id ≡ id
-    found-id {k} e = eqb-true (coreAt (s .control) k .id) id (models.device-passes (s .control) (λ d. eqb (d .id) id) k e .passes)
-
     pub no-device : first (λ d. eqb (d .id) id) (coresOf (s .control)) ≡ none → deviceOf id (view (session s)) ≡ none
     unfolding mapOption
     no-device e = device-found id ∙ ap (mapOption (λ k. record { slot = k; device = deviceSeen s k })) e
@@ -247,9 +244,6 @@ module _ (s : Store) where
 
     pub interface-bound : {k : ℕ} → first (λ d. linksIn bit id (d .interfaces)) (coresOf (s .control)) ≡ some k → k < deviceCount (s .control)
     interface-bound {k} e = models.device-passes (s .control) (λ d. linksIn bit id (d .interfaces)) k e .within
-
-    pub interface-links : {k : ℕ} → first (λ d. linksIn bit id (d .interfaces)) (coresOf (s .control)) ≡ some k → linksIn bit id (coreAt (s .control) k .interfaces) ≡ true
-    interface-links {k} e = models.device-passes (s .control) (λ d. linksIn bit id (d .interfaces)) k e .passes
 
     pub no-interface : first (λ d. linksIn bit id (d .interfaces)) (coresOf (s .control)) ≡ none → deviceForInterface bit id (view (session s)) ≡ none
     unfolding mapOption

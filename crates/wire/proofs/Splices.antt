@@ -4,7 +4,7 @@ use mathlib.Core.Path.{_≡_, refl, sym, ap, _∙_}
 use mathlib.Core.List.{List, [], _∷_, _++_, append-assoc}
 use mathlib.Core.Logic.{dite}
 use native.Mathlib.Decide.{decLe}
-use native.Mathlib.Nat.{add-zero, add-assoc, zero-add}
+use native.Mathlib.Nat.{add-zero, add-assoc}
 use native.Mathlib.Numerals.{add-one}
 use native.Mathlib.Omega.{arith}
 use borrow.Author.Tests.{le-leb, lt-leb}
@@ -69,10 +69,6 @@ wrote-join {out} {at = at} {b = b} {xs = xs} {ys = ys} p q h =
 pub wrote-none : (out : List ℕ) (at : ℕ) → Wrote out out at 0 [] at
 wrote-none out at = record { buffer = sym (splice-none out at); long = refl; next = sym (add-zero at) }
 
--- bytes written from the start on, and more behind them
-pub splice-next : (out xs ys : List ℕ) → length xs + length ys ≤ length out → splice (splice out 0 xs) (length xs) ys ≡ splice out 0 (xs ++ ys)
-splice-next out xs ys h = rw (← zero-add (length xs)) (splice-splice out 0 xs ys (omega arith))
-
 pub fitted-all : (out : List ℕ) (at : ℕ) (bytes : List ℕ) → at + length bytes ≤ length out → fitted out at bytes ≡ bytes
 unfolding fitted
 fitted-all out at bytes h = rw (le-leb (at + length bytes) (length out) h)
@@ -80,11 +76,6 @@ fitted-all out at bytes h = rw (le-leb (at + length bytes) (length out) h)
 pub fitted-none : (out : List ℕ) (at : ℕ) (bytes : List ℕ) → length out < at + length bytes → fitted out at bytes ≡ []
 unfolding fitted
 fitted-none out at bytes h = rw (lt-leb (at + length bytes) (length out) h)
-
--- whether bytes fit is a matter of the buffer's length alone
-pub fitted-kept : (out later : List ℕ) (at : ℕ) (bytes : List ℕ) → length later ≡ length out → fitted later at bytes ≡ fitted out at bytes
-unfolding fitted
-fitted-kept out later at bytes e = rw e
 
 -- writing what fits, and nothing where it does not
 pub put-none : (out : List ℕ) (at : ℕ) (bytes : List ℕ) → length out < at + length bytes → PutWhole out out at bytes 0

@@ -8,14 +8,9 @@ returns : tie.Need-returns
 returns c =
     let gone-up = c .before .before .before .before .before .before .before .before in
     let moved = gone-up .before .before .before .before .before .before .before .before .before .before .before .before .before .before in
-    let gone-down = moved .before .before .before .before .before .before .before .before .before .before .before .before .before .before in (
-      _,
-      (
-        _,
-        sent-join (sent-as _ (gone-down .before .down .ensures) (gone-down .without-text .ensures))
-            (sent-join (sent-as _ (moved .before .motion .ensures) (moved .without-text2 .ensures)) (sent-as _ (gone-up .before .up .ensures) (gone-up .without-text3 .ensures))),
-      ),
-    )
+    let gone-down = moved .before .before .before .before .before .before .before .before .before .before .before .before .before .before in
+    sent-join (sent-as _ (gone-down .before .down .ensures) (gone-down .without-text .ensures))
+    (sent-join (sent-as _ (moved .before .motion .ensures) (moved .without-text2 .ensures)) (sent-as _ (gone-up .before .up .ensures) (gone-up .without-text3 .ensures)))
 
 pub stroke-spec : {M : Type 1} → statement M
 stroke-spec =
