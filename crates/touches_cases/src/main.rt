@@ -1,7 +1,12 @@
-// Puts touches down and up again, and writes each call with its answer and the ids that are held after it.
+// Puts touches down and up again, and writes each call with its answer and the ids that are held after it. Each change goes through the method on
+// a record that is lent, and so through the value core behind it.
 use libc::STDOUT_FILENO;
 use touches::DownAnswer;
 use touches::DownTouchIds;
+use touches::Insertion;
+use touches::Removal;
+ghost use mathlib.Core.List.{[]};
+ghost use Rattle.touches.specs.Changes.{Holds, Inserts, Removes};
 
 fn text(s: &[u8]) {
     io::write_all(STDOUT_FILENO, s);
@@ -24,8 +29,33 @@ fn held(d: DownTouchIds) {
     text(b"\n");
 }
 
+// The record is kept in a local, and lent to be changed where it is.
+fn insert(d: DownTouchIds, id: u32) -> Insertion
+    ensures { λ r. ⌜ Inserts id d (r .touches) (r .answer) ⌝ }
+{
+    let mut e = d;
+    let answer = e.insert(id);
+    Insertion { touches: e, answer }
+}
+
+fn remove(d: DownTouchIds, id: u32) -> Removal
+    ensures { λ r. ⌜ Removes id d (r .touches) (r .answer) ⌝ }
+{
+    let mut e = d;
+    let answer = e.remove(id);
+    Removal { touches: e, answer }
+}
+
+fn clear(d: DownTouchIds) -> DownTouchIds
+    ensures { λ r. ⌜ Holds [] r ⌝ }
+{
+    let mut e = d;
+    e.clear();
+    e
+}
+
 fn down(d: DownTouchIds, id: u32) -> DownTouchIds {
-    let r = d.inserted(id);
+    let r = insert(d, id);
     let answer = r.answer;
     text(b"down ");
     decimal(id);
@@ -40,7 +70,7 @@ fn down(d: DownTouchIds, id: u32) -> DownTouchIds {
 }
 
 fn up(d: DownTouchIds, id: u32) -> DownTouchIds {
-    let r = d.removed(id);
+    let r = remove(d, id);
     text(b"up ");
     decimal(id);
     if r.answer {
@@ -82,7 +112,7 @@ fn main() {
     d = up(d, 0);
     d = up(d, 7);
     text(b"clear, ");
-    held(d.cleared());
+    held(clear(d));
     // A count above sixteen counts as sixteen.
     d = DownTouchIds {
         ids: [9; 16],

@@ -1,0 +1,53 @@
+-- `insert` is the walk of Lends.antt over `DownTouchIds::insert`. Assumes nothing.
+use mathlib.Core.Path.{ap}
+use mathlib.Core.List.{[], _∷_}
+use denote.Enum.Laws as EL
+use Rattle.touches.proofs.DownAnswer as E
+use Rattle.touches.proofs.DownAnswer.Laws as E′
+use contract.Running.{givenOf, tables, tablesOf}
+use denote.Steps.{only}
+use denote.Struct.Laws as LL
+use denote.Triple.Spec.{tripleOf}
+use denote.Triple.Table.{entered, cited}
+use Rattle.touches.specs.Changes.{Inserts}
+use Rattle.touches.proofs.Insertion as O
+use Rattle.touches.proofs.Insertion.Laws as O′
+use Rattle.touches.proofs.Lent.{Change}
+use Rattle.touches.proofs.DownTouchIds.inserted.Symbol as core
+use Rattle.touches.proofs.DownTouchIds.insert.Symbol as method
+use Rattle.touches.proofs.DownTouchIds.insert.Met as method-thm
+use Rattle.touches_cases.proofs.Lends.{Pairs, Method, keeps}
+use Rattle.touches_cases.proofs.insert.Key.{name as #insert}
+use Rattle.touches_cases.proofs.insert as insert
+use Rattle.touches_cases.proofs.insert.Statement as stated
+use Rattle.touches_cases.proofs.insert.Code as code
+
+abbrev change : Change
+change = record {
+  Answer = E.the-row;
+  Both = O.the-row;
+  touches = λ r. r .touches;
+  answer = λ r. r .answer;
+  says = Inserts;
+  core = core.name;
+  struct = O.struct .name;
+  type = E′.mir;
+  low-answer = EL.val E.the-type E′.the-laws;
+}
+
+pub insert-spec : {M : Type 1} → stated.statement M
+unfolding code.routine tablesOf
+insert-spec 𝓤 H 𝓜 𝓖 𝓡 =
+    let W = givenOf 𝓤 H 𝓜 𝓖 in
+    let pairs : Pairs change = record {
+      pair = λ e a. record { touches = e; answer = a };
+      told = λ h. h;
+      spelled = λ a w is. ap only (EL.tells E.the-type E′.the-laws a (w ∷ []) is);
+      answer-typed = λ a w is. EL.lawful E.the-type E′.the-laws 𝓤 H (𝓖 .A) W tt .typed a _ is .0;
+      owes = λ e a i j. LL.owes O.the-type O′.the-laws (record { touches = e; answer = a }) (i, (j, tt));
+      both-typed = λ r w is. LL.lawful O.the-type O′.the-laws 𝓤 H (𝓖 .A) W .typed r _ is .0;
+    } in
+    entered 𝓤 H (tripleOf 𝓤 H (𝓖 .A) insert.signature (insert.spec 𝓤 H (𝓖 .A) (𝓜 .mem) (𝓡 .run)))
+    (tables 𝓤 H 𝓜 𝓡 code.env .C) (tables 𝓤 H 𝓜 𝓡 code.env .Λ) #insert code.function (code.unfolded 𝓤 H 𝓜 𝓡)
+    (keeps change method.name 𝓤 H (𝓖 .A) W pairs (LL.makes O.the-type O′.the-plain 𝓤 H (𝓖 .A)) (tablesOf 𝓤 H 𝓜 (tables 𝓤 H 𝓜 𝓡 code.env))
+    (cited 𝓤 H (Method change method.name 𝓤 H (𝓖 .A)) 𝓜 𝓡 code.env method.name method.routine code.calls-touches·DownTouchIds·insert (method-thm.met 𝓤 H 𝓜 𝓖 𝓡)))
