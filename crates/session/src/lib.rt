@@ -105,7 +105,7 @@ pub fn touch_down(control: &mut [u64], k: usize, touch: u32)
     ensures { λ _. ⌜ EnactsControl control (Edit.amend k (Amend.touchDown touch) ∷ []) ⌝ }
 {
     let held = control::edits::down_touch_ids(control, k);
-    let insertion = held.inserted(touch);
+    let insertion = touches::kept::insert(held, touch);
     control::edits::set_down_touch_ids(control, k, insertion.touches);
 }
 
@@ -115,7 +115,7 @@ pub fn touch_up(control: &mut [u64], k: usize, touch: u32)
     ensures { λ _. ⌜ EnactsControl control (Edit.amend k (Amend.touchUp touch) ∷ []) ⌝ }
 {
     let held = control::edits::down_touch_ids(control, k);
-    let removal = held.removed(touch);
+    let removal = touches::kept::remove(held, touch);
     control::edits::set_down_touch_ids(control, k, removal.touches);
 }
 
@@ -124,7 +124,7 @@ pub fn clear_touches(control: &mut [u64], k: usize)
     ensures { λ _. ⌜ EnactsControl control (Edit.amend k Amend.clearTouches ∷ []) ⌝ }
 {
     let held = control::edits::down_touch_ids(control, k);
-    control::edits::set_down_touch_ids(control, k, held.cleared());
+    control::edits::set_down_touch_ids(control, k, touches::kept::clear(held));
 }
 
 // The interface of a capability's bit, which has the id, unlinked.

@@ -2,6 +2,8 @@
 //
 // Each change comes twice: as a function of the record's value (`inserted`, `removed`, `cleared`), and, under the source's names
 // (`insert`, `remove`, `clear`), of a record that is lent and changed where it is.
+pub mod kept;
+
 ghost use mathlib.Core.Path.{_≡_};
 ghost use mathlib.Core.List.{[]};
 ghost use lib.ListN.{length};

@@ -3,10 +3,7 @@
 use libc::STDOUT_FILENO;
 use touches::DownAnswer;
 use touches::DownTouchIds;
-use touches::Insertion;
-use touches::Removal;
-ghost use mathlib.Core.List.{[]};
-ghost use Rattle.touches.specs.Changes.{Holds, Inserts, Removes};
+use touches::kept;
 
 fn text(s: &[u8]) {
     io::write_all(STDOUT_FILENO, s);
@@ -29,33 +26,8 @@ fn held(d: DownTouchIds) {
     text(b"\n");
 }
 
-// The record is kept in a local, and lent to be changed where it is.
-fn insert(d: DownTouchIds, id: u32) -> Insertion
-    ensures { λ r. ⌜ Inserts id d (r .touches) (r .answer) ⌝ }
-{
-    let mut e = d;
-    let answer = e.insert(id);
-    Insertion { touches: e, answer }
-}
-
-fn remove(d: DownTouchIds, id: u32) -> Removal
-    ensures { λ r. ⌜ Removes id d (r .touches) (r .answer) ⌝ }
-{
-    let mut e = d;
-    let answer = e.remove(id);
-    Removal { touches: e, answer }
-}
-
-fn clear(d: DownTouchIds) -> DownTouchIds
-    ensures { λ r. ⌜ Holds [] r ⌝ }
-{
-    let mut e = d;
-    e.clear();
-    e
-}
-
 fn down(d: DownTouchIds, id: u32) -> DownTouchIds {
-    let r = insert(d, id);
+    let r = kept::insert(d, id);
     let answer = r.answer;
     text(b"down ");
     decimal(id);
@@ -70,7 +42,7 @@ fn down(d: DownTouchIds, id: u32) -> DownTouchIds {
 }
 
 fn up(d: DownTouchIds, id: u32) -> DownTouchIds {
-    let r = remove(d, id);
+    let r = kept::remove(d, id);
     text(b"up ");
     decimal(id);
     if r.answer {
@@ -112,7 +84,7 @@ fn main() {
     d = up(d, 0);
     d = up(d, 7);
     text(b"clear, ");
-    held(clear(d));
+    held(kept::clear(d));
     // A count above sixteen counts as sixteen.
     d = DownTouchIds {
         ids: [9; 16],

@@ -36,19 +36,19 @@ use denote.Triple.Clauses.{ensured, lasts}
 use denote.Triple.Table.{entered, cited}
 use denote.Triple.Walked.{says, Stays, stay-none, walkOf, goes-none, ends-at, walked, walk-meets}
 use denote.Exit.{yes}
 use Rattle.touches.specs.declared.DownTouchIds.{DownTouchIds}
 use Rattle.touches.specs.Changes.{Holds}
 use Rattle.touches.proofs.DownTouchIds as T
 use Rattle.touches.proofs.DownTouchIds.Laws as T′
 use Rattle.touches.proofs.DownTouchIds.clear as callee
 use Rattle.touches.proofs.DownTouchIds.clear.Symbol as callee-def
 use Rattle.touches.proofs.DownTouchIds.clear.Met as callee-thm
 use Rattle.touches.proofs.Lent.{R, low}
-use Rattle.touches_cases.proofs.Lends.{lays, lifts}
-use Rattle.touches_cases.proofs.clear.Key.{name as #clear}
-use Rattle.touches_cases.proofs.clear as clear
-use Rattle.touches_cases.proofs.clear.Statement as stated
-use Rattle.touches_cases.proofs.clear.Code as code
+use Rattle.touches.proofs.Lends.{lays, lifts}
+use Rattle.touches.proofs.kept.clear.Key.{name as #clear}
+use Rattle.touches.proofs.kept.clear as clear
+use Rattle.touches.proofs.kept.clear.Statement as stated
+use Rattle.touches.proofs.kept.clear.Code as code
 
 abbrev stayed : Stays (clear.ended .signature .params) (clear.ended .kept)
 stayed = (stay-none (λ _. R) yes, tt)

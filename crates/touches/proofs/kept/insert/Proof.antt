@@ -2,25 +2,25 @@
 use mathlib.Core.Path.{ap}
 use mathlib.Core.List.{[], _∷_}
 use denote.Enum.Laws as EL
 use Rattle.touches.proofs.DownAnswer as E
 use Rattle.touches.proofs.DownAnswer.Laws as E′
 use contract.Running.{givenOf, tables, tablesOf}
 use denote.Steps.{only}
 use denote.Struct.Laws as LL
 use denote.Triple.Spec.{tripleOf}
 use denote.Triple.Table.{entered, cited}
 use Rattle.touches.specs.Changes.{Inserts}
 use Rattle.touches.proofs.Insertion as O
 use Rattle.touches.proofs.Insertion.Laws as O′
 use Rattle.touches.proofs.Lent.{Change}
 use Rattle.touches.proofs.DownTouchIds.inserted.Symbol as core
 use Rattle.touches.proofs.DownTouchIds.insert.Symbol as method
 use Rattle.touches.proofs.DownTouchIds.insert.Met as method-thm
-use Rattle.touches_cases.proofs.Lends.{Pairs, Method, keeps}
-use Rattle.touches_cases.proofs.insert.Key.{name as #insert}
-use Rattle.touches_cases.proofs.insert as insert
-use Rattle.touches_cases.proofs.insert.Statement as stated
-use Rattle.touches_cases.proofs.insert.Code as code
+use Rattle.touches.proofs.Lends.{Pairs, Method, keeps}
+use Rattle.touches.proofs.kept.insert.Key.{name as #insert}
+use Rattle.touches.proofs.kept.insert as insert
+use Rattle.touches.proofs.kept.insert.Statement as stated
+use Rattle.touches.proofs.kept.insert.Code as code
 
 abbrev change : Change
 change = record {

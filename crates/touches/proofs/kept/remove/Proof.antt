@@ -10,18 +10,18 @@ use denote.Steps.{only}
 use denote.Struct.Laws as LL
 use denote.Triple.Spec.{tripleOf}
 use denote.Triple.Table.{entered, cited}
 use Rattle.touches.specs.Changes.{Removes}
 use Rattle.touches.proofs.Removal as O
 use Rattle.touches.proofs.Removal.Laws as O′
 use Rattle.touches.proofs.Lent.{Change}
 use Rattle.touches.proofs.DownTouchIds.removed.Symbol as core
 use Rattle.touches.proofs.DownTouchIds.remove.Symbol as method
 use Rattle.touches.proofs.DownTouchIds.remove.Met as method-thm
-use Rattle.touches_cases.proofs.Lends.{Pairs, Method, keeps}
-use Rattle.touches_cases.proofs.remove.Key.{name as #remove}
-use Rattle.touches_cases.proofs.remove as remove
-use Rattle.touches_cases.proofs.remove.Statement as stated
-use Rattle.touches_cases.proofs.remove.Code as code
+use Rattle.touches.proofs.Lends.{Pairs, Method, keeps}
+use Rattle.touches.proofs.kept.remove.Key.{name as #remove}
+use Rattle.touches.proofs.kept.remove as remove
+use Rattle.touches.proofs.kept.remove.Statement as stated
+use Rattle.touches.proofs.kept.remove.Code as code
 
 abbrev change : Change
 change = record {
