@@ -111,19 +111,20 @@ pub record Makes (run : Run) (call : Station) (is-given : Bool) (text : List ℕ
   pub told : r ≡ answered answer run
 
 -- a client's request: on the session, before it on the handshake, and before `start` no call
-abbrev pub ClientDoes : (finished started : Bool) → Run → (object version : ℕ) → Request → (text : List ℕ) (s e : Store) (out later : List ℕ) → Took → Type 0
-ClientDoes true started run object version request text s e out later r = Handles run object version request text s e out later r
-ClientDoes false true run object version request text s e out later r =
-    Shakes run request text (s .control) (e .control) out later r × (e ≡ store (e .control) (s .words) (s .reals) (s .texts))
-ClientDoes false false run object version request text s e out later r = Still s e out later (noCall Why.Early run) r
+pub record ClientDoes (run : Run) (object version : ℕ) (request : Request) (text : List ℕ) (s e : Store) (out later : List ℕ) (r : Took) : Type 0 where
+  pub session : run .finished ≡ true → Handles run object version request text s e out later r
+  pub handshake : run .finished ≡ false → run .started ≡ true
+      → Shakes run request text (s .control) (e .control) out later r × (e ≡ store (e .control) (s .words) (s .reals) (s .texts))
+  pub early : run .finished ≡ false → run .started ≡ false → Still s e out later (noCall Why.Early run) r
 
-abbrev pub NextDoes : (finished : Bool) → Run → (s e : Store) (out later : List ℕ) → Took → Type 0
-NextDoes true run s e out later r = Delivers run s e out later r
-NextDoes false run s e out later r = Still s e out later (noCall Why.Early run) r
+-- next_request and the station's calls: on the session alone
+pub record NextDoes (run : Run) (s e : Store) (out later : List ℕ) (r : Took) : Type 0 where
+  pub session : run .finished ≡ true → Delivers run s e out later r
+  pub early : run .finished ≡ false → Still s e out later (noCall Why.Early run) r
 
-abbrev pub StationDoes : (finished : Bool) → Run → Station → (is-given : Bool) (text : List ℕ) (s e : Store) (out later : List ℕ) → Took → Type 0
-StationDoes true run call g text s e out later r = Makes run call g text s e out later r
-StationDoes false run call g text s e out later r = Still s e out later (noCall Why.Early run) r
+pub record StationDoes (run : Run) (call : Station) (is-given : Bool) (text : List ℕ) (s e : Store) (out later : List ℕ) (r : Took) : Type 0 where
+  pub session : run .finished ≡ true → Makes run call is-given text s e out later r
+  pub early : run .finished ≡ false → Still s e out later (noCall Why.Early run) r
 
 -- WHAT A LINE DOES, by what it asks for
 abbrev pub Does : Run → Asked → (is-given : Bool) (text : List ℕ) (s e : Store) (out later : List ℕ) → Took → Type 0
@@ -131,9 +132,9 @@ Does run (Asked.Now n) g text s e out later r = Still s e out later (quiet (atCl
 Does run (Asked.Out n) g text s e out later r = Still s e out later (quiet (withOut n run)) r
 Does run (Asked.Buffer n) g text s e out later r = Still s e out later (quiet (withBuffer n run)) r
 Does run (Asked.Start serial) g text s e out later r = Starts run serial out later r × (e ≡ s)
-Does run (Asked.Client object version request) g text s e out later r = ClientDoes (run .finished) (run .started) run object version request text s e out later r
-Does run Asked.NextRequest g text s e out later r = NextDoes (run .finished) run s e out later r
-Does run (Asked.Station call) g text s e out later r = StationDoes (run .finished) run call g text s e out later r
+Does run (Asked.Client object version request) g text s e out later r = ClientDoes run object version request text s e out later r
+Does run Asked.NextRequest g text s e out later r = NextDoes run s e out later r
+Does run (Asked.Station call) g text s e out later r = StationDoes run call g text s e out later r
 
 -- by what it is: a comment does nothing, and one that is no call ends the trail
 abbrev pub LineDoes : Run → (line : List ℕ) → Line → (s e : Store) (out later : List ℕ) → Took → Type 0

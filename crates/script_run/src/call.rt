@@ -242,17 +242,17 @@ fn make(
     words: &mut [u64],
     reals: &mut [f32],
     call: Station,
-    is_given: bool,
+    present: bool,
     text: &[u8],
     out: &mut [u8],
 ) -> Took
-    ensures { λ r. ⌜ ((t : List ℕ) → Makes run call is_given (now (text .entry)) (rowsBefore control words reals t) (rowsAfter control words reals t) (now (out .entry)) (now (out .exit)) r) ⌝ }
+    ensures { λ r. ⌜ ((t : List ℕ) → Makes run call present (now (text .entry)) (rowsBefore control words reals t) (rowsAfter control words reals t) (now (out .entry)) (now (out .exit)) r) ⌝ }
 {
-    let a = script_session::make(control, words, reals, call, is_given, text, run.out, out);
+    let a = script_session::make(control, words, reals, call, present, text, run.out, out);
     answered(run, a)
 }
 
-// What a line asks for; `is_given` tells whether its text is.
+// What a line asks for; `present` tells whether its text is.
 fn carry_out(
     run: Run,
     control: &mut [u64],
@@ -260,11 +260,11 @@ fn carry_out(
     reals: &mut [f32],
     texts: &mut [u8],
     asked: Asked,
-    is_given: bool,
+    present: bool,
     text: &[u8],
     out: &mut [u8],
 ) -> Took
-    ensures { λ r. ⌜ Does run asked is_given (now (text .entry)) (before control words reals texts) (after control words reals texts) (now (out .entry)) (now (out .exit)) r ⌝ }
+    ensures { λ r. ⌜ Does run asked present (now (text .entry)) (before control words reals texts) (after control words reals texts) (now (out .entry)) (now (out .exit)) r ⌝ }
 {
     match asked {
         Asked::Now(n) => at_clock(run, n),
@@ -303,7 +303,7 @@ fn carry_out(
         }
         Asked::Station(call) => {
             if run.finished {
-                return make(run, control, words, reals, call, is_given, text, out);
+                return make(run, control, words, reals, call, present, text, out);
             }
             no_call(run, Why::Early)
         }
@@ -356,12 +356,13 @@ fn carry_in(
     texts: &mut [u8],
     line: &[u8],
     asked: Asked,
-    is_given: bool,
+    present: bool,
     t: Text,
     buf: &mut [u8],
     out: &mut [u8],
 ) -> Took
-    ensures { λ r. ⌜ Does run asked is_given (take (length (now (buf .entry))) (textBytes (now (line .entry)) t)) (before control words reals texts) (after control words reals texts) (now (out .entry)) (now (out .exit)) r ⌝ }
+    requires { ⌜ length (now buf) ≡ 32768 ⌝ }
+    ensures { λ r. ⌜ Does run asked present (take 32768 (textBytes (now (line .entry)) t)) (before control words reals texts) (after control words reals texts) (now (out .entry)) (now (out .exit)) r ⌝ }
 {
     let from: usize = 0;
     let n = script::text_into(line, t, buf);
@@ -372,7 +373,7 @@ fn carry_in(
         reals,
         texts,
         asked,
-        is_given,
+        present,
         &buf[from..n],
         out,
     )
