@@ -49,6 +49,9 @@ put-one line at b h = record { stored = refl; next = omega arith }
 pub put-full : (line : List ℕ) (at : ℕ) (xs : List ℕ) → length line ≤ at → Put line line at at xs
 put-full line at xs h = record { stored = sym (sets-out line at xs h); next = omega arith }
 
+pub put-is : {line later : List ℕ} {at r : ℕ} {xs ys : List ℕ} → Put line later at r xs → xs ≡ ys → Put line later at r ys
+put-is p e = rw e at p
+
 -- ---- in a loop: whatever puts the rest from here on puts the whole from the start on
 
 abbrev pub Rest : (line : List ℕ) (at : ℕ) (whole now : List ℕ) (next : ℕ) (rest : List ℕ) → Type 0
@@ -62,6 +65,9 @@ rest-on k e p later r q = k later r (rw e (put-then p q))
 
 pub rest-end : {line now : List ℕ} {at next : ℕ} {whole rest : List ℕ} → Rest line at whole now next rest → rest ≡ [] → Put line now at next whole
 rest-end {now = now} {next = next} k e = k now next (rw e (put-none now next))
+
+pub drop-on : (s : List ℕ) (i : ℕ) → i < length s → drop i s ≡ (getD s i 0 ∷ []) ++ drop (i + 1) s
+drop-on s i h = rw (add-one, drop-cons s i 0)
 
 -- what is left of a list's bytes at a place, and at its end
 pub each-on : (f : ℕ → List ℕ) (s : List ℕ) (i : ℕ) → i < length s → each f (drop i s) ≡ f (getD s i 0) ++ each f (drop (i + 1) s)
