@@ -46,10 +46,10 @@ fn interface(line: &mut [u8], at: usize, n: u64) -> usize
         return at;
     }
     let number = n as u8;
-    let length = eiproto_eis::name_len(number);
+    let count = eiproto_eis::name_len(number);
     let mut next = at;
     let mut i: usize = 0;
-    while i < length {
+    while i < count {
         next = put::byte(line, next, eiproto_eis::name_byte(number, i));
         i += 1;
     }
