@@ -39,14 +39,9 @@ pub fn request_of(verb: Verb, args: Args) -> HandshakeMessage {
 
 // The answer of a call, whose records begin `out`.
 fn write(a: HandshakeAnswer, out: &[u8], explained: bool) {
-    let outcome = a.outcome;
-    if let HandshakeOutcome::Refused(e) = outcome {
-        script_show::text(b"refused ");
-        script_show::decimal(e.number() as u64);
-    } else {
-        script_show::text(b"accepted");
-    }
-    script_show::records::write(out, a.count, explained);
+    let mut line = [0u8; 65536];
+    let n = script_show::handshake_answer(&mut line, a, out, explained);
+    script_session::write(&line, n);
 }
 
 pub fn is_finished(a: HandshakeAnswer) -> bool {

@@ -45,9 +45,9 @@ pub fn new_run(explained: bool) -> Run {
 
 // The trail ends: the line is no call, or comes where no such call can be made.
 fn end(run: Run) -> Run {
-    script_show::text(b"error line ");
-    script_show::decimal(run.line);
-    script_show::text(b"\n");
+    let mut line = [0u8; 64];
+    let n = script_show::error_line(&mut line, run.line);
+    script_session::write(&line, n);
     let mut ended = run;
     ended.ended = true;
     ended
@@ -168,6 +168,15 @@ fn call_in(
     run
 }
 
+// Explained, a call stands before its answer. A byte of its line is at most four in letters.
+fn show(run: Run, line: &[u8]) {
+    if run.settings.explained {
+        let mut shown = [0u8; 262147];
+        let n = script_show::call_line(&mut shown, line);
+        script_session::write(&shown, n);
+    }
+}
+
 // A text is at most half as long as its line.
 fn call(
     run: Run,
@@ -179,6 +188,7 @@ fn call(
     verb: Verb,
     args: Args,
 ) -> Run {
+    show(run, line);
     let first = args.a;
     if let Verb::Start = verb {
         return start(run, script::u32_of(first));

@@ -2,6 +2,7 @@
 mod answer;
 mod line;
 
+pub use answer::write;
 pub use line::Settings;
 pub use line::room;
 pub use line::take;

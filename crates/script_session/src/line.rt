@@ -77,13 +77,13 @@ fn next(
     words: &[u64],
     reals: &[f32],
     texts: &[u8],
-    buffer: u64,
+    settings: Settings,
     out: &mut [u8],
 ) {
     let from: usize = 0;
-    let n = room(buffer, out.len());
+    let n = room(settings.buffer, out.len());
     let given = converter::request::next_request(control, words, reals, texts, &mut out[from..n]);
-    answer::write_next(given, out);
+    answer::write_next(given, out, settings.explained);
 }
 
 fn take_in(
@@ -99,7 +99,7 @@ fn take_in(
     out: &mut [u8],
 ) {
     if let Verb::NextRequest = verb {
-        return next(control, words, reals, texts, settings.buffer, out);
+        return next(control, words, reals, texts, settings, out);
     }
     let from: usize = 0;
     let n = room(settings.out, out.len());
@@ -115,7 +115,7 @@ fn take_in(
         settings.clock,
         &mut out[from..n],
     );
-    answer::write(a, out, settings.explained);
+    answer::write_answer(a, out, settings.explained);
 }
 
 // Makes the call of a line and writes what it is answered. `given` tells whether the line has a text.
