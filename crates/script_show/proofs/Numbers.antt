@@ -23,7 +23,7 @@ use Rattle.answers.specs.declared.Error.{Error}
 use Rattle.handshake.specs.View.{number}
 use Rattle.handshake.specs.declared.handshake.HandshakeError.{HandshakeError}
 use Rattle.model.specs.Plan.{Result}
-use Rattle.script_show.specs.Words.{amountNumber}
+use Rattle.script_pattern.specs.Words.{amountNumber}
 
 -- ---- a real that equals itself is no NaN, and any other does
 

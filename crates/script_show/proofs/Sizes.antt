@@ -1,7 +1,7 @@
 -- Records, one behind another. Assumes nothing.
 use Prim.Native.Nat.{ℕ, zero, suc, _+_, _-_, _*_, _%_, _≤_, _<_}
 use mathlib.Core.Path.{_≡_, refl, sym, ap, _∙_}
-use mathlib.Core.Bool.{Bool, true, false, cond, _&&_, false≢true}
+use mathlib.Core.Bool.{Bool, true, false, cond, _&&_}
 use mathlib.Core.List.{List, [], _∷_, _++_}
 use mathlib.Core.Logic.{dite}
 use native.Mathlib.Decide.{decLe}
@@ -11,6 +11,7 @@ use lib.Dec.{leb, ltb}
 use lib.ListN.{length, getD, take, drop, length-drop, drop-of-length-le}
 use lib.Seq.{drop-drop, take-all}
 use Rattle.eiproto.specs.Interface.{ascii}
+use Rattle.script_pattern.proofs.Patterns.{both}
 use Rattle.script_show.specs.Records.{sizeWithin, recordSize, eachFrom, eachRecord, sizes, recordBytes, trail}
 
 -- a part of a list that ends where the list does
@@ -79,10 +80,6 @@ trail-some (b ∷ bs) h = refl
 abbrev small : List ℕ → Bool
 small [] = true
 small (x ∷ xs) = leb x 8 && small xs
-
-both : (a b : Bool) → a && b ≡ true → (a ≡ true) × (b ≡ true)
-both true b e = (refl, e)
-both false b e = absurd (false≢true e)
 
 small-at : (l : List ℕ) → small l ≡ true → (i : ℕ) → getD l i 0 ≤ 8
 small-at [] t i = omega arith

@@ -11,11 +11,11 @@ use Rattle.handshake.specs.declared.handshake.HandshakeAnswer.{HandshakeAnswer}
 use Rattle.handshake.specs.declared.handshake.HandshakeOutcome.{HandshakeOutcome}
 use Rattle.model.specs.Plan.{Result}
 use Rattle.requests.specs.Request.{textLength}
-use Rattle.script_show.specs.Pattern.{firstOutcome, firstRefusal, firstLine, bytesOf}
-use Rattle.script_show.specs.Words.{truthNumber}
-use Rattle.script_show.specs.Request.{shown, delivered}
+use Rattle.script_pattern.specs.Pattern.{firstOutcome, firstRefusal, firstLine, shown, bytesOf}
+use Rattle.script_pattern.specs.Words.{truthNumber}
+use Rattle.script_show.specs.Request.{delivered}
 use Rattle.script_show.specs.Records.{eachRecord, recordBytes, trail}
-use Rattle.script_show.specs.declared.table.Shown.{Shown}
+use Rattle.script_pattern.specs.declared.table.Shown.{Shown}
 
 -- how a call ends: a refusal by its number, explained with its name behind it; 2 has the interface and the version
 abbrev pub result : (explained : Bool) → Result → Shown
@@ -50,12 +50,21 @@ unfoldable pub handshakeLine : HandshakeAnswer → (out : List ℕ) → (explain
 unfolding lineOf
 handshakeLine a out x = lineOf (handshakeOutcome x (a .outcome)) (take (a .count) out) x
 
--- WHAT next_request GIVES; a text begins the buffer
+-- what next_request gives, and how many bytes its text has
+abbrev pub nextShown : (explained : Bool) → NextRequest → Shown
+nextShown x (NextRequest.Given r) = delivered x r
+nextShown x NextRequest.None = result x Result.none
+nextShown x (NextRequest.Refused e) = result x (errorOf e)
+
+abbrev pub nextLength : NextRequest → ℕ
+nextLength (NextRequest.Given r) = textLength r
+nextLength NextRequest.None = 0
+nextLength (NextRequest.Refused e) = 0
+
+-- WHAT next_request IS ANSWERED; a text begins the buffer
 unfoldable pub nextLine : NextRequest → (buffer : List ℕ) → (explained : Bool) → List ℕ
 unfolding bytesOf
-nextLine (NextRequest.Given r) buffer x = bytesOf (delivered x r) (take (textLength r) buffer) ++ (0x0a ∷ [])
-nextLine NextRequest.None buffer x = bytesOf (result x Result.none) [] ++ (0x0a ∷ [])
-nextLine (NextRequest.Refused e) buffer x = bytesOf (result x (errorOf e)) [] ++ (0x0a ∷ [])
+nextLine n buffer x = bytesOf (nextShown x n) (take (nextLength n) buffer) ++ (0x0a ∷ [])
 
 -- a line that is no call
 unfoldable pub errorLine : (number : ℕ) → List ℕ

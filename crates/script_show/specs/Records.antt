@@ -5,10 +5,9 @@ use mathlib.Core.List.{List, [], _∷_, _++_}
 use lib.Dec.{eqb, ltb}
 use lib.ListN.{getD, length, take, drop}
 use Rattle.eiproto.specs.Interface.{ascii}
-use Rattle.script_show.specs.Digits.{hexadecimal}
-use Rattle.script_show.specs.Pattern.{firstRecord, firstLine, bytesOf}
-use Rattle.script_show.specs.Request.{shown}
-use Rattle.script_show.specs.declared.table.Shown.{Shown}
+use Rattle.script_pattern.specs.Digits.{hexadecimal}
+use Rattle.script_pattern.specs.Pattern.{firstRecord, firstLine, shown, bytesOf}
+use Rattle.script_pattern.specs.declared.table.Shown.{Shown}
 
 -- ---- one record behind another
 

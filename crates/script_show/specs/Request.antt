@@ -4,12 +4,9 @@ use mathlib.Core.Bool.{Bool, cond}
 use Rattle.eiproto.specs.Enum.{buttonStateNumber, keyStateNumber}
 use Rattle.requests.specs.declared.request.EisRequest.{EisRequest}
 use Rattle.requests.specs.declared.request.EisRequest.the-variants.{Disconnect, Bind, DeviceClosed, RequestDevice, Frame, Ready, DeviceStartEmulating, DeviceStopEmulating, PointerMotion, PointerMotionAbsolute, Button, ScrollDelta, ScrollStop, ScrollCancel, ScrollDiscrete, KeyboardKey, TouchDown, TouchUp, TouchMotion, TouchCancel, TextKeysym, TextUtf8}
-use Rattle.script_show.specs.Words.{realNumber, amountNumber, truthNumber}
-use Rattle.script_show.specs.declared.table.Shown.{Shown}
-
--- a pattern's number and up to five values
-abbrev pub shown : (pattern a b c d e : ℕ) → Shown
-shown p a b c d e = record { pattern = p; a = a; b = b; c = c; d = d; e = e }
+use Rattle.script_pattern.specs.Words.{realNumber, amountNumber, truthNumber}
+use Rattle.script_pattern.specs.Pattern.{shown}
+use Rattle.script_pattern.specs.declared.table.Shown.{Shown}
 
 -- the pattern of the request's kind, and the fields in their order
 abbrev pub delivered : (explained : Bool) → EisRequest → Shown

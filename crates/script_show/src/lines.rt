@@ -1,16 +1,15 @@
 // The lines of a trail.
-use crate::put;
 use crate::records;
 use crate::request;
-use crate::table;
-use crate::table::Shown;
 use answers::Answer;
 use answers::Error;
 use answers::Outcome;
 use converter::request::NextRequest;
 use handshake::handshake::HandshakeAnswer;
 use handshake::handshake::HandshakeOutcome;
-use requests::request::EisRequest;
+use script_pattern::put;
+use script_pattern::table;
+use script_pattern::table::Shown;
 ghost use mathlib.Core.List.{[], _∷_, _++_};
 ghost use mathlib.Core.Path.{_≡_};
 ghost use mathlib.Core.Bool.{cond};
@@ -18,12 +17,10 @@ ghost use Prim.Native.Nat.{_≤_};
 ghost use lib.ListN.{take};
 ghost use Rattle.answers.specs.Answer.{errorOf, outcomeOf};
 ghost use Rattle.model.specs.Plan.{Result};
-ghost use Rattle.requests.specs.Request.{textLength};
-ghost use Rattle.script_show.specs.Put.{Puts};
-ghost use Rattle.script_show.specs.Pattern.{bytesOf};
-ghost use Rattle.script_show.specs.Request.{delivered};
+ghost use Rattle.script_pattern.specs.Put.{Puts};
+ghost use Rattle.script_pattern.specs.Pattern.{bytesOf};
 ghost use Rattle.script_show.specs.Answer.{result, handshakeOutcome, lineOf};
-ghost use Rattle.script_show.specs.Answer.{answerLine, handshakeLine, nextLine, errorLine, callLine};
+ghost use Rattle.script_show.specs.Answer.{answerLine, handshakeLine, nextShown, nextLength, nextLine, errorLine, callLine};
 
 // A refusal by its number, or with its name too.
 fn refusal(number: u32, explained: bool) -> Shown
@@ -136,26 +133,42 @@ pub fn handshake_answer(line: &mut [u8], a: HandshakeAnswer, out: &[u8], explain
     )
 }
 
-// A delivered request, whose text begins the buffer.
-fn given(line: &mut [u8], r: EisRequest, buffer: &[u8], explained: bool) -> usize
-    ensures { λ n. ⌜ Puts line 0 n (bytesOf (delivered explained r) (take (textLength r) (now (buffer .entry))) ++ (0x0a ∷ [])) ⌝ }
+// The same of the first n bytes of a text.
+fn ended_first(line: &mut [u8], s: Shown, n: usize, text: &[u8]) -> usize
+    ensures { λ r. ⌜ Puts line 0 r (bytesOf s (take n (now (text .entry))) ++ (0x0a ∷ [])) ⌝ }
 {
-    let length = r.text_length() as usize;
-    if length <= buffer.len() {
-        return ended(line, request::delivered(r, explained), &buffer[..length]);
+    if n <= text.len() {
+        return ended(line, s, &text[..n]);
     }
-    ended(line, request::delivered(r, explained), buffer)
+    ended(line, s, text)
+}
+
+fn next_shown(next: NextRequest, explained: bool) -> Shown
+    ensures { λ r. ⌜ r ≡ nextShown explained next ⌝ }
+{
+    match next {
+        NextRequest::Given(r) => request::delivered(r, explained),
+        NextRequest::None => table::single(table::OUTCOME + 5, 0),
+        NextRequest::Refused(e) => refused(e, explained),
+    }
+}
+
+// How many bytes its text has.
+fn next_length(next: NextRequest) -> usize
+    ensures { λ r. ⌜ r ≡ nextLength next ⌝ }
+{
+    match next {
+        NextRequest::Given(r) => r.text_length() as usize,
+        NextRequest::None => 0,
+        NextRequest::Refused(_) => 0,
+    }
 }
 
 // What next_request gives. A text begins the buffer.
 pub fn next(line: &mut [u8], next: NextRequest, buffer: &[u8], explained: bool) -> usize
     ensures { λ r. ⌜ Puts line 0 r (nextLine next (now (buffer .entry)) explained) ⌝ }
 {
-    match next {
-        NextRequest::Given(r) => given(line, r, buffer, explained),
-        NextRequest::None => ended(line, table::single(table::OUTCOME + 5, 0), b""),
-        NextRequest::Refused(e) => ended(line, refused(e, explained), b""),
-    }
+    ended_first(line, next_shown(next, explained), next_length(next), buffer)
 }
 
 // That a line is no call, or comes where no such call can be made.

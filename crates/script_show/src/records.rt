@@ -1,15 +1,15 @@
 // Event records: in hexadecimal as a trail has them, and in words.
-use crate::put;
-use crate::table;
-use crate::table::Shown;
+use script_pattern::put;
+use script_pattern::table;
+use script_pattern::table::Shown;
 ghost use mathlib.Core.List.{[]};
 ghost use mathlib.Core.Path.{_≡_};
 ghost use Prim.Native.Nat.{_+_, _*_, _%_, _<_, _≤_};
 ghost use lib.ListN.{length, drop, getD};
-ghost use Rattle.script_show.specs.Put.{Puts};
+ghost use Rattle.script_pattern.specs.Put.{Puts};
 ghost use Rattle.script_show.specs.Records.{recordSize, sizeWithin, eachRecord, one, four, numberAt, sizes, kindOf};
 ghost use Rattle.script_show.specs.Records.{textStart, recordShown, objectShown, recordBytes, trail};
-ghost use Rattle.script_show.specs.Pattern.{bytesOf};
+ghost use Rattle.script_pattern.specs.Pattern.{bytesOf};
 
 // How many bytes a record has: what its header says, or all where that is 0 or more.
 fn size_within(said: usize, all: usize) -> usize

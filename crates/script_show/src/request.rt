@@ -1,12 +1,13 @@
 // A delivered request as what is shown of it: the pattern of its kind, and its fields in the order of the crate's struct.
-use crate::table::Shown;
 use eiproto::eiproto_enum::ButtonState;
 use eiproto::eiproto_enum::KeyState;
 use requests::request::EisRequest;
+use script_pattern::table::Shown;
 ghost use mathlib.Core.Path.{_≡_};
 ghost use mathlib.Core.Bool.{cond};
-ghost use Rattle.script_show.specs.Words.{realNumber, amountNumber, truthNumber};
-ghost use Rattle.script_show.specs.Request.{shown, delivered};
+ghost use Rattle.script_pattern.specs.Pattern.{shown};
+ghost use Rattle.script_pattern.specs.Words.{realNumber, amountNumber, truthNumber};
+ghost use Rattle.script_show.specs.Request.{delivered};
 
 // A real, a signed amount and a truth as numbers.
 fn real_number(x: f32) -> u64

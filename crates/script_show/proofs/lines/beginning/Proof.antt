@@ -5,7 +5,7 @@ use mathlib.Core.Path.{sym, ap}
 use native.Mathlib.Omega.{arith}
 use lib.Seq.{take-all, length-take-le}
 use Rattle.script_show.specs.Answer.{lineOf}
-use Rattle.script_show.proofs.Puts.{put-is}
+use Rattle.script_pattern.proofs.Puts.{put-is}
 use borrow.Author.Needs.{needs}
 use Rattle.script_show.proofs.lines.beginning.Statement.{statement}
 use Rattle.script_show.proofs.lines.beginning.Tie as tie

@@ -1,5 +1,5 @@
 -- What is shown, and the end of the line behind it. Assumes nothing.
-use Rattle.script_show.proofs.Puts.{put-then}
+use Rattle.script_pattern.proofs.Puts.{put-then}
 use borrow.Author.Needs.{needs}
 use Rattle.script_show.proofs.lines.ended.Statement.{statement}
 use Rattle.script_show.proofs.lines.ended.Tie as tie

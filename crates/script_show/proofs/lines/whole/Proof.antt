@@ -1,6 +1,6 @@
 -- The outcome, the records and the end of the line, one behind the other; then the records in words. Assumes nothing.
 use Rattle.script_show.specs.Answer.{lineOf}
-use Rattle.script_show.proofs.Puts.{put-then, put-is}
+use Rattle.script_pattern.proofs.Puts.{put-then, put-is}
 use borrow.Author.Needs.{needs}
 use Rattle.script_show.proofs.lines.whole.Statement.{statement}
 use Rattle.script_show.proofs.lines.whole.Tie as tie

@@ -5,7 +5,7 @@ use mathlib.Core.Path.{_≡_, refl, sym, ap, _∙_}
 use native.Mathlib.Omega.{arith}
 use lib.ListN.{length, drop, take, length-drop}
 use Rattle.script_show.specs.Records.{recordSize, eachRecord, recordBytes}
-use Rattle.script_show.proofs.Puts.{Rest, rest-start, rest-on, rest-end, put-length}
+use Rattle.script_pattern.proofs.Puts.{Rest, rest-start, rest-on, rest-end, put-length}
 use Rattle.script_show.proofs.Sizes.{part-all, size-bounds, records-on, records-end}
 use borrow.Author.Needs.{needs}
 use Rattle.script_show.proofs.records.each.Statement.{statement}

@@ -1,6 +1,6 @@
 -- In words the object, what the record says and the end of the line; or its digits behind a space. Assumes nothing.
 use Rattle.script_show.specs.Records.{recordBytes}
-use Rattle.script_show.proofs.Puts.{put-then, put-is}
+use Rattle.script_pattern.proofs.Puts.{put-then, put-is}
 use borrow.Author.Needs.{needs}
 use Rattle.script_show.proofs.records.tell.Statement.{statement}
 use Rattle.script_show.proofs.records.tell.Tie as tie

@@ -4,9 +4,9 @@ use mathlib.Core.List.{List, []}
 use mathlib.Core.Path.{_≡_, sym, ap, _∙_}
 use native.Mathlib.Omega.{arith}
 use lib.ListN.{length, drop, drop-of-length-le}
-use Rattle.script_show.specs.Pattern.{bytesOf}
+use Rattle.script_pattern.specs.Pattern.{bytesOf}
 use Rattle.script_show.specs.Records.{textStart, recordShown}
-use Rattle.script_show.proofs.Puts.{put-is}
+use Rattle.script_pattern.proofs.Puts.{put-is}
 use Rattle.script_show.proofs.Sizes.{part-all}
 use borrow.Author.Needs.{needs}
 use Rattle.script_show.proofs.records.text_shown.Statement.{statement}

@@ -1,6 +1,6 @@
 -- Nothing, or a bar and each record. Assumes nothing.
 use Rattle.eiproto.specs.Interface.{ascii}
-use Rattle.script_show.proofs.Puts.{put-then, put-is, put-none}
+use Rattle.script_pattern.proofs.Puts.{put-then, put-is, put-none}
 use Rattle.script_show.proofs.Sizes.{trail-none, trail-some}
 use borrow.Author.Needs.{needs}
 use Rattle.script_show.proofs.records.trail.Statement.{statement}

@@ -3,7 +3,7 @@ use Prim.Native.Nat.{_<_}
 use native.Mathlib.Omega.{arith}
 use lib.Ieee.{binary32, toBits}
 use lib.Ieee.Bits.{toBits-lt}
-use Rattle.script_show.specs.Words.{realNumber}
+use Rattle.script_pattern.specs.Words.{realNumber}
 use Rattle.script_show.proofs.Numbers.{no-nan, a-nan, not-nan}
 use borrow.Author.Needs.{needs}
 use Rattle.script_show.proofs.request.real_number.Statement.{statement}
