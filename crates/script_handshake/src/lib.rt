@@ -5,100 +5,93 @@ use handshake::handshake::EisHandshaker;
 use handshake::handshake::HandshakeAnswer;
 use handshake::handshake::HandshakeMessage;
 use handshake::handshake::HandshakeOutcome;
-use script::Args;
-use script::Value;
-use script::Verb;
-use script_session::Settings;
+use requests::eis::HandshakeRequest;
+use requests::eis::Request;
+ghost use mathlib.Core.Path.{_≡_};
+ghost use Rattle.handshake.specs.View.{isFinished};
+ghost use Rattle.script_handshake.specs.Shaken.{contextType, handshakeMessage, messageOf, StartsIn, HandledIn, Opens};
 
-// A context type, as a script has it: 1 or 2.
-fn context_of(v: Value) -> ContextType {
-    match ContextType::parse(script::u32_of(v)) {
+// A context type. A line that has another number there is no call.
+fn context_of(n: u32) -> ContextType
+    ensures { λ r. ⌜ r ≡ contextType n ⌝ }
+{
+    match ContextType::parse(n) {
         ContextTypeOf::Case(context) => context,
         ContextTypeOf::InvalidVariant(_) => ContextType::Receiver,
     }
 }
 
-// What a client's line is to the handshake.
-pub fn request_of(verb: Verb, args: Args) -> HandshakeMessage {
-    let a = args.a;
-    let b = args.b;
-    let context = context_of(a);
-    match verb {
-        Verb::HandshakeHandshakeVersion => HandshakeMessage::HandshakeVersion {
-            version: script::u32_of(a),
+fn handshake_message(request: HandshakeRequest) -> HandshakeMessage
+    ensures { λ r. ⌜ r ≡ handshakeMessage request ⌝ }
+{
+    match request {
+        HandshakeRequest::HandshakeVersion { version } => HandshakeMessage::HandshakeVersion {
+            version,
         },
-        Verb::HandshakeName => HandshakeMessage::Name,
-        Verb::HandshakeContextType => HandshakeMessage::ContextType { context },
-        Verb::HandshakeInterfaceVersion => HandshakeMessage::InterfaceVersion {
-            version: script::u32_of(b),
+        HandshakeRequest::Finish => HandshakeMessage::Finish,
+        HandshakeRequest::ContextType { context_type } => HandshakeMessage::ContextType {
+            context: context_of(context_type),
         },
-        Verb::HandshakeFinish => HandshakeMessage::Finish,
-        _ => HandshakeMessage::Other,
+        HandshakeRequest::Name => HandshakeMessage::Name,
+        HandshakeRequest::InterfaceVersion { version } => HandshakeMessage::InterfaceVersion {
+            version,
+        },
     }
 }
 
-// The answer of a call, whose records begin `out`.
-fn write(a: HandshakeAnswer, out: &[u8], explained: bool) {
+// What a client's request is to the handshake.
+pub fn message_of(request: Request) -> HandshakeMessage
+    ensures { λ r. ⌜ r ≡ messageOf request ⌝ }
+{
+    match request {
+        Request::Handshake(r) => handshake_message(r),
+        Request::Connection(_) => HandshakeMessage::Other,
+        Request::PingpongDone => HandshakeMessage::Other,
+        Request::Seat(_) => HandshakeMessage::Other,
+        Request::Device(_) => HandshakeMessage::Other,
+        Request::Interface(_) => HandshakeMessage::Other,
+    }
+}
+
+pub fn is_finished(a: HandshakeAnswer) -> bool
+    ensures { λ r. ⌜ r ≡ isFinished (a .outcome) ⌝ }
+{
     let outcome = a.outcome;
-    if let HandshakeOutcome::Refused(e) = outcome {
-        script_show::text(b"refused ");
-        script_show::decimal(e.number() as u64);
-    } else {
-        script_show::text(b"accepted");
-    }
-    script_show::records::write(out, a.count, explained);
-}
-
-pub fn is_finished(a: HandshakeAnswer) -> bool {
-    let outcome = a.outcome;
-    if let HandshakeOutcome::Finished = outcome {
-        true
-    } else {
-        false
+    match outcome {
+        HandshakeOutcome::Accepted => false,
+        HandshakeOutcome::Finished => true,
+        HandshakeOutcome::Refused(_) => false,
     }
 }
 
-fn start_in(settings: Settings, serial: u32, out: &mut [u8]) -> HandshakeAnswer {
+// A fresh handshake, lent so much of `out` as the script says.
+pub fn start(serial: u32, said: u64, out: &mut [u8]) -> HandshakeAnswer
+    ensures { λ r. ⌜ StartsIn serial said out r ⌝ }
+{
     let from: usize = 0;
-    let n = script_session::room(settings.out, out.len());
-    let a = EisHandshaker::new(serial, &mut out[from..n]);
-    write(a, out, settings.explained);
-    a
-}
-
-// A fresh handshake.
-pub fn start(settings: Settings, serial: u32) -> HandshakeAnswer {
-    let mut out = [0u8; 4096];
-    start_in(settings, serial, &mut out)
-}
-
-fn take_in(
-    settings: Settings,
-    h: EisHandshaker,
-    request: HandshakeMessage,
-    text: &[u8],
-    out: &mut [u8],
-) -> HandshakeAnswer {
-    let from: usize = 0;
-    let n = script_session::room(settings.out, out.len());
-    let a = h.handle_request(request, text, &mut out[from..n]);
-    write(a, out, settings.explained);
-    a
+    let n = script_session::room(said, out.len());
+    EisHandshaker::new(serial, &mut out[from..n])
 }
 
 // A request of the handshake.
 pub fn take(
-    settings: Settings,
     h: EisHandshaker,
     request: HandshakeMessage,
     text: &[u8],
-) -> HandshakeAnswer {
-    let mut out = [0u8; 4096];
-    take_in(settings, h, request, text, &mut out)
+    said: u64,
+    out: &mut [u8],
+) -> HandshakeAnswer
+    ensures { λ r. ⌜ HandledIn h request text said out r ⌝ }
+{
+    let from: usize = 0;
+    let n = script_session::room(said, out.len());
+    h.handle_request(request, text, &mut out[from..n])
 }
 
 // The session begins where the handshake ends.
-pub fn open(control: &mut [u64], a: HandshakeAnswer) {
+pub fn open(control: &mut [u64], a: HandshakeAnswer)
+    ensures { λ _. ⌜ Opens (now (control .entry)) (now (control .exit)) a ⌝ }
+{
     if is_finished(a) {
         let response = a.response;
         converter::request::new(control, response);

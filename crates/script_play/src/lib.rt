@@ -1,13 +1,29 @@
-// A whole call script: its lines taken from standard input, one behind the other, and its trail written.
+// A whole call script: its lines taken from a file, one behind the other, and its trail written on standard output.
+//
+// What is proved of a line, once it stands in the buffer: `script_run::take` has it (what it does is `Takes` of script_run/specs), and the bytes that are
+// written for it are those of `trailOf` of script_trail/specs. What is not: that the buffer holds what the file has and the file's lines come here each
+// once and in order, since no contract can say what is read or written; and the reason on standard error, which is no part of the trail.
 mod lines;
+mod told;
 
 use control::CONTROL_LENGTH;
 use session::REALS_LENGTH;
 use session::TEXTS_LENGTH;
 use session::WORDS_LENGTH;
 
-// Plays the script on standard input; with `explained` each event record is written in words behind its call.
-pub fn play(explained: bool) {
+// How a script ends.
+pub enum End {
+    // With its last line.
+    Played,
+    // With a line that is no call, or comes where no such call can be made: standard error has the reason.
+    Wrong,
+    // The file cannot be read, or the trail cannot be written: `errno` says why.
+    Unread,
+    Unwritten,
+}
+
+// Plays the script that is read from a file; with `explained` in words too.
+pub fn play(fd: i32, explained: bool) -> End {
     // A line of 65,536 bytes and a newline.
     let mut buf = [0u8; 65537];
     // The slices of the session.
@@ -16,11 +32,13 @@ pub fn play(explained: bool) {
     let mut reals = [0.0f32; REALS_LENGTH];
     let mut texts = [0u8; TEXTS_LENGTH];
     lines::read_all(
+        fd,
+        explained,
         &mut buf,
-        script_run::new_run(explained),
+        script_run::new_run(),
         &mut control,
         &mut words,
         &mut reals,
         &mut texts,
-    );
+    )
 }

@@ -1,14 +1,16 @@
-// Standard input in pieces, line by line. A line of more than 65,536 bytes is no call.
-use libc::STDIN_FILENO;
+// A file in pieces, line by line. A line of more than 65,536 bytes is no call.
+use crate::End;
+use crate::told;
 use script::LineEnd;
 use script_run::Run;
 ghost use Prim.Native.Nat.{_≤_, _<_};
 ghost use lib.ListN.{length};
 
-// How much of the buffer is filled, and whether the input has ended.
+// How much of the buffer is filled, whether the input has ended, and whether it cannot be read.
 struct Filled {
     filled: usize,
     last: bool,
+    failed: bool,
 }
 
 // Whether a line ends in what is filled, where, and where the next begins.
@@ -18,11 +20,17 @@ struct Ended {
     next: usize,
 }
 
+// What the lines have come to, and whether the trail could be written.
+struct Play {
+    run: Run,
+    wrote: bool,
+}
+
 // Where the line begins that has not ended, whether its first bytes are gone, and what the lines before it have come to.
 struct Begun {
     at: usize,
     cut: bool,
-    run: Run,
+    play: Play,
 }
 
 // How much of the buffer is filled with a line that has not ended, and whether its first bytes are gone.
@@ -35,24 +43,46 @@ struct Kept {
 struct Progress {
     filled: usize,
     cut: bool,
-    more: bool,
-    run: Run,
+    play: Play,
+    last: bool,
+    failed: bool,
 }
 
 // Reads once, behind what is filled.
-fn fill(buf: &mut [u8], filled: usize) -> Filled
+fn fill(fd: i32, buf: &mut [u8], filled: usize) -> Filled
     requires { ⌜ filled ≤ length (now buf) ⌝ }
     ensures { λ r. ⌜ r .filled ≤ length (now (buf .exit)) ⌝ }
 {
-    let got = libc::read(STDIN_FILENO, &mut buf[filled..]);
-    if got <= 0 {
-        return Filled { filled, last: true };
+    let got = libc::read(fd, &mut buf[filled..]);
+    if got < 0 {
+        return Filled {
+            filled,
+            last: false,
+            failed: true,
+        };
+    }
+    if got == 0 {
+        return Filled {
+            filled,
+            last: true,
+            failed: false,
+        };
     }
     let count = io::count(got, &buf[filled..]);
     Filled {
         filled: filled + count,
         last: false,
+        failed: false,
     }
+}
+
+// The end of a line that has no newline: a carriage return is no part of it, as before a newline.
+fn bare_end(buf: &[u8], at: usize, filled: usize) -> usize
+    requires { ⌜ (at < filled) × (filled ≤ length (now buf)) ⌝ }
+    ensures { λ r. ⌜ (at ≤ r) × (r ≤ filled) ⌝ }
+{
+    let last = filled - 1;
+    if buf[last] == b'\r' { last } else { filled }
 }
 
 // The end of the line that begins at a place. The last line of the input needs no newline.
@@ -68,19 +98,56 @@ fn end_of(buf: &[u8], at: usize, filled: usize, last: bool) -> Ended
         },
         LineEnd::Nothing => Ended {
             found: last,
-            end: filled,
+            end: bare_end(buf, at, filled),
             next: filled,
         },
     }
 }
 
+// Carries a line out and tells it.
+fn play_line(
+    run: Run,
+    control: &mut [u64],
+    words: &mut [u64],
+    reals: &mut [f32],
+    texts: &mut [u8],
+    line: &[u8],
+    cut: bool,
+    explained: bool,
+) -> Play {
+    let mut out = [0u8; 4096];
+    let took = script_run::take(run, control, words, reals, texts, line, cut, &mut out);
+    let wrote = told::tell(took, line, &out, explained);
+    let after = took.run;
+    Play { run: after, wrote }
+}
+
+// Plays a line; once the trail cannot be written, none.
+fn step(
+    play: Play,
+    control: &mut [u64],
+    words: &mut [u64],
+    reals: &mut [f32],
+    texts: &mut [u8],
+    line: &[u8],
+    cut: bool,
+    explained: bool,
+) -> Play {
+    if play.wrote {
+        let run = play.run;
+        return play_line(run, control, words, reals, texts, line, cut, explained);
+    }
+    play
+}
+
 // Goes through the lines that end in what is filled.
 fn take_lines(
+    explained: bool,
     buf: &[u8],
     filled: usize,
     last: bool,
     cut: bool,
-    run: Run,
+    play: Play,
     control: &mut [u64],
     words: &mut [u64],
     reals: &mut [f32],
@@ -91,7 +158,7 @@ fn take_lines(
 {
     let mut at: usize = 0;
     let mut gone = cut;
-    let mut done = run;
+    let mut done = play;
     while at < filled {
         let line = end_of(buf, at, filled, last);
         let end = line.end;
@@ -99,17 +166,26 @@ fn take_lines(
             return Begun {
                 at,
                 cut: gone,
-                run: done,
+                play: done,
             };
         }
-        done = script_run::take(done, control, words, reals, texts, &buf[at..end], gone);
+        done = step(
+            done,
+            control,
+            words,
+            reals,
+            texts,
+            &buf[at..end],
+            gone,
+            explained,
+        );
         gone = false;
         at = line.next;
     }
     Begun {
         at,
         cut: gone,
-        run: done,
+        play: done,
     }
 }
 
@@ -140,17 +216,14 @@ fn make_room(buf: &mut [u8], at: usize, filled: usize, cut: bool) -> Kept
     Kept { filled: left, cut }
 }
 
-// Whether another reading is needed.
-fn goes_on(last: bool, ended: bool) -> bool {
-    !last && !ended
-}
-
 // Reads once and takes the lines that have ended.
 fn read_some(
+    fd: i32,
+    explained: bool,
     buf: &mut [u8],
     filled: usize,
     cut: bool,
-    run: Run,
+    play: Play,
     control: &mut [u64],
     words: &mut [u64],
     reals: &mut [f32],
@@ -159,49 +232,84 @@ fn read_some(
     requires { ⌜ filled ≤ length (now buf) ⌝ }
     ensures { λ r. ⌜ r .filled ≤ length (now (buf .exit)) ⌝ }
 {
-    let got = fill(buf, filled);
+    let got = fill(fd, buf, filled);
     let begun = take_lines(
+        explained,
         buf,
         got.filled,
         got.last,
         cut,
-        run,
+        play,
         control,
         words,
         reals,
         texts,
     );
     let kept = make_room(buf, begun.at, got.filled, begun.cut);
-    let after = begun.run;
+    let after = begun.play;
     Progress {
         filled: kept.filled,
         cut: kept.cut,
-        more: goes_on(got.last, after.ended),
-        run: after,
+        play: after,
+        last: got.last,
+        failed: got.failed,
     }
+}
+
+// How the script has ended; `Played` where it has not.
+fn end_by(wrote: bool, ended: bool, failed: bool) -> End {
+    if !wrote {
+        return End::Unwritten;
+    }
+    if ended {
+        return End::Wrong;
+    }
+    if failed {
+        return End::Unread;
+    }
+    End::Played
+}
+
+fn is_over(wrote: bool, ended: bool, failed: bool, last: bool) -> bool {
+    !wrote || ended || failed || last
 }
 
 // A proved loop has to end, and nothing says that the input does. So the loop counts its turns down, from a number that no run uses up.
 pub fn read_all(
+    fd: i32,
+    explained: bool,
     buf: &mut [u8],
     run: Run,
     control: &mut [u64],
     words: &mut [u64],
     reals: &mut [f32],
     texts: &mut [u8],
-) {
+) -> End {
     let mut filled: usize = 0;
     let mut cut = false;
-    let mut done = run;
+    let mut done = Play { run, wrote: true };
     let mut turns = u64::MAX;
     while 0 < turns {
-        let turn = read_some(buf, filled, cut, done, control, words, reals, texts);
-        if !turn.more {
-            return;
+        let turn = read_some(
+            fd,
+            explained,
+            buf,
+            filled,
+            cut,
+            done,
+            control,
+            words,
+            reals,
+            texts,
+        );
+        done = turn.play;
+        let so_far = done.run;
+        if is_over(done.wrote, so_far.ended, turn.failed, turn.last) {
+            return end_by(done.wrote, so_far.ended, turn.failed);
         }
-        done = turn.run;
         filled = turn.filled;
         cut = turn.cut;
         turns -= 1;
     }
+    End::Played
 }

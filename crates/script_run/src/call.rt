@@ -1,171 +1,382 @@
 // A line of a script, carried out: before the session by `script_handshake`, on a running one by `script_session`.
+use answers::Answer;
+use converter::request::NextRequest;
 use handshake::handshake::EisHandshaker;
 use handshake::handshake::HandshakeAnswer;
+use requests::eis::Request;
 use script::Args;
 use script::Line;
 use script::Text;
 use script::Value;
-use script::Verb;
-use script_session::Settings;
-ghost use Prim.Native.Nat.{_≤_};
-ghost use lib.ListN.{length};
+use script_asked::Asked;
+use script_asked::Station;
+ghost use mathlib.Core.Path.{_≡_};
+ghost use mathlib.Core.List.{List};
+ghost use Prim.Native.Nat.{ℕ};
+ghost use lib.ListN.{length, take};
+ghost use Rattle.script.specs.Text.{textBytes};
+ghost use Rattle.session.specs.Slices.{before, after, rowsBefore, rowsAfter};
+ghost use Rattle.script_run.specs.Line.{hasText, isGiven, textFirst, lineText};
+ghost use Rattle.script_run.specs.Take.{quiet, noCall, answered, given, shaken, counted, atClock, withOut, withBuffer, first};
+ghost use Rattle.script_run.specs.Take.{Starts, Shakes, Handles, Delivers, Makes, Does, Takes};
 
 // What the lines so far have come to.
 pub struct Run {
     // The number of the last line.
     pub line: u64,
-    pub settings: Settings,
+    // What lines have set: the length of the lent `out`, that of the text buffer of next_request, and the clock.
+    pub out: u64,
+    pub buffer: u64,
+    pub clock: u64,
+    // Whether there is a handshake, and whether it has ended and the session runs.
     pub started: bool,
     pub finished: bool,
-    pub handshaker: EisHandshaker,
+    // What the handshake was answered last.
+    pub shaken: HandshakeAnswer,
     // Whether the trail has ended with an error.
     pub ended: bool,
 }
 
+// Why a line ends the trail.
+pub enum Why {
+    // It is longer than a line may be.
+    Long,
+    // It is no call.
+    NoCall,
+    // It comes where no such call can be made: before `start`, or a call on a session before there is one.
+    Early,
+}
+
+// What there is to tell of a line.
+pub enum Told {
+    Nothing,
+    Error(Why),
+    // The handshake's answer, which the run has.
+    Shaken,
+    Answered(Answer),
+    Given(NextRequest),
+}
+
+pub struct Took {
+    pub run: Run,
+    pub told: Told,
+}
+
 // Before the first line.
-pub fn new_run(explained: bool) -> Run {
+pub fn new_run() -> Run
+    ensures { λ r. ⌜ r ≡ first (r .shaken) ⌝ }
+{
     let mut none = [0u8; 1];
-    let fresh = EisHandshaker::new(0, &mut none);
-    let handshaker = fresh.handshaker;
-    let settings = Settings {
+    let shaken = EisHandshaker::new(0, &mut none);
+    Run {
+        line: 0,
         out: 4096,
         buffer: 254,
         clock: 0,
-        explained,
-    };
-    Run {
-        line: 0,
-        settings,
         started: false,
         finished: false,
-        handshaker,
+        shaken,
         ended: false,
     }
 }
 
-// The trail ends: the line is no call, or comes where no such call can be made.
-fn end(run: Run) -> Run {
-    script_show::text(b"error line ");
-    script_show::decimal(run.line);
-    script_show::text(b"\n");
+fn quiet(run: Run) -> Took
+    ensures { λ r. ⌜ r ≡ quiet run ⌝ }
+{
+    Took {
+        run,
+        told: Told::Nothing,
+    }
+}
+
+// The trail ends.
+fn no_call(run: Run, why: Why) -> Took
+    ensures { λ r. ⌜ r ≡ noCall why run ⌝ }
+{
     let mut ended = run;
     ended.ended = true;
-    ended
+    Took {
+        run: ended,
+        told: Told::Error(why),
+    }
+}
+
+fn answered(run: Run, a: Answer) -> Took
+    ensures { λ r. ⌜ r ≡ answered a run ⌝ }
+{
+    Took {
+        run,
+        told: Told::Answered(a),
+    }
+}
+
+fn given(run: Run, next: NextRequest) -> Took
+    ensures { λ r. ⌜ r ≡ given next run ⌝ }
+{
+    Took {
+        run,
+        told: Told::Given(next),
+    }
+}
+
+// The run after a call of the handshake.
+fn shaken(run: Run, a: HandshakeAnswer) -> Took
+    ensures { λ r. ⌜ r ≡ shaken a run ⌝ }
+{
+    let after = Run {
+        line: run.line,
+        out: run.out,
+        buffer: run.buffer,
+        clock: run.clock,
+        started: true,
+        finished: script_handshake::is_finished(a),
+        shaken: a,
+        ended: run.ended,
+    };
+    Took {
+        run: after,
+        told: Told::Shaken,
+    }
 }
 
 // One more line.
-fn counted(run: Run) -> Run {
+fn counted(run: Run) -> Run
+    ensures { λ r. ⌜ r ≡ counted run ⌝ }
+{
     let mut next = run;
     next.line = std::num::wrapping_add_u64(run.line, 1);
     next
 }
 
-// The run after a call of the handshake.
-fn after(run: Run, a: HandshakeAnswer) -> Run {
-    let handshaker = a.handshaker;
-    let settings = run.settings;
-    Run {
-        line: run.line,
-        settings,
-        started: true,
-        finished: script_handshake::is_finished(a),
-        handshaker,
-        ended: false,
-    }
+fn at_clock(run: Run, n: u64) -> Took
+    ensures { λ r. ⌜ r ≡ quiet (atClock n run) ⌝ }
+{
+    let mut set = run;
+    set.clock = n;
+    quiet(set)
 }
 
-fn start(run: Run, serial: u32) -> Run {
-    let settings = run.settings;
-    after(run, script_handshake::start(settings, serial))
+fn with_out(run: Run, n: u64) -> Took
+    ensures { λ r. ⌜ r ≡ quiet (withOut n run) ⌝ }
+{
+    let mut set = run;
+    set.out = n;
+    quiet(set)
 }
 
-// A client's line before the session.
-fn shaken(run: Run, control: &mut [u64], verb: Verb, args: Args, text: &[u8]) -> Run {
-    let settings = run.settings;
-    let handshaker = run.handshaker;
-    let a = script_handshake::take(
-        settings,
-        handshaker,
-        script_handshake::request_of(verb, args),
-        text,
-    );
+fn with_buffer(run: Run, n: u64) -> Took
+    ensures { λ r. ⌜ r ≡ quiet (withBuffer n run) ⌝ }
+{
+    let mut set = run;
+    set.buffer = n;
+    quiet(set)
+}
+
+// A fresh handshake. What there was before is left, but for the settings.
+fn start(run: Run, serial: u32, out: &mut [u8]) -> Took
+    ensures { λ r. ⌜ Starts run serial (now (out .entry)) (now (out .exit)) r ⌝ }
+{
+    shaken(run, script_handshake::start(serial, run.out, out))
+}
+
+// A client's request before the session, which begins where the handshake ends.
+fn shake(run: Run, control: &mut [u64], request: Request, text: &[u8], out: &mut [u8]) -> Took
+    ensures { λ r. ⌜ Shakes run request (now (text .entry)) (now (control .entry)) (now (control .exit)) (now (out .entry)) (now (out .exit)) r ⌝ }
+{
+    let last = run.shaken;
+    let h = last.handshaker;
+    let message = script_handshake::message_of(request);
+    let a = script_handshake::take(h, message, text, run.out, out);
     script_handshake::open(control, a);
-    after(run, a)
+    shaken(run, a)
 }
 
-fn is_next(verb: Verb) -> bool {
-    if let Verb::NextRequest = verb {
-        true
-    } else {
-        false
-    }
+// A client's request on the session.
+fn handle(
+    run: Run,
+    control: &mut [u64],
+    words: &mut [u64],
+    reals: &mut [f32],
+    texts: &mut [u8],
+    object: u64,
+    version: u32,
+    request: Request,
+    text: &[u8],
+    out: &mut [u8],
+) -> Took
+    ensures { λ r. ⌜ Handles run object version request (now (text .entry)) (before control words reals texts) (after control words reals texts) (now (out .entry)) (now (out .exit)) r ⌝ }
+{
+    let a = script_session::handle(
+        control,
+        words,
+        reals,
+        texts,
+        object,
+        version,
+        request,
+        text,
+        run.clock,
+        run.out,
+        out,
+    );
+    answered(run, a)
 }
 
-// Whether the call can be made where it comes: the station's calls and next_request are on a session.
-fn has_place(run: Run, verb: Verb) -> bool {
-    if run.finished {
-        return true;
+fn deliver(
+    run: Run,
+    control: &mut [u64],
+    words: &[u64],
+    reals: &[f32],
+    texts: &[u8],
+    out: &mut [u8],
+) -> Took
+    ensures { λ r. ⌜ Delivers run (before control words reals texts) (after control words reals texts) (now (out .entry)) (now (out .exit)) r ⌝ }
+{
+    let next = script_session::next(control, words, reals, texts, run.buffer, out);
+    given(run, next)
+}
+
+fn make(
+    run: Run,
+    control: &mut [u64],
+    words: &mut [u64],
+    reals: &mut [f32],
+    call: Station,
+    present: bool,
+    text: &[u8],
+    out: &mut [u8],
+) -> Took
+    ensures { λ r. ⌜ ((t : List ℕ) → Makes run call present (now (text .entry)) (rowsBefore control words reals t) (rowsAfter control words reals t) (now (out .entry)) (now (out .exit)) r) ⌝ }
+{
+    let a = script_session::make(control, words, reals, call, present, text, run.out, out);
+    answered(run, a)
+}
+
+// What a line asks for; `present` tells whether its text is.
+fn carry_out(
+    run: Run,
+    control: &mut [u64],
+    words: &mut [u64],
+    reals: &mut [f32],
+    texts: &mut [u8],
+    asked: Asked,
+    present: bool,
+    text: &[u8],
+    out: &mut [u8],
+) -> Took
+    ensures { λ r. ⌜ Does run asked present (now (text .entry)) (before control words reals texts) (after control words reals texts) (now (out .entry)) (now (out .exit)) r ⌝ }
+{
+    match asked {
+        Asked::Now(n) => at_clock(run, n),
+        Asked::Out(n) => with_out(run, n),
+        Asked::Buffer(n) => with_buffer(run, n),
+        Asked::Start(serial) => start(run, serial, out),
+        Asked::Client {
+            object,
+            version,
+            request,
+        } => {
+            if run.finished {
+                return handle(
+                    run,
+                    control,
+                    words,
+                    reals,
+                    texts,
+                    object,
+                    version,
+                    request,
+                    text,
+                    out,
+                );
+            }
+            if run.started {
+                return shake(run, control, request, text, out);
+            }
+            no_call(run, Why::Early)
+        }
+        Asked::NextRequest => {
+            if run.finished {
+                return deliver(run, control, words, reals, texts, out);
+            }
+            no_call(run, Why::Early)
+        }
+        Asked::Station(call) => {
+            if run.finished {
+                return make(run, control, words, reals, call, present, text, out);
+            }
+            no_call(run, Why::Early)
+        }
     }
-    run.started && !script_calls::station::is_station(verb) && !is_next(verb)
 }
 
 // The text of a line stands first or second.
-fn has_text(v: Value) -> bool {
-    if let Value::Text(_) = v { true } else { false }
-}
-
-fn is_given(first: Value, second: Value) -> bool {
-    has_text(first) || has_text(second)
-}
-
-fn text_of(first: Value, second: Value) -> Text {
-    if has_text(first) {
-        return script::text_of(first);
-    }
-    script::text_of(second)
-}
-
-// Puts the text of a line at the start of a buffer and answers its length.
-fn text_into(line: &[u8], first: Value, second: Value, buf: &mut [u8]) -> usize
-    ensures { λ r. ⌜ r ≤ length (now (buf .exit)) ⌝ }
+fn has_text(v: Value) -> bool
+    ensures { λ r. ⌜ r ≡ hasText v ⌝ }
 {
-    let length = script::text_into(line, text_of(first, second), buf);
-    script_session::room(length as u64, buf.len())
+    match v {
+        Value::Text(_) => true,
+        Value::Nothing => false,
+        Value::U64(_) => false,
+        Value::U32(_) => false,
+        Value::I32(_) => false,
+        Value::F32(_) => false,
+        Value::NoText => false,
+    }
 }
 
-fn call_in(
+fn is_given(args: Args) -> bool
+    ensures { λ r. ⌜ r ≡ isGiven args ⌝ }
+{
+    let a = args.a;
+    let b = args.b;
+    if has_text(a) {
+        return true;
+    }
+    has_text(b)
+}
+
+fn text_of(args: Args) -> Text
+    ensures { λ r. ⌜ r ≡ textFirst args ⌝ }
+{
+    let a = args.a;
+    let b = args.b;
+    if has_text(a) {
+        return script::text_of(a);
+    }
+    script::text_of(b)
+}
+
+// With the text of the line at the start of `buf`.
+fn carry_in(
     run: Run,
     control: &mut [u64],
     words: &mut [u64],
     reals: &mut [f32],
     texts: &mut [u8],
     line: &[u8],
-    verb: Verb,
-    args: Args,
+    asked: Asked,
+    present: bool,
+    t: Text,
     buf: &mut [u8],
-) -> Run {
-    let first = args.a;
-    let second = args.b;
-    let given = is_given(first, second);
+    out: &mut [u8],
+) -> Took
+    requires { ⌜ length (now buf) ≡ 32768 ⌝ }
+    ensures { λ r. ⌜ Does run asked present (take 32768 (textBytes (now (line .entry)) t)) (before control words reals texts) (after control words reals texts) (now (out .entry)) (now (out .exit)) r ⌝ }
+{
     let from: usize = 0;
-    let n = text_into(line, first, second, buf);
-    let text = &buf[from..n];
-    if !run.finished {
-        return shaken(run, control, verb, args, text);
-    }
-    let settings = run.settings;
-    script_session::take(
-        settings,
+    let n = script::text_into(line, t, buf);
+    carry_out(
+        run,
         control,
         words,
         reals,
         texts,
-        verb,
-        args,
-        given,
-        text,
-    );
-    run
+        asked,
+        present,
+        &buf[from..n],
+        out,
+    )
 }
 
 // A text is at most half as long as its line.
@@ -176,43 +387,31 @@ fn call(
     reals: &mut [f32],
     texts: &mut [u8],
     line: &[u8],
-    verb: Verb,
+    asked: Asked,
     args: Args,
-) -> Run {
-    let first = args.a;
-    if let Verb::Start = verb {
-        return start(run, script::u32_of(first));
-    }
-    if !has_place(run, verb) {
-        return end(run);
-    }
+    out: &mut [u8],
+) -> Took
+    ensures { λ r. ⌜ Does run asked (isGiven args) (lineText (now (line .entry)) args) (before control words reals texts) (after control words reals texts) (now (out .entry)) (now (out .exit)) r ⌝ }
+{
     let mut buf = [0u8; 32768];
-    call_in(
+    let told = is_given(args);
+    let t = text_of(args);
+    carry_in(
         run,
         control,
         words,
         reals,
         texts,
         line,
-        verb,
-        args,
+        asked,
+        told,
+        t,
         &mut buf,
+        out,
     )
 }
 
-fn setting(run: Run, verb: Verb, args: Args) -> Run {
-    let first = args.a;
-    let n = script::u64_of(first);
-    let mut set = run;
-    match verb {
-        Verb::Out => set.settings.out = n,
-        Verb::Buffer => set.settings.buffer = n,
-        _ => set.settings.clock = n,
-    }
-    set
-}
-
-// A line; one whose first bytes are gone is no call. Behind the end of the trail nothing is done.
+// A line; one whose first bytes are gone (`cut`) is no call. Behind the end of the trail nothing is done.
 pub fn take(
     run: Run,
     control: &mut [u64],
@@ -221,18 +420,41 @@ pub fn take(
     texts: &mut [u8],
     line: &[u8],
     cut: bool,
-) -> Run {
+    out: &mut [u8],
+) -> Took
+    ensures { λ r. ⌜ Takes run cut (now (line .entry)) (before control words reals texts) (after control words reals texts) (now (out .entry)) (now (out .exit)) r ⌝ }
+{
     if run.ended {
-        return run;
+        return quiet(run);
     }
     let here = counted(run);
     if cut {
-        return end(here);
+        return no_call(here, Why::Long);
     }
     match script::parse(line) {
-        Line::Blank => here,
-        Line::Setting { verb, args } => setting(here, verb, args),
-        Line::Call { verb, args } => call(here, control, words, reals, texts, line, verb, args),
-        Line::NoCall => end(here),
+        Line::Blank => quiet(here),
+        Line::Setting { verb, args } => call(
+            here,
+            control,
+            words,
+            reals,
+            texts,
+            line,
+            script_asked::of_line(verb, args),
+            args,
+            out,
+        ),
+        Line::Call { verb, args } => call(
+            here,
+            control,
+            words,
+            reals,
+            texts,
+            line,
+            script_asked::of_line(verb, args),
+            args,
+            out,
+        ),
+        Line::NoCall => no_call(here, Why::NoCall),
     }
 }

@@ -1,11 +1,11 @@
-// What a trail is made of, on standard output: words, numbers, event records and delivered requests.
-mod plain;
-pub mod records;
+// The lines of a trail, made in a lent line: what a call is answered, with its event records, and delivered requests. Nothing here writes to
+// a file.
+mod lines;
+mod records;
 mod request;
 
-pub use plain::decimal;
-pub use plain::hexadecimal;
-pub use plain::id;
-pub use plain::text;
-pub use plain::truth;
-pub use request::delivered;
+pub use lines::answer;
+pub use lines::call_line;
+pub use lines::error_line;
+pub use lines::handshake_answer;
+pub use lines::next;

@@ -1,203 +1,238 @@
-// Event records on standard output: in hexadecimal as a trail has them, and in words.
-use eiproto::eiproto_eis;
-ghost use Prim.Native.Nat.{_≤_, _<_};
-ghost use lib.ListN.{length};
+// Event records: in hexadecimal as a trail has them, and in words.
+use script_pattern::put;
+use script_pattern::table;
+use script_pattern::table::Shown;
+ghost use mathlib.Core.List.{[]};
+ghost use mathlib.Core.Path.{_≡_};
+ghost use Prim.Native.Nat.{_+_, _*_, _%_, _<_, _≤_};
+ghost use lib.ListN.{length, drop, getD};
+ghost use Rattle.script_pattern.specs.Put.{Puts};
+ghost use Rattle.script_show.specs.Records.{recordSize, sizeWithin, eachRecord, one, four, numberAt, sizes, kindOf};
+ghost use Rattle.script_show.specs.Records.{textStart, recordShown, objectShown, recordBytes, trail};
+ghost use Rattle.script_pattern.specs.Pattern.{bytesOf};
 
-// A record's length, of which the low three bits of its first byte are the upper part.
-fn length_field(high: u8, low: u8) -> usize {
-    (high % 8) as usize * 256 + low as usize
-}
-
-// The end of the record that begins at a place, within what there is.
-fn record_end(bytes: &[u8], at: usize) -> usize
-    requires { ⌜ at < length (now bytes) ⌝ }
-    ensures { λ r. ⌜ (at < r) × (r ≤ length (now (bytes .entry))) ⌝ }
+// How many bytes a record has: what its header says, or all where that is 0 or more.
+fn size_within(said: usize, all: usize) -> usize
+    ensures { λ r. ⌜ r ≡ sizeWithin said all ⌝ }
 {
-    let left = bytes.len() - at;
-    if left < 2 {
-        return bytes.len();
+    if said == 0 {
+        return all;
     }
-    let n = length_field(bytes[at], bytes[at + 1]);
-    if n == 0 {
-        return bytes.len();
-    }
-    if left < n { bytes.len() } else { at + n }
-}
-
-// ` |` and each record, with one space before it.
-fn trail(bytes: &[u8]) {
-    let mut at: usize = 0;
-    if 0 < bytes.len() {
-        crate::text(b" |");
-    }
-    while at < bytes.len() {
-        let end = record_end(bytes, at);
-        crate::text(b" ");
-        crate::hexadecimal(&bytes[at..end]);
-        at = end;
-    }
-}
-
-// The byte of a record at a place, 0 past its end.
-fn byte_at(record: &[u8], at: usize) -> u8 {
-    if at < record.len() { record[at] } else { 0 }
+    if all < said { all } else { said }
 }
 
 fn wide(b: u8) -> u64
-    ensures { λ r. ⌜ r < 256 ⌝ }
+    ensures { λ r. ⌜ (r ≡ b) × (r < 256) ⌝ }
 {
     b as u64
 }
 
-// The number in the n bytes of a record from a place on, the most significant first.
-fn number(record: &[u8], at: usize, n: usize) -> u64 {
-    let mut x: u64 = 0;
-    let mut i: usize = 0;
-    while i < n {
-        x = x % 0x0100_0000_0000_0000 * 256
-            + wide(byte_at(record, std::num::wrapping_add_usize(at, i)));
-        i += 1;
-    }
-    x
+// The 11 bits behind the kind.
+fn length_field(high: u8, low: u8) -> usize
+    ensures { λ r. ⌜ r ≡ high % 8 * 256 + low ⌝ }
+{
+    (high % 8) as usize * 256 + low as usize
 }
 
-fn name(interface: u8) {
-    let n = eiproto_eis::name_len(interface);
-    let mut i: usize = 0;
-    while i < n {
-        let letter = [eiproto_eis::name_byte(interface, i)];
-        crate::text(&letter);
-        i += 1;
+fn record_size(bytes: &[u8]) -> usize
+    ensures { λ r. ⌜ r ≡ recordSize (now (bytes .entry)) ⌝ }
+{
+    if bytes.len() < 2 {
+        return bytes.len();
     }
+    size_within(length_field(bytes[0], bytes[1]), bytes.len())
 }
 
-// A field by its letter: x an id, d a number of 4 bytes, q one of 8, i an interface, b the byte before an explanation, t the text to the
-// record's end. Answers its length.
-fn field(letter: u8, record: &[u8], at: usize) -> usize {
-    match letter {
-        b'x' => {
-            crate::id(number(record, at, 8));
-            8
-        }
-        b'd' => {
-            crate::decimal(number(record, at, 4));
-            4
-        }
-        b'q' => {
-            crate::decimal(number(record, at, 8));
-            8
-        }
-        b'i' => {
-            name((number(record, at, 1) % 256) as u8);
-            1
-        }
-        b'b' => {
-            if 127 < number(record, at, 1) {
-                crate::text(b" explanation ");
-            }
-            1
-        }
-        _ => {
-            if at <= record.len() {
-                crate::text(&record[at..]);
-            }
-            0
-        }
+// The byte of a record at a place; 0 past its end.
+fn byte_at(event: &[u8], at: usize) -> u64
+    ensures { λ r. ⌜ (r ≡ one at (now (event .entry))) × (r < 256) ⌝ }
+{
+    if at < event.len() {
+        return wide(event[at]);
+    }
+    0
+}
+
+// The number of the four bytes at a place.
+fn four(event: &[u8], at: usize) -> u64
+    requires { ⌜ at ≤ 64 ⌝ }
+    ensures { λ r. ⌜ (r ≡ four at (now (event .entry))) × (r < 4294967296) ⌝ }
+{
+    let a = byte_at(event, at);
+    let b = byte_at(event, at + 1);
+    let c = byte_at(event, at + 2);
+    let d = byte_at(event, at + 3);
+    a * 16777216 + (b * 65536 + (c * 256 + d))
+}
+
+// The number of so many bytes at a place.
+fn number_at(event: &[u8], size: usize, at: usize) -> u64
+    requires { ⌜ at ≤ 32 ⌝ }
+    ensures { λ r. ⌜ r ≡ numberAt size at (now (event .entry)) ⌝ }
+{
+    match size {
+        1 => byte_at(event, at),
+        4 => four(event, at),
+        8 => four(event, at) * 4294967296 + four(event, at + 4),
+        _ => 0,
     }
 }
 
-// A record by its pattern, in which a letter behind % stands for a field. The fields begin behind the kind, the length and the object id.
-fn pattern(words: &[u8], record: &[u8]) {
-    let mut at: usize = 10;
-    let mut i: usize = 0;
-    while i < words.len() {
-        let c = words[i];
-        i += 1;
-        if c == b'%' {
-            if i < words.len() {
-                at = std::num::wrapping_add_usize(at, field(words[i], record, at));
-                i += 1;
-            }
-        } else {
-            let letter = [c];
-            crate::text(&letter);
-        }
+// How many bytes each of the three numbers of a kind has, from kind 0 on.
+const SIZES: [usize; 57] = [
+    0,
+    0,
+    0,
+    8,
+    4,
+    0,
+    0,
+    0,
+    0,
+    8,
+    1,
+    0,
+    0,
+    0,
+    0,
+    4,
+    0,
+    0,
+    8,
+    4,
+    0,
+    4,
+    0,
+    0,
+    8,
+    1,
+    4,
+    4,
+    0,
+    0,
+    4,
+    0,
+    0,
+    4,
+    4,
+    0,
+    4,
+    0,
+    0,
+    4,
+    8,
+    0,
+    4,
+    4,
+    1,
+    8,
+    0,
+    0,
+    4,
+    0,
+    0,
+    1,
+    4,
+    0,
+    8,
+    4,
+    4,
+];
+
+fn size_at(place: usize) -> usize
+    requires { ⌜ place < 57 ⌝ }
+    ensures { λ r. ⌜ (r ≡ getD sizes place 0) × (r ≤ 8) ⌝ }
+{
+    SIZES[place]
+}
+
+// The kind, in the upper five bits; 0 where there is no such kind.
+fn kind_of(event: &[u8]) -> usize
+    ensures { λ r. ⌜ (r ≡ kindOf (now (event .entry))) × (r < 19) ⌝ }
+{
+    let kind = byte_at(event, 0) / 8;
+    if kind < 19 {
+        return kind as usize;
+    }
+    0
+}
+
+// Where the text of a record begins.
+fn text_start(event: &[u8]) -> usize
+    ensures { λ r. ⌜ r ≡ textStart (now (event .entry)) ⌝ }
+{
+    let place = 3 * kind_of(event);
+    10 + size_at(place) + size_at(place + 1) + size_at(place + 2)
+}
+
+fn record_shown(event: &[u8]) -> Shown
+    ensures { λ r. ⌜ r ≡ recordShown (now (event .entry)) ⌝ }
+{
+    let kind = kind_of(event);
+    let first = size_at(3 * kind);
+    let second = size_at(3 * kind + 1);
+    let third = size_at(3 * kind + 2);
+    Shown {
+        pattern: table::RECORD + kind,
+        a: number_at(event, first, 10),
+        b: number_at(event, second, 10 + first),
+        c: number_at(event, third, 10 + first + second),
+        d: 0,
+        e: 0,
     }
 }
 
-// The records of a handshake, a callback and the connection in words. The kinds go from group to group: a function is checked in a time
-// that grows with its cases times its variables.
-fn connection_words(kind: u8, record: &[u8]) {
-    match kind {
-        14 => pattern(b"disconnected, serial %d reason %d%b%t", record),
-        15 => pattern(b"callback done %q", record),
-        16 => pattern(b"handshake version %d", record),
-        17 => pattern(b"interface version %i %d", record),
-        18 => pattern(b"connection %x serial %d version %d", record),
-        _ => crate::text(b"unknown record"),
-    }
+fn object_shown(event: &[u8]) -> Shown
+    ensures { λ r. ⌜ r ≡ objectShown (now (event .entry)) ⌝ }
+{
+    table::single(table::LINE + 2, number_at(event, 8, 2))
 }
 
-fn emulation_words(kind: u8, record: &[u8]) {
-    match kind {
-        9 => pattern(b"resumed, serial %d", record),
-        10 => pattern(b"paused, serial %d", record),
-        11 => pattern(b"start emulating, serial %d sequence %d", record),
-        12 => pattern(b"stop emulating, serial %d", record),
-        13 => pattern(b"frame, serial %d time %q", record),
-        _ => connection_words(kind, record),
+// What is shown of a record, with its text.
+fn text_shown(line: &mut [u8], at: usize, event: &[u8]) -> usize
+    ensures { λ r. ⌜ Puts line at r (bytesOf (recordShown (now (event .entry))) (drop (textStart (now (event .entry))) (now (event .entry)))) ⌝ }
+{
+    let start = text_start(event);
+    if start <= event.len() {
+        return table::show(line, at, record_shown(event), &event[start..]);
     }
+    table::show(line, at, record_shown(event), b"")
 }
 
-fn device_words(kind: u8, record: &[u8]) {
-    match kind {
-        5 => pattern(b"destroyed, serial %d", record),
-        6 => pattern(b"device %x version %d", record),
-        7 => pattern(b"device type %d", record),
-        8 => pattern(b"interface %x %i version %d", record),
-        _ => emulation_words(kind, record),
+// A record on a line of its own in words, or behind a space in hexadecimal.
+fn tell(line: &mut [u8], at: usize, event: &[u8], words: bool) -> usize
+    ensures { λ r. ⌜ Puts line at r (recordBytes words (now (event .entry))) ⌝ }
+{
+    if words {
+        let object = table::show(line, at, object_shown(event), b"");
+        let end = text_shown(line, object, event);
+        return put::byte(line, end, b'\n');
     }
+    let next = put::byte(line, at, b' ');
+    put::hexadecimal(line, next, event)
 }
 
-// A record in words.
-fn words(record: &[u8]) {
-    if record.len() < 10 {
-        return;
+// Each record, one behind the other.
+pub fn each(line: &mut [u8], at: usize, bytes: &[u8], words: bool) -> usize
+    ensures { λ r. ⌜ Puts line at r (eachRecord (recordBytes words) (now (bytes .entry))) ⌝ }
+{
+    let mut next = at;
+    let mut from: usize = 0;
+    while from < bytes.len() {
+        let end = from + record_size(&bytes[from..]);
+        next = tell(line, next, &bytes[from..end], words);
+        from = end;
     }
-    let kind = record[0] / 8;
-    match kind {
-        1 => pattern(b"seat %x version %d", record),
-        2 => pattern(b"name %t", record),
-        3 => pattern(b"capability %q %i", record),
-        4 => pattern(b"done", record),
-        _ => device_words(kind, record),
-    }
+    next
 }
 
-// Each record on a line of its own: the object that it is sent on, and what it says.
-fn explain(bytes: &[u8]) {
-    let mut at: usize = 0;
-    while at < bytes.len() {
-        let end = record_end(bytes, at);
-        let record = &bytes[at..end];
-        crate::text(b"    ");
-        crate::id(number(record, 2, 8));
-        crate::text(b": ");
-        words(record);
-        crate::text(b"\n");
-        at = end;
+// ` |` and the records, if there are any.
+pub fn trail(line: &mut [u8], at: usize, bytes: &[u8]) -> usize
+    ensures { λ r. ⌜ Puts line at r (trail (now (bytes .entry))) ⌝ }
+{
+    if bytes.len() == 0 {
+        return at;
     }
-}
-
-// The records of a call, of which `out` has `count` bytes, and the end of the call's line; in words too where that is asked for.
-pub fn write(out: &[u8], count: usize, explained: bool) {
-    let from: usize = 0;
-    if count <= out.len() {
-        let bytes = &out[from..count];
-        trail(bytes);
-        crate::text(b"\n");
-        if explained {
-            explain(bytes);
-        }
-    }
+    let next = put::bytes(line, at, b" |");
+    each(line, next, bytes, false)
 }

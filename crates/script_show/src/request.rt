@@ -1,259 +1,177 @@
-// Delivered requests as a trail has them: the kind and its fields, in the order of the crate's struct.
-use crate::plain;
+// A delivered request as what is shown of it: the pattern of its kind, and its fields in the order of the crate's struct.
 use eiproto::eiproto_enum::ButtonState;
 use eiproto::eiproto_enum::KeyState;
 use requests::request::EisRequest;
+use script_pattern::table::Shown;
+ghost use mathlib.Core.Path.{_≡_};
+ghost use mathlib.Core.Bool.{cond};
+ghost use Rattle.script_pattern.specs.Pattern.{shown};
+ghost use Rattle.script_pattern.specs.Words.{realNumber, amountNumber, truthNumber};
+ghost use Rattle.script_show.specs.Request.{delivered};
 
-fn on_device(kind: &[u8], device: u64) {
-    plain::text(kind);
-    plain::text(b" device=");
-    plain::id(device);
+// A real, a signed amount and a truth as numbers.
+fn real_number(x: f32) -> u64
+    ensures { λ r. ⌜ r ≡ realNumber x ⌝ }
+{
+    if x == x {
+        return f32::to_bits(x) as u64;
+    }
+    4294967296
 }
 
-fn timed(kind: &[u8], device: u64, time: u64) {
-    on_device(kind, device);
-    number(b" time=", time);
+fn amount_number(n: i32) -> u64
+    ensures { λ r. ⌜ r ≡ amountNumber n ⌝ }
+{
+    if n < 0 {
+        return (-1 - n) as u64 + 4294967297;
+    }
+    n as u64
 }
 
-fn number(name: &[u8], n: u64) {
-    plain::text(name);
-    plain::decimal(n);
+pub fn truth_number(b: bool) -> u64
+    ensures { λ r. ⌜ r ≡ truthNumber b ⌝ }
+{
+    if b { 1 } else { 0 }
 }
 
-// Two reals behind their names.
-fn reals(first: &[u8], x: f32, second: &[u8], y: f32) {
-    plain::text(first);
-    plain::real(x);
-    plain::text(second);
-    plain::real(y);
+fn fields(pattern: usize, a: u64, b: u64, c: u64, d: u64, e: u64) -> Shown
+    ensures { λ r. ⌜ r ≡ shown pattern a b c d e ⌝ }
+{
+    Shown {
+        pattern,
+        a,
+        b,
+        c,
+        d,
+        e,
+    }
 }
 
-fn of_seat(kind: &[u8], seat: u64, capabilities: u64) {
-    plain::text(kind);
-    plain::text(b" seat=");
-    plain::id(seat);
-    number(b" capabilities=", capabilities);
+fn reals(pattern: usize, device: u64, time: u64, x: f32, y: f32) -> Shown
+    ensures { λ r. ⌜ r ≡ shown pattern device time (realNumber x) (realNumber y) 0 ⌝ }
+{
+    fields(pattern, device, time, real_number(x), real_number(y), 0)
 }
 
-// A request on a device with a serial.
-fn serial(kind: &[u8], device: u64, last_serial: u32) {
-    on_device(kind, device);
-    number(b" last_serial=", last_serial as u64);
+fn axes(pattern: usize, device: u64, time: u64, x: bool, y: bool) -> Shown
+    ensures { λ r. ⌜ r ≡ shown pattern device time (truthNumber x) (truthNumber y) 0 ⌝ }
+{
+    fields(pattern, device, time, truth_number(x), truth_number(y), 0)
 }
 
-fn frame(device: u64, last_serial: u32, time: u64) {
-    serial(b"Frame", device, last_serial);
-    number(b" time=", time);
+fn touched(pattern: usize, device: u64, time: u64, touch: u64, x: f32, y: f32) -> Shown
+    ensures { λ r. ⌜ r ≡ shown pattern device time touch (realNumber x) (realNumber y) ⌝ }
+{
+    fields(pattern, device, time, touch, real_number(x), real_number(y))
 }
 
-fn start(device: u64, last_serial: u32, sequence: u32) {
-    serial(b"DeviceStartEmulating", device, last_serial);
-    number(b" sequence=", sequence as u64);
+// A text is shown in letters too where that is asked for.
+fn text_pattern(explained: bool) -> usize
+    ensures { λ r. ⌜ r ≡ cond explained 22 21 ⌝ }
+{
+    if explained { 22 } else { 21 }
 }
 
-fn deltas(kind: &[u8], device: u64, time: u64, dx: f32, dy: f32) {
-    timed(kind, device, time);
-    reals(b" dx=", dx, b" dy=", dy);
-}
-
-fn absolute(device: u64, time: u64, x: f32, y: f32) {
-    timed(b"PointerMotionAbsolute", device, time);
-    reals(b" dx_absolute=", x, b" dy_absolute=", y);
-}
-
-fn pressed(name: &[u8], code: u32, state: u32) {
-    number(name, code as u64);
-    number(b" state=", state as u64);
-}
-
-fn button_pressed(device: u64, time: u64, button: u32, state: ButtonState) {
-    timed(b"Button", device, time);
-    pressed(b" button=", button, state.number());
-}
-
-fn key_pressed(device: u64, time: u64, key: u32, state: KeyState) {
-    timed(b"KeyboardKey", device, time);
-    pressed(b" key=", key, state.number());
-}
-
-fn keysym_pressed(device: u64, time: u64, keysym: u32, state: KeyState) {
-    timed(b"TextKeysym", device, time);
-    pressed(b" keysym=", keysym, state.number());
-}
-
-fn axes(kind: &[u8], device: u64, time: u64, x: bool, y: bool) {
-    timed(kind, device, time);
-    plain::text(b" x=");
-    plain::truth(x);
-    plain::text(b" y=");
-    plain::truth(y);
-}
-
-fn discrete(device: u64, time: u64, dx: i32, dy: i32) {
-    timed(b"ScrollDiscrete", device, time);
-    plain::text(b" discrete_dx=");
-    plain::amount(dx);
-    plain::text(b" discrete_dy=");
-    plain::amount(dy);
-}
-
-fn touch(kind: &[u8], device: u64, time: u64, touch_id: u32) {
-    timed(kind, device, time);
-    number(b" touch_id=", touch_id as u64);
-}
-
-fn touch_at(kind: &[u8], device: u64, time: u64, touch_id: u32, x: f32, y: f32) {
-    touch(kind, device, time, touch_id);
-    reals(b" x=", x, b" y=", y);
-}
-
-fn utf8(device: u64, time: u64, text: &[u8]) {
-    timed(b"TextUtf8", device, time);
-    plain::text(b" text=t:");
-    plain::hexadecimal(text);
-}
-
-// A request on a device that is not timed, or Disconnect.
-fn of_device(request: EisRequest) {
+pub fn delivered(request: EisRequest, explained: bool) -> Shown
+    ensures { λ r. ⌜ r ≡ delivered explained request ⌝ }
+{
     match request {
+        EisRequest::Disconnect => fields(0, 0, 0, 0, 0, 0),
+        EisRequest::Bind { seat, capabilities } => fields(1, seat, capabilities, 0, 0, 0),
+        EisRequest::DeviceClosed { device } => fields(2, device, 0, 0, 0, 0),
+        EisRequest::RequestDevice { seat, capabilities } => fields(3, seat, capabilities, 0, 0, 0),
         EisRequest::Frame {
             device,
             last_serial,
             time,
-        } => frame(device, last_serial, time),
+        } => fields(4, device, last_serial as u64, time, 0, 0),
+        EisRequest::Ready { device } => fields(5, device, 0, 0, 0, 0),
         EisRequest::DeviceStartEmulating {
             device,
             last_serial,
             sequence,
-        } => start(device, last_serial, sequence),
+        } => fields(6, device, last_serial as u64, sequence as u64, 0, 0),
         EisRequest::DeviceStopEmulating {
             device,
             last_serial,
-        } => serial(b"DeviceStopEmulating", device, last_serial),
-        _ => plain::text(b"Disconnect"),
-    }
-}
-
-// A request that is not timed.
-fn untimed(request: EisRequest) {
-    match request {
-        EisRequest::Bind { seat, capabilities } => of_seat(b"Bind", seat, capabilities),
-        EisRequest::RequestDevice { seat, capabilities } => of_seat(
-            b"RequestDevice",
-            seat,
-            capabilities,
-        ),
-        EisRequest::DeviceClosed { device } => on_device(b"DeviceClosed", device),
-        EisRequest::Ready { device } => on_device(b"Ready", device),
-        _ => of_device(request),
-    }
-}
-
-fn scrolling(request: EisRequest) {
-    match request {
-        EisRequest::ScrollStop { device, time, x, y } => axes(b"ScrollStop", device, time, x, y),
-        EisRequest::ScrollCancel { device, time, x, y } => axes(
-            b"ScrollCancel",
-            device,
-            time,
-            x,
-            y,
-        ),
-        EisRequest::ScrollDiscrete {
-            device,
-            time,
-            discrete_dx,
-            discrete_dy,
-        } => discrete(device, time, discrete_dx, discrete_dy),
-        _ => untimed(request),
-    }
-}
-
-// Motions and scrolls.
-fn pointing(request: EisRequest) {
-    match request {
+        } => fields(7, device, last_serial as u64, 0, 0, 0),
         EisRequest::PointerMotion {
             device,
             time,
             dx,
             dy,
-        } => deltas(b"PointerMotion", device, time, dx, dy),
+        } => reals(8, device, time, dx, dy),
         EisRequest::PointerMotionAbsolute {
             device,
             time,
             dx_absolute,
             dy_absolute,
-        } => absolute(device, time, dx_absolute, dy_absolute),
-        EisRequest::ScrollDelta {
-            device,
-            time,
-            dx,
-            dy,
-        } => deltas(b"ScrollDelta", device, time, dx, dy),
-        _ => scrolling(request),
-    }
-}
-
-// Buttons, keys and keysyms.
-fn pressing(request: EisRequest) {
-    match request {
+        } => reals(9, device, time, dx_absolute, dy_absolute),
         EisRequest::Button {
             device,
             time,
             button,
             state,
-        } => button_pressed(device, time, button, state),
+        } => fields(10, device, time, button as u64, state.number() as u64, 0),
+        EisRequest::ScrollDelta {
+            device,
+            time,
+            dx,
+            dy,
+        } => reals(11, device, time, dx, dy),
+        EisRequest::ScrollStop { device, time, x, y } => axes(12, device, time, x, y),
+        EisRequest::ScrollCancel { device, time, x, y } => axes(13, device, time, x, y),
+        EisRequest::ScrollDiscrete {
+            device,
+            time,
+            discrete_dx,
+            discrete_dy,
+        } => fields(
+            14,
+            device,
+            time,
+            amount_number(discrete_dx),
+            amount_number(discrete_dy),
+            0,
+        ),
         EisRequest::KeyboardKey {
             device,
             time,
             key,
             state,
-        } => key_pressed(device, time, key, state),
-        EisRequest::TextKeysym {
-            device,
-            time,
-            keysym,
-            state,
-        } => keysym_pressed(device, time, keysym, state),
-        _ => pointing(request),
-    }
-}
-
-fn touching(request: EisRequest) {
-    match request {
+        } => fields(15, device, time, key as u64, state.number() as u64, 0),
         EisRequest::TouchDown {
             device,
             time,
             touch_id,
             x,
             y,
-        } => touch_at(b"TouchDown", device, time, touch_id, x, y),
+        } => touched(16, device, time, touch_id as u64, x, y),
         EisRequest::TouchUp {
             device,
             time,
             touch_id,
-        } => touch(b"TouchUp", device, time, touch_id),
+        } => fields(17, device, time, touch_id as u64, 0, 0),
         EisRequest::TouchMotion {
             device,
             time,
             touch_id,
             x,
             y,
-        } => touch_at(b"TouchMotion", device, time, touch_id, x, y),
+        } => touched(18, device, time, touch_id as u64, x, y),
         EisRequest::TouchCancel {
             device,
             time,
             touch_id,
-        } => touch(b"TouchCancel", device, time, touch_id),
-        _ => pressing(request),
+        } => fields(19, device, time, touch_id as u64, 0, 0),
+        EisRequest::TextKeysym {
+            device,
+            time,
+            keysym,
+            state,
+        } => fields(20, device, time, keysym as u64, state.number() as u64, 0),
+        EisRequest::TextUtf8 { device, time, .. } => {
+            fields(text_pattern(explained), device, time, 0, 0, 0)
+        }
     }
-}
-
-// The request, on a line of its own. It goes from group to group, since one function with a case for each kind takes minutes to check.
-pub fn delivered(request: EisRequest, text: &[u8]) {
-    match request {
-        EisRequest::TextUtf8 { device, time, .. } => utf8(device, time, text),
-        _ => touching(request),
-    }
-    plain::text(b"\n");
 }

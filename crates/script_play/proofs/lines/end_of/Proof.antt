@@ -18,5 +18,6 @@ end-of-spec =
     (λ c κs. search needs)  -- line-end-requires
     (λ c. search needs)  -- enum-known-end
     (λ c. search needs)  -- enum-told
+    (λ c κs. search needs)  -- bare-end-requires
     returns
     (λ c. search needs))  -- returns-2

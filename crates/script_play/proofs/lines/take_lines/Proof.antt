@@ -7,11 +7,11 @@ use lib.ListN.{length}
 use mathlib.Core.Path.{_≡_}
 
 abbrev Inv-loop : tie.InvT-loop
-Inv-loop buf filled last cut control₀ words₀ reals₀ texts₀ at₀ gone₀ done₀ control words reals texts at gone done =
+Inv-loop explained buf filled last cut control₀ words₀ reals₀ texts₀ at₀ gone₀ done₀ control words reals texts at gone done =
     (at ≤ filled) × (length control ≡ length control₀) × (length words ≡ length words₀) × (length reals ≡ length reals₀) × (length texts ≡ length texts₀)
 
 abbrev μ-loop : tie.MeasureT-loop
-μ-loop buf filled last cut control₀ words₀ reals₀ texts₀ at₀ gone₀ done₀ control words reals texts at gone done =
+μ-loop explained buf filled last cut control₀ words₀ reals₀ texts₀ at₀ gone₀ done₀ control words reals texts at gone done =
     filled - at
 
 pub take-lines-spec : {M : Type 1} → statement M
@@ -27,10 +27,10 @@ take-lines-spec =
     (λ c. search needs)  -- same-length-3
     (λ c. search needs)  -- same-length-4
     (λ c. search needs)  -- returns
-    (λ c. search needs)  -- sub-take
-    (λ c. search needs)  -- part-take-start
-    (λ c. search needs)  -- part-take-end
-    (λ c κs. search needs)  -- take-requires
+    (λ c. search needs)  -- sub-step
+    (λ c. search needs)  -- part-step-start
+    (λ c. search needs)  -- part-step-end
+    (λ c κs. search needs)  -- step-requires
     (λ c. search needs)  -- loop-less
     (λ c. search needs)  -- loop-again
     (λ c. search needs)  -- same-length-5

@@ -1,0 +1,4 @@
+pub mod Put
+pub mod Digits
+pub mod Words
+pub mod Pattern

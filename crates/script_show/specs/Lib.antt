@@ -1,0 +1,3 @@
+pub mod Request
+pub mod Records
+pub mod Answer

@@ -1,0 +1,19 @@
+-- What a trail has of a line. Assumes nothing.
+use Prim.Native.Nat.{ℕ}
+use mathlib.Core.Bool.{Bool}
+use mathlib.Core.List.{List, []}
+use Rattle.script_show.specs.Answer.{answerLine, handshakeLine, nextLine, errorLine}
+use Rattle.script_run.specs.declared.call.Run.{Run}
+use Rattle.script_run.specs.declared.call.Told.{Told}
+use Rattle.script_run.specs.declared.call.Took.{Took}
+
+abbrev pub lineOf : Run → Told → (out : List ℕ) → (explained : Bool) → List ℕ
+lineOf run Told.Nothing out x = []
+lineOf run (Told.Error why) out x = errorLine (run .line)
+lineOf run Told.Shaken out x = handshakeLine (run .shaken) out x
+lineOf run (Told.Answered a) out x = answerLine a out x
+lineOf run (Told.Given next) out x = nextLine next out x
+
+-- nothing of a comment and of a setting; `error line N`; or the answer, with the event records that begin `out`
+abbrev pub trailOf : Took → (out : List ℕ) → (explained : Bool) → List ℕ
+trailOf t out x = lineOf (t .run) (t .told) out x
