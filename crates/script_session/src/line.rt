@@ -1,6 +1,7 @@
 // A line on a session: which call it is, and the call made.
 use crate::answer;
 use answers::Answer;
+use requests::eis::Request;
 use script::Args;
 use script::Verb;
 ghost use Prim.Native.Nat.{_≤_};
@@ -39,6 +40,7 @@ fn handle(
 ) -> Answer {
     // A request of the handshake or the connection is on no object that its line names, and none is looked up for it.
     let first = args.a;
+    let request: Request = script_calls::client::request_of(verb, args);
     converter::request::handle_request(
         control,
         words,
@@ -46,7 +48,7 @@ fn handle(
         texts,
         script::u64_of(first),
         script_calls::client::version_of(verb, args),
-        script_calls::client::request_of(verb, args),
+        request,
         text,
         clock,
         out,
