@@ -63,8 +63,8 @@ escape-letters b h =
       | true ↦ λ e. (plain-letter b e, tt)
       | false ↦ λ e.
           all-append Letter (ascii "\\x") (pair b)
-      (record { least = omega arith; most = omega arith; quotes = λ z. omega arith }, (record { least = omega arith; most = omega arith; quotes = λ z. omega arith }, tt))
-      (pair-letters b h)
+          (record { least = omega arith; most = omega arith; quotes = λ z. omega arith }, (record { least = omega arith; most = omega arith; quotes = λ z. omega arith }, tt))
+          (pair-letters b h)
     ]
     refl
 
