@@ -6,7 +6,6 @@ use lib.IntN.{negsuc, pos}
 use lib.Ieee.{nan, isNan}
 use Rattle.eiproto.specs.Interface.{ascii}
 use Rattle.eiproto.specs.declared.eiproto_enum.KeyState.{KeyState}
-use Rattle.answers.specs.declared.Answer.{Answer}
 use Rattle.answers.specs.declared.Error.{Error}
 use Rattle.answers.specs.declared.Outcome.{Outcome}
 use Rattle.converter.specs.declared.request.NextRequest.{NextRequest}
