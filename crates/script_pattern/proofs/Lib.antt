@@ -2,3 +2,4 @@ pub mod Puts
 pub mod Decimals
 pub mod Patterns
 pub mod Letters
+pub mod Lengths
