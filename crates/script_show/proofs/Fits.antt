@@ -1,7 +1,6 @@
 -- Lines that are never cut: how long a line of a trail can be. Assumes nothing.
 use Prim.Native.Nat.{ℕ, zero, suc, _+_, _-_, _*_, _≤_}
-use mathlib.Core.Path.{_≡_, refl}
-use mathlib.Core.Bool.{Bool, true, false}
+use mathlib.Core.Bool.{Bool, false}
 use mathlib.Core.List.{List, [], _∷_, _++_}
 use native.Mathlib.Omega.{arith}
 use lib.ListN.{length, take, length-append, length-take}
@@ -10,10 +9,10 @@ use Rattle.answers.specs.Answer.{outcomeOf}
 use Rattle.answers.specs.declared.Answer.{Answer}
 use Rattle.converter.specs.declared.request.NextRequest.{NextRequest}
 use Rattle.handshake.specs.declared.handshake.HandshakeAnswer.{HandshakeAnswer}
-use Rattle.script_pattern.specs.Digits.{hexadecimal, decimal, escaped}
+use Rattle.script_pattern.specs.Digits.{hexadecimal, escaped}
 use Rattle.script_pattern.specs.Pattern.{bytesOf, firstLine, shown}
 use Rattle.script_pattern.specs.declared.table.Shown.{Shown}
-use Rattle.script_pattern.proofs.Lengths.{hexadecimal-length, decimal-length, escaped-length, bytes-length, bare-within, texted-within}
+use Rattle.script_pattern.proofs.Lengths.{hexadecimal-length, escaped-length, bytes-length, bare-within, texted-within}
 use Rattle.script_show.specs.Records.{recordSize, eachFrom, eachRecord, recordBytes, trail}
 use Rattle.script_show.specs.Answer.{result, handshakeOutcome, lineOf, answerLine, handshakeLine, nextShown, nextLength, nextLine, errorLine, callLine}
 use Rattle.script_show.proofs.Sizes.{size-bounds}
