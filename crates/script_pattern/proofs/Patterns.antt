@@ -3,14 +3,14 @@ use Prim.Native.Nat.{ℕ, zero, suc, _+_, _-_, _*_, _<_, _≤_}
 use Prim.Native.String.{String}
 use mathlib.Core.Path.{_≡_, refl, sym, ap, _∙_}
 use mathlib.Core.Bool.{Bool, true, false, cond, _&&_, false≢true}
-use mathlib.Core.List.{List, [], _∷_, _++_, append-nil}
+use mathlib.Core.List.{List, [], _∷_, _++_}
 use native.Mathlib.Nat.{add-zero}
 use native.Mathlib.Numerals.{add-one}
 use native.Mathlib.Omega.{arith}
 use borrow.Author.Tests.{ne-eqb, leb-true}
 use lib.Dec.{eqb, leb}
-use lib.ListN.{length, getD, take, drop, replicate, length-append, length-replicate, drop-of-length-le, List·getD-eq-default, List·getD-append}
-use lib.Seq.{drop-cons, drop-drop, drop-append-add, drop-nil, getD-drop, take-at, take-all}
+use lib.ListN.{length, getD, drop, replicate, length-append, length-replicate, drop-of-length-le, List·getD-eq-default, List·getD-append}
+use lib.Seq.{drop-cons, drop-drop, drop-append-add, getD-drop}
 use Rattle.eiproto.specs.Interface.{ascii, Row, row, table, rowOf, interfaceName}
 use Rattle.script_pattern.specs.Pattern.{Mark, marks, showsIn, takesIn, shows, takes, patterned, patterns, patternAt, patternCount, width, padded, rows}
 

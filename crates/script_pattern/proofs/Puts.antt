@@ -1,14 +1,14 @@
 -- Laws of writing into a line: one run of bytes behind another is one run. Assumes nothing.
 use Prim.Native.Nat.{ℕ, suc, _+_, _≤_, _<_}
-use mathlib.Core.Path.{_≡_, refl, sym, ap, _∙_}
+use mathlib.Core.Path.{_≡_, refl, sym, _∙_}
 use mathlib.Core.List.{List, [], _∷_, _++_}
 use mathlib.Core.Logic.{dite}
 use native.Mathlib.Decide.{decLe}
-use native.Mathlib.Nat.{add-zero}
+use native.Mathlib.Nat.{add-zero, zero-add}
 use native.Mathlib.Numerals.{add-one}
 use native.Mathlib.Omega.{arith}
-use lib.ListN.{length, getD, drop, set, length-append, length-set, drop-of-length-le}
-use lib.Seq.{sets, length-sets, set-out, drop-cons}
+use lib.ListN.{length, getD, take, drop, set, length-append, drop-of-length-le}
+use lib.Seq.{sets, length-sets, sets-eq, set-out, drop-cons, take-append-seam}
 use Rattle.script_pattern.specs.Put.{Put}
 use Rattle.script_pattern.specs.Digits.{each}
 
@@ -51,6 +51,19 @@ put-full line at xs h = record { stored = sym (sets-out line at xs h); next = om
 
 pub put-is : {line later : List ℕ} {at r : ℕ} {xs ys : List ℕ} → Put line later at r xs → xs ≡ ys → Put line later at r ys
 put-is p e = rw e at p
+
+-- ---- what a line holds that was written from its start on
+
+-- no more than there is room for
+pub put-within : {line later : List ℕ} {r : ℕ} {xs : List ℕ} → Put line later 0 r xs → r ≤ length later
+put-within p = let n = put-length p in omega (arith, p .next)
+
+-- all of it, where there is room
+pub put-read : {line later : List ℕ} {r : ℕ} {xs : List ℕ} → Put line later 0 r xs → length xs ≤ length line → take r later ≡ xs
+put-read {line} {later} {r} {xs} p h =
+    let e : r ≡ length xs = omega (arith, p .next) in
+    let s : later ≡ xs ++ drop (length xs) line = p .stored ∙ sets-eq xs line 0 (omega arith) ∙ rw zero-add in
+    rw (s, e) (take-append-seam xs (drop (length xs) line))
 
 -- ---- in a loop: whatever puts the rest from here on puts the whole from the start on
 

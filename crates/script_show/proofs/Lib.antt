@@ -1,2 +1,4 @@
 pub mod Numbers
 pub mod Sizes
+pub mod Examples
+pub mod Fits

@@ -1,5 +1,4 @@
 -- A delivered request as a trail has it. Assumes nothing.
-use Prim.Native.Nat.{ℕ, _+_}
 use mathlib.Core.Bool.{Bool, cond}
 use Rattle.eiproto.specs.Enum.{buttonStateNumber, keyStateNumber}
 use Rattle.requests.specs.declared.request.EisRequest.{EisRequest}

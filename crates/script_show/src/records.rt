@@ -2,10 +2,9 @@
 use script_pattern::put;
 use script_pattern::table;
 use script_pattern::table::Shown;
-ghost use mathlib.Core.List.{[]};
 ghost use mathlib.Core.Path.{_≡_};
 ghost use Prim.Native.Nat.{_+_, _*_, _%_, _<_, _≤_};
-ghost use lib.ListN.{length, drop, getD};
+ghost use lib.ListN.{drop, getD};
 ghost use Rattle.script_pattern.specs.Put.{Puts};
 ghost use Rattle.script_show.specs.Records.{recordSize, sizeWithin, eachRecord, one, four, numberAt, sizes, kindOf};
 ghost use Rattle.script_show.specs.Records.{textStart, recordShown, objectShown, recordBytes, trail};

@@ -1,6 +1,4 @@
 // A delivered request as what is shown of it: the pattern of its kind, and its fields in the order of the crate's struct.
-use eiproto::eiproto_enum::ButtonState;
-use eiproto::eiproto_enum::KeyState;
 use requests::request::EisRequest;
 use script_pattern::table::Shown;
 ghost use mathlib.Core.Path.{_≡_};

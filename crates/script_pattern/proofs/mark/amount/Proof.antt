@@ -14,7 +14,10 @@ returns c =
 returns-2 : tie.Need-returns-2
 unfolding amount
 returns-2 c =
-    put-is (put-then (c .before .before .before .before .before .before .byte .ensures) (c .before .before .decimal2 .ensures)) (rw (le-ltb (c .before .before .before .before .before .before .before .before .before .before .args .n) 4294967296 (c .before .before .before .before .before .before .before .before .if1 .left)))
+    let at-byte = c .before .before .before .before .before .before in
+    let at-if1 = at-byte .before .before in
+    let at-start = at-if1 .before .before in
+    put-is (put-then (at-byte .byte .ensures) (c .before .before .decimal2 .ensures)) (rw (le-ltb (at-start .args .n) 4294967296 (at-if1 .if1 .left)))
 
 pub amount-spec : {M : Type 1} → statement M
 amount-spec =

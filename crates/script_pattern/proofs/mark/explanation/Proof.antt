@@ -10,7 +10,11 @@ use Rattle.script_pattern.proofs.mark.explanation.Tie as tie
 returns : tie.Need-returns
 unfolding explanation ascii
 returns c =
-    put-is (put-then (c .before .before .before .before .before .before .before .before .before .before .bytes .ensures) (put-then (c .before .before .before .before .before .before .escaped .ensures) (c .before .before .byte .ensures))) (rw (lt-ltb 127 (c .before .before .before .before .before .before .before .before .before .before .before .before .before .before .before .before .args .n) (c .before .before .before .before .before .before .before .before .before .before .before .before .before .if1 .taken)))
+    let at-escaped = c .before .before .before .before .before .before in
+    let at-bytes = at-escaped .before .before .before .before in
+    let at-if1 = at-bytes .before .before .before in
+    let at-start = at-if1 .before .before .before in
+    put-is (put-then (at-bytes .bytes .ensures) (put-then (at-escaped .escaped .ensures) (c .before .before .byte .ensures))) (rw (lt-ltb 127 (at-start .args .n) (at-if1 .if1 .taken)))
 
 returns-2 : tie.Need-returns-2
 unfolding explanation

@@ -1,6 +1,6 @@
 -- The loop's invariant: what puts the rest of the name puts it all. Assumes nothing.
 use Prim.Native.Nat.{_-_, _≤_}
-use mathlib.Core.Path.{_≡_, refl, sym, ap, _∙_}
+use mathlib.Core.Path.{_≡_, refl, sym, _∙_}
 use native.Mathlib.Omega.{arith}
 use lib.ListN.{length, drop, drop-of-length-le}
 use Rattle.eiproto.specs.Interface.{interfaceName}
@@ -27,10 +27,13 @@ loop-holds c =
 
 loop-again : tie.Need-loop-again Inv-loop μ-loop
 loop-again c =
-    let l = c .before .before .before .before .before .before .loop in
-    let name = interfaceName (c .before .before .before .before .before .before .before .before .before .before .args .n) in
+    let at-name-byte = c .before .before .before in
+    let at-loop = at-name-byte .before .before .before in
+    let at-start = at-loop .before .before .before .before in
+    let l = at-loop .loop in
+    let name = interfaceName (at-start .args .n) in
     let p = c .before .before .byte .ensures in
-    let e = c .before .before .before .name-byte .ensures in
+    let e = at-name-byte .name-byte .ensures in
     (omega arith, l .inv .1, put-length p ∙ l .inv .2, rest-on (l .inv .3) (drop-on name (l .i) (omega arith)) (rw e at p))
 
 same-length : tie.Need-same-length Inv-loop μ-loop

@@ -10,7 +10,10 @@ use Rattle.script_pattern.proofs.mark.real.Tie as tie
 returns : tie.Need-returns
 unfolding real ascii
 returns c =
-    put-is (put-then (c .before .before .before .before .before .before .bytes .ensures) (c .before .before .eight .ensures)) (rw (lt-ltb (c .before .before .before .before .before .before .before .before .before .before .before .args .n) 4294967296 (c .before .before .before .before .before .before .before .before .before .if1 .taken)))
+    let at-bytes = c .before .before .before .before .before .before in
+    let at-if1 = at-bytes .before .before .before in
+    let at-start = at-if1 .before .before in
+    put-is (put-then (at-bytes .bytes .ensures) (c .before .before .eight .ensures)) (rw (lt-ltb (at-start .args .n) 4294967296 (at-if1 .if1 .taken)))
 
 returns-2 : tie.Need-returns-2
 unfolding real ascii

@@ -2,7 +2,6 @@
 use mathlib.Core.Path.{sym, ap}
 use Rattle.script_pattern.specs.Pattern.{marks, takes}
 use Rattle.script_pattern.proofs.Patterns.{no-mark-takes}
-use borrow.Author.Needs.{needs}
 use Rattle.script_pattern.proofs.mark.takes.Statement.{statement}
 use Rattle.script_pattern.proofs.mark.takes.Tie as tie
 

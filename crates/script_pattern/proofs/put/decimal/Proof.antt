@@ -34,15 +34,18 @@ same-length c =
 
 returns : tie.Need-returns Inv-loop μ-loop
 returns c =
-    let l = c .before .before .before .before .before .before .before .before .loop in
+    let at-if1 = c .before .before .before .before .before .before in
+    let at-loop = at-if1 .before .before in
+    let at-start = at-loop .before .before in
+    let l = at-loop .loop in
     let v = l .v in
-    let w = decimal (c .before .before .before .before .before .before .before .before .before .before .args .n) in
+    let w = decimal (at-start .args .n) in
     let on = decimal-on w (l .digits) v (l .i) (l .i - 1) (omega arith) (omega arith) (l .inv .3) in
     let digits = set (l .digits) (l .i - 1) (0x30 + v % 10) in
     let n = length-drop (l .i - 1) digits in
     let m = length-set (l .digits) (l .i - 1) (0x30 + v % 10) in
     put-is (rw (l .inv .1) at (c .before .before .bytes .ensures))
-    (take-all (20 - (l .i - 1)) (drop (l .i - 1) digits) (omega arith) ∙ sym (rw (eq-eqb (v / 10) 0 (c .before .before .before .before .before .before .if1 .taken)) at on))
+    (take-all (20 - (l .i - 1)) (drop (l .i - 1) digits) (omega arith) ∙ sym (rw (eq-eqb (v / 10) 0 (at-if1 .if1 .taken)) at on))
 
 loop-again : tie.Need-loop-again Inv-loop μ-loop
 loop-again c =

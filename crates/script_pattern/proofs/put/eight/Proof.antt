@@ -8,7 +8,10 @@ use Rattle.script_pattern.proofs.put.eight.Tie as tie
 returns : tie.Need-returns
 unfolding eight
 returns c =
-    put-then (c .before .before .before .before .before .before .before .before .before .before .before .before .before .before .pair .ensures) (put-then (c .before .before .before .before .before .before .before .before .before .before .pair2 .ensures) (put-then (c .before .before .before .before .before .before .pair3 .ensures) (c .before .before .pair4 .ensures)))
+    let at-pair3 = c .before .before .before .before .before .before in
+    let at-pair2 = at-pair3 .before .before .before .before in
+    let at-pair = at-pair2 .before .before .before .before in
+    put-then (at-pair .pair .ensures) (put-then (at-pair2 .pair2 .ensures) (put-then (at-pair3 .pair3 .ensures) (c .before .before .pair4 .ensures)))
 
 pub eight-spec : {M : Type 1} → statement M
 eight-spec =

@@ -15,7 +15,10 @@ returns c =
 returns-2 : tie.Need-returns-2
 unfolding escape ascii
 returns-2 c =
-    put-is (put-then (c .before .before .before .before .before .before .bytes .ensures) (c .before .before .pair .ensures)) (rw (sym (c .before .before .before .before .before .before .before .before .before .before .is-plain .ensures) ∙ c .before .before .before .before .before .before .before .before .before .if1 .left))
+    let at-bytes = c .before .before .before .before .before .before in
+    let at-if1 = at-bytes .before .before .before in
+    let at-is-plain = at-if1 .before in
+    put-is (put-then (at-bytes .bytes .ensures) (c .before .before .pair .ensures)) (rw (sym (at-is-plain .is-plain .ensures) ∙ at-if1 .if1 .left))
 
 pub escape-spec : {M : Type 1} → statement M
 escape-spec =

@@ -4,7 +4,6 @@ use mathlib.Core.Bool.{Bool, true, false, cond, not}
 use borrow.Author.Tests.{lt-ltb, le-ltb, eq-eqb, ne-eqb}
 use lib.Dec.{eqb}
 use Rattle.script_pattern.specs.Digits.{isPlain}
-use borrow.Author.Needs.{needs}
 use Rattle.script_pattern.proofs.put.is_plain.Statement.{statement}
 use Rattle.script_pattern.proofs.put.is_plain.Tie as tie
 

@@ -8,7 +8,10 @@ use Rattle.script_pattern.proofs.put.pair.Tie as tie
 returns : tie.Need-returns
 unfolding pair
 returns c =
-    put-is (put-then (c .before .before .before .before .before .before .before .byte .ensures) (c .before .before .byte2 .ensures)) (rw (c .before .before .before .before .before .before .before .before .digit .ensures, c .before .before .before .digit2 .ensures))
+    let at-digit2 = c .before .before .before in
+    let at-byte = at-digit2 .before .before .before .before in
+    let at-digit = at-byte .before in
+    put-is (put-then (at-byte .byte .ensures) (c .before .before .byte2 .ensures)) (rw (at-digit .digit .ensures, at-digit2 .digit2 .ensures))
 
 pub pair-spec : {M : Type 1} → statement M
 pair-spec =

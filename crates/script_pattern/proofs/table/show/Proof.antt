@@ -2,7 +2,7 @@
 use Prim.Native.Nat.{_-_, _≤_, _<_}
 use mathlib.Core.Path.{_≡_, refl, sym, _∙_}
 use native.Mathlib.Omega.{arith}
-use lib.ListN.{length, getD, drop}
+use lib.ListN.{length, drop}
 use Rattle.script_pattern.specs.Pattern.{values, patternAt, padded, patterned, bytesOf}
 use Rattle.script_pattern.proofs.Puts.{Rest, rest-start, rest-on, rest-end, put-is, put-none, put-length}
 use Rattle.script_pattern.proofs.Patterns.{patterned-on, patterned-end, patterned-padded, takes-most, row-length, no-pattern}
@@ -32,19 +32,24 @@ add-place c =
 
 loop-again : tie.Need-loop-again Inv-loop μ-loop
 loop-again c =
-    let a = c .before .before .before .before .before .before .before .before .before .before .before .before .args in
-    let l = c .before .before .before .before .before .before .before .before .loop in
+    let at-show = c .before .before .before in
+    let at-value = at-show .before in
+    let at-byte-of = at-value .before .before in
+    let at-loop = at-byte-of .before .before in
+    let at-start = at-loop .before .before .before .before in
+    let a = at-start .args in
+    let l = at-loop .loop in
     let w = padded (patternAt (a .s .pattern)) in
     let n = row-length (a .s .pattern) (l .inv .3) in
-    let read = c .before .before .before .before .before .before .byte-of .ensures in
-    let m = takes-most (c .before .before .before .before .before .before .byte-of .result) in
-    let p = c .before .before .before .show .ensures in
+    let read = at-byte-of .byte-of .ensures in
+    let m = takes-most (at-byte-of .byte-of .result) in
+    let p = at-show .show .ensures in
     let on = patterned-on w (values (a .s)) (a .text .now) (l .i) (l .place) (omega arith) in (
       omega arith,
       omega (arith, c .takes .ensures),
       put-length p ∙ l .inv .2,
       l .inv .3,
-      rw (← read, ← c .takes .ensures) at (rest-on (l .inv .4) on (rw (c .before .before .before .before .value .ensures, read) at p)),
+      rw (← read, ← c .takes .ensures) at (rest-on (l .inv .4) on (rw (at-value .value .ensures, read) at p)),
     )
 
 same-length : tie.Need-same-length Inv-loop μ-loop

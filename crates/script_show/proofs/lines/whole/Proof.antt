@@ -8,12 +8,19 @@ use Rattle.script_show.proofs.lines.whole.Tie as tie
 returns : tie.Need-returns
 unfolding lineOf
 returns c =
-    put-is (put-then (c .before .before .before .before .before .before .before .before .before .before .before .before .before .before .before .show .ensures) (put-then (c .before .before .before .before .before .before .before .before .before .before .before .trail .ensures) (put-then (c .before .before .before .before .before .before .before .byte .ensures) (c .before .before .each .ensures)))) (rw (c .before .before .before .before .if1 .taken))
+    let at-if1 = c .before .before .before .before in
+    let at-byte = at-if1 .before .before .before in
+    let at-trail = at-byte .before .before .before .before in
+    let at-show = at-trail .before .before .before .before in
+    put-is (put-then (at-show .show .ensures) (put-then (at-trail .trail .ensures) (put-then (at-byte .byte .ensures) (c .before .before .each .ensures)))) (rw (at-if1 .if1 .taken))
 
 returns-2 : tie.Need-returns-2
 unfolding lineOf
 returns-2 c =
-    put-is (put-then (c .before .before .before .before .before .before .before .before .before .before .before .show .ensures) (put-then (c .before .before .before .before .before .before .before .trail .ensures) (c .before .before .before .byte .ensures))) (rw (c .if1 .left))
+    let at-byte = c .before .before .before in
+    let at-trail = at-byte .before .before .before .before in
+    let at-show = at-trail .before .before .before .before in
+    put-is (put-then (at-show .show .ensures) (put-then (at-trail .trail .ensures) (at-byte .byte .ensures))) (rw (c .if1 .left))
 
 pub whole-spec : {M : Type 1} → statement M
 whole-spec =

@@ -1,9 +1,8 @@
 -- The loop's invariant: what puts the rest of the records puts them all. Assumes nothing.
-use Prim.Native.Nat.{ℕ, _+_, _-_, _≤_}
-use mathlib.Core.List.{List}
-use mathlib.Core.Path.{_≡_, refl, sym, ap, _∙_}
+use Prim.Native.Nat.{_+_, _-_, _≤_}
+use mathlib.Core.Path.{_≡_, refl, ap, _∙_}
 use native.Mathlib.Omega.{arith}
-use lib.ListN.{length, drop, take, length-drop}
+use lib.ListN.{length, drop, length-drop}
 use Rattle.script_show.specs.Records.{recordSize, eachRecord, recordBytes}
 use Rattle.script_pattern.proofs.Puts.{Rest, rest-start, rest-on, rest-end, put-length}
 use Rattle.script_show.proofs.Sizes.{part-all, size-bounds, records-on, records-end}

@@ -5,7 +5,11 @@ use Rattle.script_show.proofs.records.record_shown.Tie as tie
 
 returns : tie.Need-returns
 returns c =
-    rw (c .before .before .number-at .ensures, c .before .number-at2 .ensures, c .number-at3 .ensures, c .before .before .before .before .before .size-at .ensures .0, c .before .before .before .before .size-at2 .ensures .0, c .before .before .before .size-at3 .ensures .0, c .before .before .before .before .before .before .kind-of .ensures .0)
+    let at-size-at3 = c .before .before .before in
+    let at-size-at2 = at-size-at3 .before in
+    let at-size-at = at-size-at2 .before in
+    let at-kind-of = at-size-at .before in
+    rw (c .before .before .number-at .ensures, c .before .number-at2 .ensures, c .number-at3 .ensures, at-size-at .size-at .ensures .0, at-size-at2 .size-at2 .ensures .0, at-size-at3 .size-at3 .ensures .0, at-kind-of .kind-of .ensures .0)
 
 pub record-shown-spec : {M : Type 1} → statement M
 record-shown-spec =

@@ -1,6 +1,5 @@
 -- Each test is one of the definition. Assumes nothing.
 use borrow.Author.Tests.{lt-ltb, le-ltb, eq-eqb, ne-eqb}
-use borrow.Author.Needs.{needs}
 use Rattle.script_show.proofs.records.size_within.Statement.{statement}
 use Rattle.script_show.proofs.records.size_within.Tie as tie
 

@@ -8,7 +8,11 @@ use Rattle.script_show.proofs.records.tell.Tie as tie
 returns : tie.Need-returns
 unfolding recordBytes
 returns c =
-    put-is (put-then (c .before .before .before .before .before .before .before .before .before .before .show .ensures) (put-then (c .before .before .before .before .before .before .text-shown .ensures) (c .before .before .byte .ensures))) (rw (c .before .before .before .before .before .before .before .before .before .before .before .before .object-shown .ensures, c .before .before .before .before .before .before .before .before .before .before .before .before .before .before .if1 .taken))
+    let at-text-shown = c .before .before .before .before .before .before in
+    let at-show = at-text-shown .before .before .before .before in
+    let at-object-shown = at-show .before .before in
+    let at-if1 = at-object-shown .before .before in
+    put-is (put-then (at-show .show .ensures) (put-then (at-text-shown .text-shown .ensures) (c .before .before .byte .ensures))) (rw (at-object-shown .object-shown .ensures, at-if1 .if1 .taken))
 
 returns-2 : tie.Need-returns-2
 unfolding recordBytes

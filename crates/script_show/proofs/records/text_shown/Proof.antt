@@ -1,7 +1,7 @@
 -- The text behind the numbers, or none where the record ends before it. Assumes nothing.
 use Prim.Native.Nat.{ℕ, _<_}
 use mathlib.Core.List.{List, []}
-use mathlib.Core.Path.{_≡_, sym, ap, _∙_}
+use mathlib.Core.Path.{_≡_, ap}
 use native.Mathlib.Omega.{arith}
 use lib.ListN.{length, drop, drop-of-length-le}
 use Rattle.script_pattern.specs.Pattern.{bytesOf}
@@ -14,16 +14,23 @@ use Rattle.script_show.proofs.records.text_shown.Tie as tie
 
 returns : tie.Need-returns
 returns c =
-    let l = c .before .before .before .before .before .before .before .before .before .before .args .event .now in
+    let at-record-shown = c .before .before .before .before in
+    let at-text-start = at-record-shown .before .before .before in
+    let at-start = at-text-start .before .before .before in
+    let l = at-start .args .event .now in
     put-is (c .before .before .show .ensures)
-    (rw (c .before .before .before .before .record-shown .ensures, c .before .before .before .before .before .before .before .text-start .ensures) (ap (λ (t : List ℕ). bytesOf (recordShown l) t) (part-all l (textStart l))))
+    (rw (at-record-shown .record-shown .ensures, at-text-start .text-start .ensures) (ap (λ (t : List ℕ). bytesOf (recordShown l) t) (part-all l (textStart l))))
 
 returns-2 : tie.Need-returns-2
 returns-2 c =
-    let l = c .before .before .before .before .before .before .before .before .before .before .args .event .now in
-    let h : length l < textStart l = omega (arith, c .before .before .before .before .before .before .if1 .left, c .before .before .before .before .before .before .before .text-start .ensures) in
+    let at-record-shown2 = c .before .before .before .before in
+    let at-if1 = at-record-shown2 .before .before in
+    let at-text-start = at-if1 .before in
+    let at-start = at-text-start .before .before .before in
+    let l = at-start .args .event .now in
+    let h : length l < textStart l = omega (arith, at-if1 .if1 .left, at-text-start .text-start .ensures) in
     let e : drop (textStart l) l ≡ [] = drop-of-length-le l {i = textStart l} (omega arith) in
-    put-is (c .before .before .show2 .ensures) (rw (c .before .before .before .before .record-shown2 .ensures, e))
+    put-is (c .before .before .show2 .ensures) (rw (at-record-shown2 .record-shown2 .ensures, e))
 
 pub text-shown-spec : {M : Type 1} → statement M
 text-shown-spec =

@@ -13,7 +13,10 @@ returns c =
 returns-2 : tie.Need-returns-2
 unfolding ascii
 returns-2 c =
-    put-is (put-then (c .before .before .before .before .before .before .bytes .ensures) (c .before .before .each .ensures)) (trail-some (c .before .before .before .before .before .before .before .before .before .before .before .before .args .bytes .now) (c .before .before .before .before .before .before .before .before .before .if1 .left))
+    let at-bytes = c .before .before .before .before .before .before in
+    let at-if1 = at-bytes .before .before .before in
+    let at-start = at-if1 .before .before .before in
+    put-is (put-then (at-bytes .bytes .ensures) (c .before .before .each .ensures)) (trail-some (at-start .args .bytes .now) (at-if1 .if1 .left))
 
 pub trail-spec : {M : Type 1} → statement M
 trail-spec =
