@@ -1,5 +1,5 @@
 #!/usr/bin/env python3
-"""Runs the comparisons with the crate, each with a moderate number of scripts, and ends with one line.
+"""Runs the comparisons with the crate, each with a moderate number of scripts, and what holds docs to the code; ends with one line.
 
 usage: run_all.py ORACLE     run at the repository's root, after `rt check replay` and `rt check model_cases`
 
@@ -27,6 +27,7 @@ def main():
         ("the oracle's cases", [os.path.join(oracle, "cases/check.py"), "target/bin/replay"]),
         ("what the gate expects", ["write_trials.py", "--check", oracle]),
         ("docs/DIFFERENCES.md", ["check_differences.py", oracle]),
+        ("README.md's example", ["check_readme.py"]),
         ("damaged lines", ["compare_lines.py", oracle, "1", "10"]),
         ("handshakes", ["compare_handshakes.py", oracle, "1", "30"]),
         ("sessions", ["compare_sessions.py", oracle, "1", "20", "600"]),
@@ -41,7 +42,7 @@ def main():
         if done.returncode:
             failed.append(name)
             print("\n".join(said[-20:]))
-        told = next((line for line in reversed(said) if "agree" in line or "differ" in line or "faults" in line or "hand" in line), said[-1])
+        told = next((line for line in reversed(said) if "agree" in line or "differ" in line or "faults" in line or "hand" in line or "stand in" in line), said[-1])
         print(f"{name}: {'DIFFERS' if done.returncode else told} ({time.time() - began:.0f} s)", flush=True)
     print(f"not in agreement: {', '.join(failed)}" if failed else f"{len(runs)} of {len(runs)} agree")
     sys.exit(1 if failed else 0)
