@@ -105,7 +105,8 @@ isFinished paper.Result.accepted = false
 isFinished (paper.Result.refused n) = false
 isFinished (paper.Result.finished r) = true
 
-responseIn : paper.Response → paper.Result → paper.Response
+-- the response that a result tells; r where it tells none
+unfoldable pub responseIn : paper.Response → paper.Result → paper.Response
 responseIn r paper.Result.accepted = r
 responseIn r (paper.Result.refused n) = r
 responseIn r (paper.Result.finished s) = s

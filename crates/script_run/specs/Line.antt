@@ -25,7 +25,11 @@ isGiven w = cond (hasText (w .a)) true (hasText (w .b))
 abbrev pub textFirst : Args → Text
 textFirst w = cond (hasText (w .a)) (textIn (w .a)) (textIn (w .b))
 
--- its bytes, which are the empty text where there is none. There are 32,768 at most, which is more than a line of 65,536 bytes has
+-- the bytes that are lent of a text: 32,768 at most, which is more than a line of 65,536 bytes has
+abbrev pub lentText : (line : List ℕ) → Text → List ℕ
+lentText line t = take 32768 (textBytes line t)
+
+-- those of the line's own, which is the empty text where there is none
 unfoldable pub lineText : (line : List ℕ) → Args → List ℕ
 unfolding textBytes
-lineText line w = take 32768 (textBytes line (textFirst w))
+lineText line w = lentText line (textFirst w)

@@ -13,10 +13,9 @@ use script_asked::Station;
 ghost use mathlib.Core.Path.{_≡_};
 ghost use mathlib.Core.List.{List};
 ghost use Prim.Native.Nat.{ℕ};
-ghost use lib.ListN.{length, take};
-ghost use Rattle.script.specs.Text.{textBytes};
+ghost use lib.ListN.{length};
 ghost use Rattle.session.specs.Slices.{before, after, rowsBefore, rowsAfter};
-ghost use Rattle.script_run.specs.Line.{hasText, isGiven, textFirst, lineText};
+ghost use Rattle.script_run.specs.Line.{hasText, isGiven, textFirst, lentText, lineText};
 ghost use Rattle.script_run.specs.Take.{quiet, noCall, answered, given, shaken, counted, atClock, withOut, withBuffer, first};
 ghost use Rattle.script_run.specs.Take.{Starts, Shakes, Handles, Delivers, Makes, Does, Takes};
 
@@ -362,7 +361,7 @@ fn carry_in(
     out: &mut [u8],
 ) -> Took
     requires { ⌜ length (now buf) ≡ 32768 ⌝ }
-    ensures { λ r. ⌜ Does run asked present (take 32768 (textBytes (now (line .entry)) t)) (before control words reals texts) (after control words reals texts) (now (out .entry)) (now (out .exit)) r ⌝ }
+    ensures { λ r. ⌜ Does run asked present (lentText (now (line .entry)) t) (before control words reals texts) (after control words reals texts) (now (out .entry)) (now (out .exit)) r ⌝ }
 {
     let from: usize = 0;
     let n = script::text_into(line, t, buf);

@@ -3,21 +3,18 @@ use Prim.Native.Nat.{ℕ, _+_}
 use mathlib.Core.Path.{_≡_, refl, sym, ap, _∙_, subst⁻¹}
 use mathlib.Core.Bool.{true, false, false≢true}
 use mathlib.Core.List.{List, [], _∷_, _++_, map}
-use mathlib.Core.Option.{Option}
 use lib.ListN.{length}
 use Rattle.handshake.specs.Handshake as paper
 use Rattle.handshake.specs.View.{viewOf, isSound, requestOf, isFinished, versionsOf, outcomeOf, responseOf, Meets, Handled}
 use Rattle.handshake.specs.Run as handshake
-use Rattle.handshake.specs.Run.{HandshakeExchange, HandshakeCalls, callOf, seenIn}
+use Rattle.handshake.specs.Run.{HandshakeExchange, HandshakeCalls, seenIn}
 use Rattle.handshake.specs.declared.handshake.EisHandshaker.{EisHandshaker}
 use Rattle.handshake.specs.declared.handshake.EisHandshakeResp.{EisHandshakeResp}
 use Rattle.handshake.specs.declared.handshake.HandshakeOutcome.{HandshakeOutcome}
-use Rattle.handshake.proofs.Runs.{request-settles, equal-handshakes}
+use Rattle.handshake.proofs.Runs.{responseIn, request-settles, equal-handshakes}
 use Rattle.model.specs.Call.{Load}
 use Rattle.model.specs.Session.{Session, fresh}
-use Rattle.session.specs.View.{session}
 use Rattle.session.proofs.Views.{whole-is}
-use Rattle.session_theorems.specs.Trail.{turnOf, seen, FreshCalls}
 use Rattle.session_theorems.specs.Served.{Served, shaken, Serves, From-finish, SameHandshake, handshakeSeen, Equal-sessions, Equal-served}
 use Rattle.session_theorems.proofs.Trails.{equal-seen}
 
@@ -60,12 +57,6 @@ from-finish x h =
     }
 
 -- ---- two connections
-
--- the response that a step of the handshake tells
-responseIn : paper.Response → paper.Result → paper.Response
-responseIn r paper.Result.accepted = r
-responseIn r (paper.Result.refused n) = r
-responseIn r (paper.Result.finished s) = s
 
 -- of a list that is not empty, the last
 lastOf : paper.Step → List paper.Step → paper.Step

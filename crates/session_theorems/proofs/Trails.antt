@@ -14,9 +14,9 @@ use Rattle.model.specs.Plan as plan
 use Rattle.model.specs.Step.{Step, refuses, run, step}
 use Rattle.model.specs.Demand3.{Observed, observed, trail, itemsOf, given, In-order}
 use Rattle.model.specs.Payload.{Matched-trails}
-use Rattle.model.specs.Refusals.{ofSession, Own-refusals}
-use Rattle.model.specs.Reachable.{countOf, deviceIds, sessionAfter, newIds, idsIn, Ids-ascend}
-use Rattle.model.specs.Kept.{pendingOf, Nothing-lost}
+use Rattle.model.specs.Refusals.{Own-refusals}
+use Rattle.model.specs.Reachable.{sessionAfter, newIds, idsIn, Ids-ascend}
+use Rattle.model.specs.Kept.{Nothing-lost}
 use Rattle.model.proofs.EqualTrails.{matched-trails}
 use Rattle.model.proofs.Provenance.{in-order, nothing-lost}
 use Rattle.model.proofs.Reachable.{ids-ascend}
