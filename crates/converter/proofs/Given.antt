@@ -1,6 +1,6 @@
 -- The oldest request, as `next_request` gives it. Assumes nothing.
 use Prim.Native.Nat.{ℕ, suc, _+_, _-_, _*_, _%_, _≤_, _<_}
-use mathlib.Core.Path.{_≡_, refl, sym, ap, ap₂, _∙_}
+use mathlib.Core.Path.{_≡_, refl, sym, ap, ap₂, subst, _∙_}
 use mathlib.Core.Bool.{true, false, cond, false≢true}
 use mathlib.Core.Option.{Option, none, some}
 use mathlib.Core.List.{List, [], _∷_, append-nil, map}
@@ -12,6 +12,7 @@ use Rattle.wire.specs.Bits.{splice}
 use Rattle.wire.proofs.Splices.{splice-none}
 use Rattle.requests.specs.Request.{form, given, orNone, textLength}
 use Rattle.requests.specs.Row.{textsLimit, noSlot, Row, entry, rowOf, rowAt, requestOf, cellAt}
+use Rattle.requests.specs.declared.cell.Cell.{Cell}
 use Rattle.requests.specs.declared.request.EisRequest.{EisRequest}
 use Rattle.model.specs.Call.{sight, Load, loadOf, Plain, Call, mapCall, split}
 use Rattle.model.specs.Session.{Queued, mapQueued, mapSession, blank, view}
@@ -54,6 +55,16 @@ text-room w r i n e l = slot-room (form (requestOf (cellAt w r i)) .text) (cellA
 module _ (s : Store) where
   abbrev pub head : Row
   head = rowAt (s .words) (s .reals) (queueRow (queueHead (s .control)) 0)
+
+  -- the cell of that row means its request, and tells the slot of its text
+  module _ {c : Cell} (is : c ≡ cellAt (s .words) (s .reals) (queueRow (queueHead (s .control)) 0)) where
+    pub head-request : requestOf c ≡ head .request
+    unfolding rowAt rowOf entry
+    head-request = ap requestOf is
+
+    pub head-slot : rowOf c .slot ≡ head .slot
+    unfolding rowAt
+    head-slot = ap (λ (x : Cell). rowOf x .slot) is
 
   abbrev row : ℕ → Queued Load
   row j = requestAt (s .texts) (rowAt (s .words) (s .reals) (queueRow (queueHead (s .control)) j))
@@ -165,3 +176,7 @@ delivered-bad s buffer b = record { damaged = λ h. (refl, (refl, refl)); handle
 pub delivered : {s e : Store} {buffer later : List ℕ} {r : NextRequest} → isWhole s ≡ true
     → ((clock : ℕ) → Gives s e buffer later (step (split (turn (Call.plain Plain.nextRequest) clock buffer)) (session s)) r) → Delivered s e buffer later r
 delivered b g = record { damaged = λ h. absurd (false≢true (sym h ∙ b)); handled = λ clock h. g clock }
+
+-- the same answer, told otherwise
+pub delivered-as : {s e : Store} {buffer later : List ℕ} {r k : NextRequest} → r ≡ k → Delivered s e buffer later r → Delivered s e buffer later k
+delivered-as {s} {e} {buffer} {later} p h = subst (Delivered s e buffer later) p h

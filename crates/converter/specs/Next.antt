@@ -21,7 +21,15 @@ use Rattle.answers.specs.Meets.{turn}
 use Rattle.answers.specs.declared.Error.{Error}
 use Rattle.answers.specs.declared.Outcome.{Outcome}
 use Rattle.answers.specs.declared.Answer.{Answer}
+use Rattle.requests.specs.Row.{requestOf}
 use Rattle.converter.specs.declared.request.NextRequest.{NextRequest}
+use Rattle.converter.specs.declared.request.NextCell.{NextCell}
+
+-- what is given as numbers, as the request that they mean
+abbrev pub nextOf : NextCell → NextRequest
+nextOf (NextCell.Given c) = NextRequest.Given (requestOf c)
+nextOf NextCell.None = NextRequest.None
+nextOf (NextCell.Refused e) = NextRequest.Refused e
 
 abbrev pub nextOutcome : NextRequest → plan.Result
 nextOutcome (NextRequest.Given r) = plan.Result.given

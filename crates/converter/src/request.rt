@@ -4,14 +4,16 @@ use answers::Answer;
 use answers::Error;
 use control::CONTROL_LENGTH;
 use handshake::handshake::EisHandshakeResp;
+use requests::cell::Cell;
 use requests::eis::InterfaceRequest;
 use requests::eis::Request;
 use requests::request::EisRequest;
+use requests::row;
 ghost use Prim.Native.Nat.{ℕ};
 ghost use Rattle.session.specs.View.{store, Whole};
 ghost use Rattle.answers.specs.Promise.{PromiseAt, Handles};
 ghost use Rattle.handlers.specs.Call.{interfaceCall, callOf};
-ghost use Rattle.converter.specs.Next.{Begins, Delivers};
+ghost use Rattle.converter.specs.Next.{Begins, nextOf, Delivers};
 
 // A client's request on the object of this id and version, at this clock. The text is that of a request that carries one.
 pub fn handle_request(
@@ -170,7 +172,41 @@ pub enum NextRequest {
     Refused(Error),
 }
 
-// The oldest queued request, taken out of the queue. A text goes to the buffer: so many bytes as the request says.
+// The same as numbers: a caller that reads them needs no way through the enum.
+pub enum NextCell {
+    Given(Cell),
+    None,
+    Refused(Error),
+}
+
+// The oldest queued request as its row has it, taken out of the queue. A text goes to the buffer: so many bytes as the request says.
+pub fn next_cell(
+    control: &mut [u64],
+    words: &[u64],
+    reals: &[f32],
+    texts: &[u8],
+    buffer: &mut [u8],
+) -> NextCell
+    ensures { λ r. ⌜ Delivers control words reals texts buffer (nextOf r) ⌝ }
+{
+    if !session::whole(control, words, reals, texts) {
+        return NextCell::Refused(Error::BadState);
+    }
+    if control::queue_length(control) == 0 {
+        return NextCell::None;
+    }
+    let oldest = queue::oldest(control, words, reals);
+    let request = row::decode(oldest);
+    let n = request.text_length() as usize;
+    if buffer.len() < n {
+        return NextCell::Refused(Error::ShortOut);
+    }
+    texts::copy_text(texts, row::slot_of(oldest), n, buffer);
+    queue::pop(control);
+    NextCell::Given(oldest)
+}
+
+// The oldest queued request, taken out of the queue.
 pub fn next_request(
     control: &mut [u64],
     words: &[u64],
@@ -180,18 +216,9 @@ pub fn next_request(
 ) -> NextRequest
     ensures { λ r. ⌜ Delivers control words reals texts buffer r ⌝ }
 {
-    if !session::whole(control, words, reals, texts) {
-        return NextRequest::Refused(Error::BadState);
+    match next_cell(control, words, reals, texts, buffer) {
+        NextCell::Given(oldest) => NextRequest::Given(row::decode(oldest)),
+        NextCell::None => NextRequest::None,
+        NextCell::Refused(error) => NextRequest::Refused(error),
     }
-    if control::queue_length(control) == 0 {
-        return NextRequest::None;
-    }
-    let request = queue::oldest(control, words, reals);
-    let n = request.text_length() as usize;
-    if buffer.len() < n {
-        return NextRequest::Refused(Error::ShortOut);
-    }
-    texts::copy_text(texts, queue::oldest_slot(control, words, reals), n, buffer);
-    queue::pop(control);
-    NextRequest::Given(request)
 }

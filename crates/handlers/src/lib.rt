@@ -284,7 +284,7 @@ pub fn handle_button_request(
 }
 
 // "ScrollStop with `is_cancel` not 0 becomes ScrollCancel; `x` and `y` become true when not 0."
-fn scroll_stop(x: u32, y: u32, is_cancel: u32) -> Cell
+pub fn scroll_stop(x: u32, y: u32, is_cancel: u32) -> Cell
     ensures { λ r. ⌜ Waits (Input.ScrollStop x y «is_cancel») r ⌝ }
 {
     if is_cancel != 0 {

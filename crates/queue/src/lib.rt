@@ -10,7 +10,7 @@ use session::QUEUE_START;
 ghost use mathlib.Core.Path.{_≡_};
 ghost use mathlib.Core.List.{[], _∷_};
 ghost use Prim.Native.Nat.{_+_, _≤_, _<_};
-ghost use Rattle.requests.specs.Row.{rowAt, rowOf};
+ghost use Rattle.requests.specs.Row.{cellAt, rowAt, rowOf};
 ghost use Rattle.model.specs.Session.{Untimed, Queued};
 ghost use Rattle.model.specs.Edit.{Edit};
 ghost use Rattle.control.specs.Control.{pendingLimit, queueLimit, deviceCount, queueHead, queueLength, coreAt, pendingAt};
@@ -132,20 +132,12 @@ pub fn frame(
     control::edits::set_pending(control, k, 0);
 }
 
-// The oldest queued request.
-pub fn oldest(control: &[u64], words: &[u64], reals: &[f32]) -> EisRequest
+// The oldest queued request, as its row has it.
+pub fn oldest(control: &[u64], words: &[u64], reals: &[f32]) -> Cell
     requires { ⌜ Lent (now control) (now words) (now reals) × (0 < queueLength (now control)) ⌝ }
-    ensures { λ r. ⌜ r ≡ rowAt (now (words .entry)) (now (reals .entry)) (queueRow (queueHead (now (control .entry))) 0) .request ⌝ }
+    ensures { λ c. ⌜ c ≡ cellAt (now (words .entry)) (now (reals .entry)) (queueRow (queueHead (now (control .entry))) 0) ⌝ }
 {
-    row::load(words, reals, queue_row(control::queue_head(control), 0))
-}
-
-// The slot of its text; `NO_SLOT` where it has none.
-pub fn oldest_slot(control: &[u64], words: &[u64], reals: &[f32]) -> usize
-    requires { ⌜ Lent (now control) (now words) (now reals) × (0 < queueLength (now control)) ⌝ }
-    ensures { λ r. ⌜ r ≡ rowAt (now (words .entry)) (now (reals .entry)) (queueRow (queueHead (now (control .entry))) 0) .slot ⌝ }
-{
-    row::load_slot(words, reals, queue_row(control::queue_head(control), 0))
+    row::read_cell(words, reals, queue_row(control::queue_head(control), 0))
 }
 
 // The oldest queued request taken out.

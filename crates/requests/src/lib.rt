@@ -1,6 +1,6 @@
 // What a client sends (eis), what the station is given (request), and how the latter lies in memory (kinds, cell, row).
 pub mod cell;
 pub mod eis;
-mod kinds;
+pub mod kinds;
 pub mod request;
 pub mod row;

@@ -347,7 +347,8 @@ fn framed(c: Cell, device: u64, time: u64) -> Cell
     r
 }
 
-fn read_cell(words: &[u64], reals: &[f32], row: usize) -> Cell
+// The cell of a row.
+pub fn read_cell(words: &[u64], reals: &[f32], row: usize) -> Cell
     requires { ⌜ Within (now words) (now reals) row ⌝ }
     ensures { λ c. ⌜ c ≡ cellAt (now (words .entry)) (now (reals .entry)) row ⌝ }
 {
@@ -377,14 +378,6 @@ fn write_cell(words: &mut [u64], reals: &mut [f32], row: usize, c: Cell)
     words[w + 4] = c.flag;
     reals[r] = c.x;
     reals[r + 1] = c.y;
-}
-
-// The request of a row.
-pub fn load(words: &[u64], reals: &[f32], row: usize) -> EisRequest
-    requires { ⌜ Within (now words) (now reals) row ⌝ }
-    ensures { λ r. ⌜ r ≡ rowAt (now (words .entry)) (now (reals .entry)) row .request ⌝ }
-{
-    decode(read_cell(words, reals, row))
 }
 
 // The slot of a row's text; `NO_SLOT` where the row has no text.

@@ -1,112 +1,41 @@
--- The oldest row, its text, and the row taken out. Assumes nothing.
-use Prim.Native.Nat.{_<_}
-use mathlib.Core.Path.{_≡_, ap, _∙_}
-use mathlib.Core.Bool.{true}
-use native.Mathlib.Omega.{arith}
-use Rattle.requests.specs.Request.{textLength}
-use Rattle.model.specs.Call.{Load}
-use Rattle.control.specs.Control.{queueHead, queueLength}
-use Rattle.session.specs.View.{Store, store, queueRow, isWhole, Whole}
-use Rattle.session.proofs.Views.{whole-parts, lent-part}
-use Rattle.answers.proofs.Meetings.{failed, passed}
-use Rattle.converter.proofs.Given.{text-room, given-none, given-short, given-done, delivered-bad, delivered}
+-- What was given as numbers is the request that they mean. Assumes nothing.
+use mathlib.Core.Path.{sym, ap, _∙_}
 use borrow.Author.Needs.{needs}
+use Rattle.converter.specs.Next.{nextOf}
+use Rattle.converter.specs.declared.request.NextRequest.{NextRequest}
+use Rattle.converter.proofs.Given.{delivered-as}
 use Rattle.converter.proofs.request.next_request.Statement.{statement}
 use Rattle.converter.proofs.request.next_request.Tie as tie
 
 returns : tie.Need-returns
 returns c =
-    let a = c .before .before .before .before .before .before .before .before .args in
-    delivered-bad (store (a .control .now) (a .words .now) (a .reals .now) (a .texts .now)) (a .buffer .now) (failed (c .before .whole .ensures) (c .if1 .taken))
-
--- ---- behind 21's test
-
-abbrev lent : tie.Else1 → Store
-lent p = let a = p .before .before .before .before .before .before .before .before .args in store (a .control .now) (a .words .now) (a .reals .now) (a .texts .now)
-
-intact : (p : tie.Else1) → isWhole (lent p) ≡ true
-intact p = passed (p .before .whole .ensures) (p .if1 .left)
-
-whole : (p : tie.Else1) → Whole (lent p)
-whole p = whole-parts (lent p) (intact p)
-
--- ---- behind the test of the queue
-
-some-queued : (p : tie.Else2) → 0 < queueLength (lent (p .before .before .before) .control)
-some-queued p = omega (arith, p .before .queue-length .ensures)
-
-queue-length-requires : tie.Need-queue-length-requires
-queue-length-requires c κs = whole (c .before) .sound .long
+    let at-oldest = c .before .before in
+    delivered-as (ap nextOf (at-oldest .oldest .given .1) ∙ sym (ap NextRequest.Given (c .decode .ensures)))
+    (at-oldest .before .before .before .before .before .before .next-cell .ensures)
 
 returns-2 : tie.Need-returns-2
 returns-2 c =
-    let p = c .before .before .before in
-    let a = p .before .before .before .before .before .before .before .before .args in
-    delivered (intact p) (λ clock. given-none (lent p) (a .buffer .now) clock (whole p) (omega (arith, c .before .queue-length .ensures)))
-
-oldest-requires : tie.Need-oldest-requires
-oldest-requires c κs = (lent-part _ (whole (c .before .before .before .before)), some-queued (c .before))
+    delivered-as (ap nextOf (c .enum-told .given .1)) (c .before .before .before .before .before .before .next-cell .ensures)
 
 returns-3 : tie.Need-returns-3
 returns-3 c =
-    let at-if2 = c .before .before .before .before in
-    let p = at-if2 .before .before .before in
-    let a = p .before .before .before .before .before .before .before .before .args in
-    delivered (intact p)
-    (λ clock. given-short (lent p) (a .buffer .now) clock (some-queued at-if2) (c .before .before .oldest .ensures) (c .before .text-length .ensures) (whole p) (omega arith))
-
-oldest-slot-requires : tie.Need-oldest-slot-requires
-oldest-slot-requires c κs = (lent-part _ (whole (c .before .before .before .before .before .before .before .before)), some-queued (c .before .before .before .before .before))
-
-copy-text-requires : tie.Need-copy-text-requires
-copy-text-requires c κs =
-    let at-text-length = c .before .before .before .before in
-    let at-oldest = at-text-length .before in
-    let p = at-oldest .before .before .before .before .before in
-    let a = p .before .before .before .before .before .before .before .before .args in
-    let size = at-text-length .text-length .ensures ∙ ap textLength (at-oldest .oldest .ensures) in
-    (omega (arith, text-room (a .words .now) (a .reals .now) (queueRow (queueHead (a .control .now)) 0) _ size (omega arith), c .before .oldest-slot .ensures, whole p .texts-long), omega arith)
-
-pop-requires : tie.Need-pop-requires
-pop-requires c κs = (whole (c .before .before .before .before .before .before .before .before .before .before .before .before .before .before) .sound, some-queued (c .before .before .before .before .before .before .before .before .before .before .before))
-
-returns-4 : tie.Need-returns-4
-returns-4 c =
-    let at-copy-text = c .before .before .before .before .before .before in
-    let at-oldest-slot = at-copy-text .before .before in
-    let at-text-length = at-oldest-slot .before .before .before in
-    let at-oldest = at-text-length .before in
-    let at-if2 = at-oldest .before .before in
-    let p = at-if2 .before .before .before in
-    let a = p .before .before .before .before .before .before .before .before .args in
-    let w = whole p in
-    let size = at-text-length .text-length .ensures ∙ ap textLength (at-oldest .oldest .ensures) in
-    let room = text-room (a .words .now) (a .reals .now) (queueRow (queueHead (a .control .now)) 0) _ size (omega arith) in
-    let o = c .before .before .pop .ensures (a .words .now) (a .reals .now) (a .texts .now) Load.None in
-    delivered (intact p)
-    (λ clock.
-    given-done (lent p) (a .buffer .now) clock (some-queued at-if2) (at-oldest .oldest .ensures) (at-text-length .text-length .ensures) (at-oldest-slot .oldest-slot .ensures)
-    (omega (arith, room, at-oldest-slot .oldest-slot .ensures, w .texts-long)) (omega arith) (at-copy-text .copy-text .ensures)
-    (record { sound = o .sound; words-long = w .words-long; reals-long = w .reals-long; texts-long = w .texts-long }) o)
+    delivered-as (ap nextOf (c .before .error .given .1)) (c .before .before .before .before .before .before .before .next-cell .ensures)
 
 pub next-request-spec : {M : Type 1} → statement M
 next-request-spec =
     tie.close
     (tie.spec
-    (λ c κs. search needs)  -- whole-requires
+    (λ c κs. search needs)  -- next-cell-requires
+    (λ c. search needs)  -- enum-known-oldest
+    (λ c κs. search needs)  -- decode-requires
+    (λ c. search needs)  -- enum-told
+    (λ c. search needs)  -- enum-known-error
     (λ c. search needs)  -- same-length
-    returns
-    queue-length-requires
     (λ c. search needs)  -- same-length-2
-    returns-2
-    oldest-requires
-    (λ c κs. search needs)  -- text-length-requires
-    (λ c. search needs)  -- cast-n
+    returns
     (λ c. search needs)  -- same-length-3
-    returns-3
-    oldest-slot-requires
-    copy-text-requires
-    pop-requires
     (λ c. search needs)  -- same-length-4
+    returns-2
     (λ c. search needs)  -- same-length-5
-    returns-4)
+    (λ c. search needs)  -- same-length-6
+    returns-3)
