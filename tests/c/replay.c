@@ -1,0 +1,649 @@
+/*
+ * replay: reads a call script on standard input and writes its trail, through the functions of bozterrun.h alone.
+ *
+ * docs/CALL-SCRIPTS.md says what a script and a trail are. A line that is no call ends the trail with `error line N`,
+ * and the exit status is then 2.
+ */
+#define _POSIX_C_SOURCE 200809L
+#include "bozterrun.h"
+#include <inttypes.h>
+#include <stdio.h>
+#include <stdlib.h>
+#include <string.h>
+#include <sys/types.h>
+
+enum { LINE_LIMIT = 65536, OUT_LIMIT = 4096, WORDS_LIMIT = 4 };
+
+/*
+ * The calls, by where they may be made, with a letter for each word behind the name: L a number of 64 bits, I one of
+ * 32, A a signed amount, F an f32, T a text, O a text or `none`, S a press state, C a context type, D a device type,
+ * R a reason, M one capability.
+ */
+#define SETTINGS(X) X(NOW, "now", "L") X(OUT, "out", "L") X(BUFFER, "buffer", "L") X(START, "start", "I")
+#define CLIENT(X) \
+    X(HANDSHAKE_VERSION, "handshake.handshake_version", "I") \
+    X(HANDSHAKE_NAME, "handshake.name", "T") \
+    X(HANDSHAKE_CONTEXT_TYPE, "handshake.context_type", "C") \
+    X(HANDSHAKE_INTERFACE_VERSION, "handshake.interface_version", "TI") \
+    X(HANDSHAKE_FINISH, "handshake.finish", "") \
+    X(CONNECTION_SYNC, "connection.sync", "LI") \
+    X(CONNECTION_DISCONNECT, "connection.disconnect", "") \
+    X(PINGPONG_DONE, "pingpong.done", "") \
+    X(SEAT_RELEASE, "seat.release", "L") \
+    X(SEAT_BIND, "seat.bind", "LL") \
+    X(SEAT_REQUEST_DEVICE, "seat.request_device", "LL") \
+    X(DEVICE_RELEASE, "device.release", "L") \
+    X(DEVICE_START_EMULATING, "device.start_emulating", "LII") \
+    X(DEVICE_STOP_EMULATING, "device.stop_emulating", "LI") \
+    X(DEVICE_FRAME, "device.frame", "LIL") \
+    X(DEVICE_READY, "device.ready", "L") \
+    X(POINTER_RELEASE, "pointer.release", "L") \
+    X(POINTER_MOTION_RELATIVE, "pointer.motion_relative", "LFF") \
+    X(POINTER_ABSOLUTE_RELEASE, "pointer_absolute.release", "L") \
+    X(POINTER_ABSOLUTE_MOTION_ABSOLUTE, "pointer_absolute.motion_absolute", "LFF") \
+    X(SCROLL_RELEASE, "scroll.release", "L") \
+    X(SCROLL_SCROLL, "scroll.scroll", "LFF") \
+    X(SCROLL_SCROLL_DISCRETE, "scroll.scroll_discrete", "LAA") \
+    X(SCROLL_SCROLL_STOP, "scroll.scroll_stop", "LIII") \
+    X(BUTTON_RELEASE, "button.release", "L") \
+    X(BUTTON_BUTTON, "button.button", "LIS") \
+    X(KEYBOARD_RELEASE, "keyboard.release", "L") \
+    X(KEYBOARD_KEY, "keyboard.key", "LIS") \
+    X(TOUCHSCREEN_RELEASE, "touchscreen.release", "L") \
+    X(TOUCHSCREEN_DOWN, "touchscreen.down", "LIFF") \
+    X(TOUCHSCREEN_MOTION, "touchscreen.motion", "LIFF") \
+    X(TOUCHSCREEN_UP, "touchscreen.up", "LI") \
+    X(TOUCHSCREEN_CANCEL, "touchscreen.cancel", "LII") \
+    X(TEXT_RELEASE, "text.release", "L") \
+    X(TEXT_KEYSYM, "text.keysym", "LIS") \
+    X(TEXT_UTF8, "text.utf8", "LT")
+#define STATION(X) \
+    X(NEXT_REQUEST, "next_request", "") \
+    X(ADD_SEAT, "add_seat", "OL") \
+    X(ADD_DEVICE, "add_device", "LODL") \
+    X(REMOVE_SEAT, "remove_seat", "L") \
+    X(REMOVE_DEVICE, "remove_device", "L") \
+    X(RESUMED, "resumed", "L") \
+    X(PAUSED, "paused", "L") \
+    X(START_EMULATING, "start_emulating", "LI") \
+    X(STOP_EMULATING, "stop_emulating", "L") \
+    X(FRAME, "frame", "LL") \
+    X(DISCONNECTED, "disconnected", "RO") \
+    X(LAST_SERIAL, "last_serial", "") \
+    X(HAS_INTERFACE, "has_interface", "T") \
+    X(INTERFACE_VERSION, "interface_version", "T") \
+    X(HAS_CAPABILITY, "has_capability", "LM")
+
+#define AS_CASE(name, word, words) name,
+#define AS_ROW(name, word, words) {word, words},
+enum verb { SETTINGS(AS_CASE) CLIENT(AS_CASE) STATION(AS_CASE) VERBS };
+static const struct {
+    const char *name, *words;
+} verbs[VERBS] = {SETTINGS(AS_ROW) CLIENT(AS_ROW) STATION(AS_ROW)};
+
+/* A line: what it asks for, its words by place, and its text, NULL where it is `none`. */
+static struct {
+    enum verb verb;
+    uint64_t n[WORDS_LIMIT];
+    float f[WORDS_LIMIT];
+    int32_t amount[WORDS_LIMIT];
+    const uint8_t *text;
+    size_t length;
+} line;
+
+static struct {
+    enum { BEFORE, SHAKING, RUNNING } phase;
+    uint64_t clock, out_length, buffer_length;
+    bozterrun_handshake handshake;
+    bozterrun_session session;
+} run = {.out_length = OUT_LIMIT, .buffer_length = BOZTERRUN_NAME_LENGTH};
+
+static uint8_t out[OUT_LIMIT], buffer[OUT_LIMIT], text_bytes[LINE_LIMIT / 2];
+
+/* ---- Reading ---- */
+
+static int digit_of(char c)
+{
+    static const char digits[] = "0123456789abcdef0123456789ABCDEF";
+    const char *const found = c != 0 ? strchr(digits, c) : NULL;
+    return found != NULL ? (int)(found - digits) % 16 : 99;
+}
+
+static bool read_number(const char *word, size_t length, uint64_t *n)
+{
+    const bool hex = length >= 2 && word[0] == '0' && word[1] == 'x';
+    const uint64_t base = hex ? 16 : 10;
+    size_t i = hex ? 2 : 0;
+    *n = 0;
+    if (i == length) {
+        return false;
+    }
+    for (; i < length; i++) {
+        const uint64_t digit = (uint64_t)digit_of(word[i]);
+        if (digit >= base || *n > (UINT64_MAX - digit) / base) {
+            return false;
+        }
+        *n = *n * base + digit;
+    }
+    return true;
+}
+
+static bool read_amount(const char *word, size_t length, int32_t *amount)
+{
+    uint64_t n;
+    const bool negative = word[0] == '-';
+    if (negative && length >= 3 && word[1] == '0' && word[2] == 'x') {
+        return false;
+    }
+    if (!read_number(word + negative, length - negative, &n) || n > 2147483647 + (uint64_t)negative) {
+        return false;
+    }
+    *amount = (int32_t)(negative ? -(int64_t)n : (int64_t)n);
+    return true;
+}
+
+static bool read_real(const char *word, size_t length, float *f)
+{
+    uint64_t n = 0x7fc00000;
+    if (!(length == 3 && memcmp(word, "nan", 3) == 0) &&
+        (length < 2 || memcmp(word, "0x", 2) != 0 || !read_number(word, length, &n) || n > UINT32_MAX)) {
+        return false;
+    }
+    const uint32_t bits = (uint32_t)n;
+    memcpy(f, &bits, sizeof bits);
+    return true;
+}
+
+static bool read_text(const char *word, size_t length)
+{
+    if (length < 2 || length % 2 != 0 || memcmp(word, "t:", 2) != 0) {
+        return false;
+    }
+    line.text = text_bytes;
+    line.length = length / 2 - 1;
+    for (size_t i = 0; i < line.length; i++) {
+        const int high = digit_of(word[2 + 2 * i]), low = digit_of(word[3 + 2 * i]);
+        if (high > 15 || low > 15) {
+            return false;
+        }
+        text_bytes[i] = (uint8_t)(16 * high + low);
+    }
+    return true;
+}
+
+/* The word at a place, by its letter. */
+static bool read_word(char letter, size_t place, const char *word, size_t length)
+{
+    uint64_t *const n = &line.n[place];
+    switch (letter) {
+    case 'A':
+        return read_amount(word, length, &line.amount[place]);
+    case 'F':
+        return read_real(word, length, &line.f[place]);
+    case 'O':
+        if (length == 4 && memcmp(word, "none", 4) == 0) {
+            line.text = NULL;
+            return true;
+        }
+        return read_text(word, length);
+    case 'T':
+        return read_text(word, length);
+    }
+    if (!read_number(word, length, n)) {
+        return false;
+    }
+    switch (letter) {
+    case 'I':
+        return *n <= UINT32_MAX;
+    case 'S':
+        return *n <= 1;
+    case 'C':
+    case 'D':
+        return *n == 1 || *n == 2;
+    case 'R':
+        return *n <= 5;
+    case 'M':
+        return *n < 128 && *n != 0 && (*n & (*n - 1)) == 0;
+    }
+    return true;
+}
+
+static bool read_line(const char *bytes, size_t length)
+{
+    const char *const end = bytes + length;
+    const char *word = bytes;
+    const char *space = memchr(word, ' ', length);
+    size_t size = (size_t)((space != NULL ? space : end) - word);
+    size_t verb = 0;
+    while (verb < VERBS && (strlen(verbs[verb].name) != size || memcmp(verbs[verb].name, word, size) != 0)) {
+        verb++;
+    }
+    if (verb == VERBS) {
+        return false;
+    }
+    line.verb = (enum verb)verb;
+    line.text = text_bytes;
+    line.length = 0;
+    for (size_t place = 0; verbs[verb].words[place] != 0; place++) {
+        if (space == NULL) {
+            return false;
+        }
+        word = space + 1;
+        space = memchr(word, ' ', (size_t)(end - word));
+        size = (size_t)((space != NULL ? space : end) - word);
+        if (size == 0 || !read_word(verbs[verb].words[place], place, word, size)) {
+            return false;
+        }
+    }
+    return space == NULL;
+}
+
+/* ---- Writing ---- */
+
+static void write_hex(const uint8_t *bytes, size_t length)
+{
+    for (size_t i = 0; i < length; i++) {
+        printf("%02x", bytes[i]);
+    }
+}
+
+/* The end of an answer's line: the event records. */
+static void write_records(size_t count)
+{
+    bozterrun_event event;
+    size_t at = 0, before = 0;
+    if (count > 0) {
+        printf(" |");
+    }
+    while (bz_next_event(out, count, &at, &event)) {
+        printf(" ");
+        write_hex(out + before, at - before);
+        before = at;
+    }
+    if (at != count) {
+        printf(" no record at byte %zu of %zu", at, count);
+    }
+    printf("\n");
+}
+
+static void write_real(const char *name, float f)
+{
+    uint32_t bits;
+    memcpy(&bits, &f, sizeof bits);
+    if ((bits & 0x7fffffff) > 0x7f800000) {
+        printf(" %s=nan", name);
+    } else {
+        printf(" %s=0x%08" PRIx32, name, bits);
+    }
+}
+
+static void write_pair(const char *x, const char *y, const bozterrun_request *r)
+{
+    write_real(x, r->x);
+    write_real(y, r->y);
+}
+
+static void write_request(const bozterrun_request *r)
+{
+    static const char *const names[] = {
+        "Disconnect", "Bind", "DeviceClosed", "RequestDevice", "Frame", "Ready", "DeviceStartEmulating",
+        "DeviceStopEmulating", "PointerMotion", "PointerMotionAbsolute", "Button", "ScrollDelta", "ScrollStop",
+        "ScrollCancel", "ScrollDiscrete", "KeyboardKey", "TouchDown", "TouchUp", "TouchMotion", "TouchCancel",
+        "TextKeysym", "TextUtf8"};
+    const uint32_t kind = bz_request_kind(r);
+    const unsigned press = r->state == BOZTERRUN_PRESS;
+    printf("%s", names[kind]);
+    if (kind == BOZTERRUN_REQUEST_BIND || kind == BOZTERRUN_REQUEST_REQUEST_DEVICE) {
+        printf(" seat=0x%016" PRIx64 " capabilities=%" PRIu64, r->seat, r->capabilities);
+    } else if (kind != BOZTERRUN_REQUEST_DISCONNECT) {
+        printf(" device=0x%016" PRIx64, r->device);
+    }
+    if (kind >= BOZTERRUN_REQUEST_POINTER_MOTION) {
+        printf(" time=%" PRIu64, r->time);
+    }
+    switch (kind) {
+    case BOZTERRUN_REQUEST_FRAME:
+        printf(" last_serial=%" PRIu32 " time=%" PRIu64, r->last_serial, r->time);
+        break;
+    case BOZTERRUN_REQUEST_DEVICE_START_EMULATING:
+        printf(" last_serial=%" PRIu32 " sequence=%" PRIu32, r->last_serial, r->sequence);
+        break;
+    case BOZTERRUN_REQUEST_DEVICE_STOP_EMULATING:
+        printf(" last_serial=%" PRIu32, r->last_serial);
+        break;
+    case BOZTERRUN_REQUEST_POINTER_MOTION:
+    case BOZTERRUN_REQUEST_SCROLL_DELTA:
+        write_pair("dx", "dy", r);
+        break;
+    case BOZTERRUN_REQUEST_POINTER_MOTION_ABSOLUTE:
+        write_pair("dx_absolute", "dy_absolute", r);
+        break;
+    case BOZTERRUN_REQUEST_BUTTON:
+        printf(" button=%" PRIu32 " state=%u", r->button, press);
+        break;
+    case BOZTERRUN_REQUEST_SCROLL_STOP:
+    case BOZTERRUN_REQUEST_SCROLL_CANCEL:
+        printf(" x=%s y=%s", r->stop_x == 1 ? "true" : "false", r->stop_y == 1 ? "true" : "false");
+        break;
+    case BOZTERRUN_REQUEST_SCROLL_DISCRETE:
+        printf(" discrete_dx=%" PRId32 " discrete_dy=%" PRId32, r->discrete_x, r->discrete_y);
+        break;
+    case BOZTERRUN_REQUEST_KEYBOARD_KEY:
+        printf(" key=%" PRIu32 " state=%u", r->key, press);
+        break;
+    case BOZTERRUN_REQUEST_TOUCH_DOWN:
+    case BOZTERRUN_REQUEST_TOUCH_MOTION:
+        printf(" touch_id=%" PRIu32, r->touch_id);
+        write_pair("x", "y", r);
+        break;
+    case BOZTERRUN_REQUEST_TOUCH_UP:
+    case BOZTERRUN_REQUEST_TOUCH_CANCEL:
+        printf(" touch_id=%" PRIu32, r->touch_id);
+        break;
+    case BOZTERRUN_REQUEST_TEXT_KEYSYM:
+        printf(" keysym=%" PRIu32 " state=%u", r->keysym, press);
+        break;
+    case BOZTERRUN_REQUEST_TEXT_UTF8:
+        printf(" text=t:");
+        write_hex(buffer, r->length);
+        break;
+    default: /* the other kinds have no more fields */
+        break;
+    }
+}
+
+/* ---- The calls ---- */
+
+/* What a call answered, besides event records. */
+typedef struct {
+    uint32_t answer;
+    size_t count;
+    uint64_t value;
+    uint32_t interface, version; /* that refusal 2 tells */
+} told;
+
+static void write_answer(const told *t)
+{
+    if (t->answer == BOZTERRUN_NONE) {
+        printf("none");
+    } else if (t->answer == BOZTERRUN_INVALID_INTERFACE_VERSION) {
+        printf("refused 2 interface=%" PRIu32 " version=%" PRIu32, t->interface, t->version);
+    } else if (t->answer != BOZTERRUN_ACCEPTED) {
+        printf("refused %" PRIu32, t->answer);
+    } else if (line.verb == ADD_SEAT || line.verb == ADD_DEVICE) {
+        printf("%s 0x%016" PRIx64, line.verb == ADD_SEAT ? "seat" : "device", t->value);
+    } else if (line.verb == LAST_SERIAL || line.verb == INTERFACE_VERSION) {
+        printf("%" PRIu64, t->value);
+    } else if (line.verb == HAS_INTERFACE || line.verb == HAS_CAPABILITY) {
+        printf(t->value == 1 ? "true" : "false");
+    } else if (line.verb != NEXT_REQUEST) {
+        printf("accepted");
+    }
+    write_records(t->count);
+}
+
+static size_t at_most(uint64_t length)
+{
+    return length < OUT_LIMIT ? (size_t)length : OUT_LIMIT;
+}
+
+#define N32(place) ((uint32_t)line.n[place])
+#define LENT_OUT out, at_most(run.out_length), &t.count
+
+/* A client's message before the session. */
+static told shake(void)
+{
+    bozterrun_handshake *const h = &run.handshake;
+    told t = {0, 0, 0, 0, 0};
+    switch (line.verb) {
+    case HANDSHAKE_VERSION:
+        t.answer = bz_handshake_handshake_version(h, N32(0));
+        break;
+    case HANDSHAKE_NAME:
+        t.answer = bz_handshake_name(h, line.text, line.length);
+        break;
+    case HANDSHAKE_CONTEXT_TYPE:
+        t.answer = bz_handshake_context_type(h, N32(0));
+        break;
+    case HANDSHAKE_INTERFACE_VERSION:
+        t.answer = bz_handshake_interface_version(h, line.text, line.length, N32(1));
+        break;
+    case HANDSHAKE_FINISH:
+        t.answer = bz_handshake_finish(h, &run.session, LENT_OUT);
+        if (t.answer == BOZTERRUN_ACCEPTED) {
+            run.phase = RUNNING;
+        }
+        break;
+    default:
+        t.answer = bz_handshake_other(h, line.text, line.length);
+    }
+    return t;
+}
+
+static uint32_t turn_away(uint32_t opcode)
+{
+    return bz_unexpected_handshake(&run.session, opcode, N32(0), line.text, line.length);
+}
+
+/* A call on the session. */
+static told call(void)
+{
+    bozterrun_session *const s = &run.session;
+    const uint64_t id = line.n[0];
+    bozterrun_request request;
+    told t = {0, 0, 0, 0, 0};
+#define RELEASE(capability) bz_interface_release(s, capability, id, LENT_OUT)
+    switch (line.verb) {
+    case HANDSHAKE_VERSION:
+        t.answer = turn_away(BOZTERRUN_OPCODE_HANDSHAKE_VERSION);
+        break;
+    case HANDSHAKE_NAME:
+        t.answer = turn_away(BOZTERRUN_OPCODE_NAME);
+        break;
+    case HANDSHAKE_CONTEXT_TYPE:
+        t.answer = turn_away(BOZTERRUN_OPCODE_CONTEXT_TYPE);
+        break;
+    case HANDSHAKE_INTERFACE_VERSION:
+        t.answer = turn_away(BOZTERRUN_OPCODE_INTERFACE_VERSION);
+        break;
+    case HANDSHAKE_FINISH:
+        t.answer = turn_away(BOZTERRUN_OPCODE_FINISH);
+        break;
+    case CONNECTION_SYNC:
+        t.answer = bz_connection_sync(s, id, N32(1), LENT_OUT, &t.interface, &t.version);
+        break;
+    case CONNECTION_DISCONNECT:
+        t.answer = bz_connection_disconnect(s);
+        break;
+    case PINGPONG_DONE:
+        t.answer = bz_pingpong_done(s);
+        break;
+    case SEAT_RELEASE:
+        t.answer = bz_seat_release(s, id, LENT_OUT);
+        break;
+    case SEAT_BIND:
+        t.answer = bz_seat_bind(s, id, line.n[1]);
+        break;
+    case SEAT_REQUEST_DEVICE:
+        t.answer = bz_seat_request_device(s, id, line.n[1]);
+        break;
+    case DEVICE_RELEASE:
+        t.answer = bz_device_release(s, id, run.clock);
+        break;
+    case DEVICE_START_EMULATING:
+        t.answer = bz_device_start_emulating(s, id, N32(1), N32(2), run.clock);
+        break;
+    case DEVICE_STOP_EMULATING:
+        t.answer = bz_device_stop_emulating(s, id, N32(1), run.clock);
+        break;
+    case DEVICE_FRAME:
+        t.answer = bz_device_frame(s, id, N32(1), line.n[2]);
+        break;
+    case DEVICE_READY:
+        t.answer = bz_device_ready(s, id, run.clock);
+        break;
+    case POINTER_RELEASE:
+        t.answer = RELEASE(BOZTERRUN_CAPABILITY_POINTER);
+        break;
+    case POINTER_MOTION_RELATIVE:
+        t.answer = bz_pointer_motion_relative(s, id, line.f[1], line.f[2]);
+        break;
+    case POINTER_ABSOLUTE_RELEASE:
+        t.answer = RELEASE(BOZTERRUN_CAPABILITY_POINTER_ABSOLUTE);
+        break;
+    case POINTER_ABSOLUTE_MOTION_ABSOLUTE:
+        t.answer = bz_pointer_absolute_motion_absolute(s, id, line.f[1], line.f[2]);
+        break;
+    case SCROLL_RELEASE:
+        t.answer = RELEASE(BOZTERRUN_CAPABILITY_SCROLL);
+        break;
+    case SCROLL_SCROLL:
+        t.answer = bz_scroll_scroll(s, id, line.f[1], line.f[2]);
+        break;
+    case SCROLL_SCROLL_DISCRETE:
+        t.answer = bz_scroll_scroll_discrete(s, id, line.amount[1], line.amount[2]);
+        break;
+    case SCROLL_SCROLL_STOP:
+        t.answer = bz_scroll_scroll_stop(s, id, N32(1), N32(2), N32(3));
+        break;
+    case BUTTON_RELEASE:
+        t.answer = RELEASE(BOZTERRUN_CAPABILITY_BUTTON);
+        break;
+    case BUTTON_BUTTON:
+        t.answer = bz_button_button(s, id, N32(1), N32(2));
+        break;
+    case KEYBOARD_RELEASE:
+        t.answer = RELEASE(BOZTERRUN_CAPABILITY_KEYBOARD);
+        break;
+    case KEYBOARD_KEY:
+        t.answer = bz_keyboard_key(s, id, N32(1), N32(2));
+        break;
+    case TOUCHSCREEN_RELEASE:
+        t.answer = RELEASE(BOZTERRUN_CAPABILITY_TOUCH);
+        break;
+    case TOUCHSCREEN_DOWN:
+        t.answer = bz_touchscreen_down(s, id, N32(1), line.f[2], line.f[3]);
+        break;
+    case TOUCHSCREEN_MOTION:
+        t.answer = bz_touchscreen_motion(s, id, N32(1), line.f[2], line.f[3]);
+        break;
+    case TOUCHSCREEN_UP:
+        t.answer = bz_touchscreen_up(s, id, N32(1));
+        break;
+    case TOUCHSCREEN_CANCEL:
+        t.answer = bz_touchscreen_cancel(s, id, N32(1), N32(2), &t.interface, &t.version);
+        break;
+    case TEXT_RELEASE:
+        t.answer = RELEASE(BOZTERRUN_CAPABILITY_TEXT);
+        break;
+    case TEXT_KEYSYM:
+        t.answer = bz_text_keysym(s, id, N32(1), N32(2));
+        break;
+    case TEXT_UTF8:
+        t.answer = bz_text_utf8(s, id, line.text, line.length);
+        break;
+    case NEXT_REQUEST:
+        t.answer = bz_next_request(s, &request, buffer, at_most(run.buffer_length));
+        if (t.answer == BOZTERRUN_ACCEPTED) {
+            write_request(&request);
+        }
+        break;
+    case ADD_SEAT:
+        t.answer = bz_add_seat(s, line.text, line.length, line.n[1], LENT_OUT, &t.value);
+        break;
+    case ADD_DEVICE:
+        t.answer = bz_add_device(s, id, line.text, line.length, N32(2), line.n[3], LENT_OUT, &t.value);
+        break;
+    case REMOVE_SEAT:
+        t.answer = bz_remove_seat(s, id, LENT_OUT);
+        break;
+    case REMOVE_DEVICE:
+        t.answer = bz_remove_device(s, id, LENT_OUT);
+        break;
+    case RESUMED:
+        t.answer = bz_resumed(s, id, LENT_OUT);
+        break;
+    case PAUSED:
+        t.answer = bz_paused(s, id, LENT_OUT);
+        break;
+    case START_EMULATING:
+        t.answer = bz_start_emulating(s, id, N32(1), LENT_OUT);
+        break;
+    case STOP_EMULATING:
+        t.answer = bz_stop_emulating(s, id, LENT_OUT);
+        break;
+    case FRAME:
+        t.answer = bz_frame(s, id, line.n[1], LENT_OUT);
+        break;
+    case DISCONNECTED:
+        t.answer = bz_disconnected(s, N32(0), line.text, line.length, LENT_OUT);
+        break;
+    case LAST_SERIAL:
+        t.answer = bz_last_serial(s, &t.value);
+        break;
+    case HAS_INTERFACE:
+        t.answer = bz_has_interface(s, line.text, line.length, &t.value);
+        break;
+    case INTERFACE_VERSION:
+        t.answer = bz_interface_version(s, line.text, line.length, &t.value);
+        break;
+    case HAS_CAPABILITY:
+        t.answer = bz_has_capability(s, id, line.n[1], &t.value);
+        break;
+    default: /* settings are no calls */
+        break;
+    }
+    return t;
+}
+
+/* Does what the line asks for; false where no such call can be made here. */
+static bool play(void)
+{
+    told t = {0, 0, 0, 0, 0};
+    switch (line.verb) {
+    case NOW:
+        run.clock = line.n[0];
+        return true;
+    case OUT:
+        run.out_length = line.n[0];
+        return true;
+    case BUFFER:
+        run.buffer_length = line.n[0];
+        return true;
+    case START:
+        run.phase = SHAKING;
+        memset(&run.handshake, 0xa5, sizeof run.handshake); /* what the memory held does not count */
+        memset(&run.session, 0xa5, sizeof run.session);
+        t.answer = bz_handshake_new(&run.handshake, N32(0), LENT_OUT);
+        break;
+    default:
+        if (run.phase == BEFORE || (run.phase == SHAKING && line.verb >= NEXT_REQUEST)) {
+            return false;
+        }
+        t = run.phase == RUNNING ? call() : shake();
+    }
+    write_answer(&t);
+    return true;
+}
+
+int main(void)
+{
+    char *bytes = NULL;
+    size_t room = 0;
+    ssize_t length;
+    for (uintmax_t number = 1; (length = getline(&bytes, &room, stdin)) > 0; number++) {
+        length -= bytes[length - 1] == '\n';
+        length -= length > 0 && bytes[length - 1] == '\r';
+        if (length == 0 || (bytes[0] == '#' && length <= LINE_LIMIT)) {
+            continue;
+        }
+        if (length > LINE_LIMIT || !read_line(bytes, (size_t)length) || !play()) {
+            printf("error line %" PRIuMAX "\n", number);
+            fprintf(stderr, "line %" PRIuMAX ": no call\n", number);
+            free(bytes);
+            return 2;
+        }
+    }
+    free(bytes);
+    return 0;
+}

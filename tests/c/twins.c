@@ -1,0 +1,106 @@
+/*
+ * twins SEED LENGTH: a session of 40 rounds over every timed request, which is the same for every SEED but for its
+ * payload. It prints every answer without the payload, so two seeds must print the same.
+ *
+ * Payload is what docs/PROMISES.md and model/specs/Payload have for it: keys, buttons, keysyms and their states,
+ * coordinates, amounts, the axes of a stop, and the bytes of a text. Texts have LENGTH bytes (1 to 254); those of an
+ * even SEED are ASCII, those of an odd one have characters of all widths. Coordinates are odd patterns half of the
+ * time. tests/timing.py counts the instructions of each call over several seeds.
+ */
+#include "session.h"
+#include "utf8.h"
+#include <inttypes.h>
+
+static uint64_t device;
+
+static float random_real(void)
+{
+    static const uint32_t odd[] = {0x7f800000, 0xff800000, 0x7fc00000, 0xffc00001, 0x7f800001, 0xffbfffff,
+                                   0x80000000, 0x00000000, 0x00000001, 0x80000001, 0x7f7fffff, 0x3f800000};
+    const uint64_t any = next_random();
+    const uint32_t bits = (any & 1) != 0 ? odd[(any >> 1) % (sizeof odd / sizeof odd[0])] : (uint32_t)(any >> 32);
+    float f;
+    memcpy(&f, &bits, sizeof f);
+    return f;
+}
+
+static uint32_t random_32(void)
+{
+    return (uint32_t)next_random();
+}
+
+static uint32_t random_state_of_press(void)
+{
+    return (uint32_t)below(2);
+}
+
+static void tell(const char *call, uint32_t answer)
+{
+    printf("%s %" PRIu32 "\n", call, answer);
+}
+
+/*
+ * A round. Touch ids, is_cancel and times are no payload, so they hang on the round alone. The touch of two rounds ago
+ * goes up or is cancelled in turn.
+ */
+static void send_round(unsigned round, const char *makeup, size_t length)
+{
+    bozterrun_session *const s = &session;
+    uint8_t text[BOZTERRUN_NAME_LENGTH];
+    const uint32_t touch = round % 7, held = (round + 5) % 7, none = 99;
+    const float x = random_real();
+    tell("key", bz_keyboard_key(s, device + 3, random_32(), random_state_of_press()));
+    tell("button", bz_button_button(s, device + 6, random_32(), random_state_of_press()));
+    tell("motion", bz_pointer_motion_relative(s, device + 1, x, random_real()));
+    tell("absolute motion", bz_pointer_absolute_motion_absolute(s, device + 2, random_real(), x));
+    tell("scroll", bz_scroll_scroll(s, device + 5, x, random_real()));
+    tell("discrete", bz_scroll_scroll_discrete(s, device + 5, (int32_t)random_32(), (int32_t)random_32()));
+    tell("stop", bz_scroll_scroll_stop(s, device + 5, (uint32_t)below(3), (uint32_t)below(3), round % 2));
+    tell("keysym", bz_text_keysym(s, device + 7, random_32(), random_state_of_press()));
+    tell("down", bz_touchscreen_down(s, device + 4, touch, x, random_real()));
+    tell("touch motion", bz_touchscreen_motion(s, device + 4, touch, random_real(), x));
+    tell("touch motion", bz_touchscreen_motion(s, device + 4, none, random_real(), x));
+    tell("up", bz_touchscreen_up(s, device + 4, round % 2 == 0 ? held : none));
+    tell("cancel", bz_touchscreen_cancel(s, device + 4, 2, round % 2 == 0 ? none : held, NULL, NULL));
+    fill_text(text, length, makeup);
+    tell("utf8", bz_text_utf8(s, device + 7, text, length));
+    tell("frame", bz_device_frame(s, device, 7, 1000 + round));
+}
+
+/* What is given, but for its payload. */
+static void take_round(void)
+{
+    bozterrun_request r;
+    uint8_t buffer[BOZTERRUN_NAME_LENGTH];
+    uint32_t answer;
+    while ((answer = bz_next_request(&session, &r, buffer, sizeof buffer)) == BOZTERRUN_ACCEPTED) {
+        printf("given kind %" PRIu64 " device %" PRIx64 " time %" PRIu64, r.kind, r.device, r.time);
+        if (r.kind == BOZTERRUN_REQUEST_TEXT_UTF8) {
+            printf(" length %u", r.length);
+        } else if (r.kind >= BOZTERRUN_REQUEST_TOUCH_DOWN && r.kind <= BOZTERRUN_REQUEST_TOUCH_CANCEL) {
+            printf(" touch %" PRIu32, r.touch_id);
+        }
+        printf("\n");
+    }
+    tell("next_request", answer);
+}
+
+int main(int count, char **words)
+{
+    const uint64_t seed = count > 2 ? strtoull(words[1], NULL, 10) : 0;
+    const size_t length = count > 2 ? strtoul(words[2], NULL, 10) : 0;
+    uint64_t serial;
+    if (count != 3 || length < 1 || length > BOZTERRUN_NAME_LENGTH) {
+        fprintf(stderr, "usage: twins SEED LENGTH\n");
+        return 2;
+    }
+    random_state = seed;
+    device = begin_session(1, 127);
+    for (unsigned round = 0; round < 40; round++) {
+        send_round(round, seed % 2 == 0 ? "ascii" : "mixed", length);
+        take_round();
+        tell("last_serial", bz_last_serial(&session, &serial));
+        printf("serial %" PRIu64 "\n", serial);
+    }
+    return 0;
+}
