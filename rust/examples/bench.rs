@@ -1,0 +1,197 @@
+//! The turns of the benchmark, through the crate: `bench WORKLOAD N` repeats a turn N times and writes how many
+//! requests were delivered.
+//!
+//! - `keys`: one device; key press, key release, frame, next_request until none (7 calls).
+//! - `touches`: one device; down, motion, up, frame, next_request until none (9 calls).
+//! - `texts`: one device; a text of 20 digits, frame, next_request until none (5 calls).
+//! - `eight`: as keys, on each of eight devices in turn, every device with all seven interfaces.
+//! - `deep`: as keys, but 198 requests stay queued: 3 next_request a turn, none of them none (6 calls).
+//!
+//! A program that times it takes the difference of two Ns, which leaves its start out.
+
+use bozterrun::eis::{device, handshake, keyboard, text, touchscreen, Object, Request};
+use bozterrun::{
+    Device, DeviceCapabilities, DeviceCapability, DeviceType, EisHandshaker, EisRequestConverter, Interface, KeyState,
+    Refusal,
+};
+use std::hint::black_box;
+use std::{env, process::ExitCode};
+
+/// The clock, which none of the turns reads.
+const NOW: u64 = 5;
+
+struct Bench {
+    converter: EisRequestConverter,
+    /// Each with the interface that its turns use.
+    devices: Vec<(Device, Object)>,
+    buffer: [u8; bozterrun::TEXT_LENGTH],
+}
+
+impl Bench {
+    /// A session with so many devices of these capabilities, of which the turns use one.
+    fn new(devices: usize, capabilities: DeviceCapabilities, used: DeviceCapability) -> Result<Self, Refusal> {
+        let mut out = [0; bozterrun::OUT_LENGTH];
+        let (mut handshaker, _) = EisHandshaker::new(7, &mut out)?;
+        for interface in Interface::ALL {
+            let name = interface.name().as_bytes();
+            let known = handshake::Request::InterfaceVersion { name, version: 9 };
+            handshaker.handle_request(Request::Handshake(known), &mut out)?;
+        }
+        let finish = Request::Handshake(handshake::Request::Finish);
+        let (response, _) = handshaker.handle_request(finish, &mut out)?;
+        let mut converter = EisRequestConverter::new(response.ok_or(Refusal::BadState)?);
+        let connection = converter.handle_mut();
+        let (seat, _) = connection.add_seat(None, capabilities, &mut out)?;
+        let mut added = Vec::new();
+        for _ in 0..devices {
+            let (device, _) = connection.add_device(seat, None, DeviceType::Virtual, capabilities, &mut out)?;
+            let object = connection.interface(device, used)?.ok_or(Refusal::UnknownHandle)?;
+            added.push((device, object));
+        }
+        Ok(Self {
+            converter,
+            devices: added,
+            buffer: [0; bozterrun::TEXT_LENGTH],
+        })
+    }
+
+    #[inline(always)]
+    fn send(&mut self, request: Request) -> Result<(), Refusal> {
+        self.converter.handle_request(black_box(request), NOW, &mut [])?;
+        Ok(())
+    }
+
+    #[inline(always)]
+    fn frame(&mut self, place: usize, timestamp: u64) -> Result<(), Refusal> {
+        let frame = device::Request::Frame {
+            last_serial: 7,
+            timestamp,
+        };
+        self.send(Request::Device(self.devices[place].0, frame))
+    }
+
+    /// A press and a release of a key, and their frame.
+    #[inline(always)]
+    fn keys(&mut self, place: usize, i: u64) -> Result<(), Refusal> {
+        let keyboard = self.devices[place].1;
+        let key = i as u32 & 0xff;
+        let sent = |state| Request::Keyboard(keyboard, keyboard::Request::Key { key, state });
+        self.send(sent(KeyState::Press))?;
+        self.send(sent(KeyState::Released))?;
+        self.frame(place, i)
+    }
+
+    /// A touch that moves, and its frame.
+    #[inline(always)]
+    fn stroke(&mut self, i: u64) -> Result<(), Refusal> {
+        let touchscreen = self.devices[0].1;
+        let (touchid, x, y) = (i as u32, i as f32, 2.0);
+        self.send(Request::Touchscreen(
+            touchscreen,
+            touchscreen::Request::Down { touchid, x, y },
+        ))?;
+        self.send(Request::Touchscreen(
+            touchscreen,
+            touchscreen::Request::Motion { touchid, x, y },
+        ))?;
+        self.send(Request::Touchscreen(touchscreen, touchscreen::Request::Up { touchid }))?;
+        self.frame(0, i)
+    }
+
+    /// A text, and its frame.
+    #[inline(always)]
+    fn text(&mut self, i: u64) -> Result<(), Refusal> {
+        let text = b"01234567890123456789";
+        self.send(Request::Text(self.devices[0].1, text::Request::Utf8 { text }))?;
+        self.frame(0, i)
+    }
+
+    /// Asks so often for a request; how many were given.
+    #[inline(always)]
+    fn next(&mut self, most: usize) -> Result<u64, Refusal> {
+        let mut given = 0;
+        for _ in 0..most {
+            let next = black_box(self.converter.next_request(&mut self.buffer));
+            given += u64::from(next?.is_some());
+        }
+        Ok(given)
+    }
+}
+
+#[derive(Clone, Copy, PartialEq)]
+enum Workload {
+    Keys,
+    Touches,
+    Texts,
+    Eight,
+    Deep,
+}
+
+/// Repeats the turn of a workload and takes what is left; how many requests were given, which is how many were sent.
+fn run(workload: Workload, times: u64) -> Result<u64, Refusal> {
+    use DeviceCapability::{Keyboard, Text, Touch};
+    let mut bench = match workload {
+        Workload::Touches => Bench::new(1, Touch.into(), Touch)?,
+        Workload::Texts => Bench::new(1, Text.into(), Text)?,
+        Workload::Eight => Bench::new(8, DeviceCapabilities::ALL, Keyboard)?,
+        Workload::Keys | Workload::Deep => Bench::new(1, Keyboard.into(), Keyboard)?,
+    };
+    if workload == Workload::Deep {
+        for i in 0..66 {
+            bench.keys(0, i)?;
+        }
+    }
+    let mut given = 0;
+    for i in 0..times {
+        given += match workload {
+            Workload::Touches => {
+                bench.stroke(i)?;
+                bench.next(5)?
+            }
+            Workload::Texts => {
+                bench.text(i)?;
+                bench.next(3)?
+            }
+            Workload::Eight => {
+                bench.keys((i % 8) as usize, i)?;
+                bench.next(4)?
+            }
+            Workload::Deep => {
+                bench.keys(0, i)?;
+                bench.next(3)?
+            }
+            Workload::Keys => {
+                bench.keys(0, i)?;
+                bench.next(4)?
+            }
+        };
+    }
+    Ok(given + bench.next(256)?)
+}
+
+fn main() -> ExitCode {
+    let workload = env::args().nth(1).unwrap_or_default();
+    let times = env::args().nth(2).and_then(|word| word.parse().ok());
+    let workload = match workload.as_str() {
+        "keys" => Some(Workload::Keys),
+        "touches" => Some(Workload::Touches),
+        "texts" => Some(Workload::Texts),
+        "eight" => Some(Workload::Eight),
+        "deep" => Some(Workload::Deep),
+        _ => None,
+    };
+    let (Some(workload), Some(times)) = (workload, times) else {
+        eprintln!("usage: bench keys|touches|texts|eight|deep N");
+        return ExitCode::from(2);
+    };
+    match run(workload, times) {
+        Ok(given) => {
+            println!("{given}");
+            ExitCode::SUCCESS
+        }
+        Err(refusal) => {
+            eprintln!("bench: {refusal}");
+            ExitCode::FAILURE
+        }
+    }
+}

@@ -1,0 +1,84 @@
+//! The input server of counter stations: the server side of the ei protocol as the crate `reis` 0.7.1 has it, ported
+//! to the proved language Rattle and called from Rust. Its handshake, seats, devices and converter are the proved
+//! ones; this crate owns their memory, and gives their numbers Rust's types.
+//!
+//! A station decodes what its client sends into [`eis::Request`]s, hands them over with its clock, sends the bytes of
+//! [`Events`] back, and acts on the [`EisRequest`]s that are delivered:
+//!
+//! ```
+//! use bozterrun::eis::{device, handshake, keyboard, Request};
+//! use bozterrun::{DeviceCapability::Keyboard, DeviceType, EisHandshaker, EisRequest, EisRequestConverter, KeyState};
+//!
+//! let mut out = [0; bozterrun::OUT_LENGTH];
+//! let mut text = [0; bozterrun::TEXT_LENGTH];
+//! let mut wire = Vec::new(); // what goes to the client
+//! let (mut handshaker, events) = EisHandshaker::new(7, &mut out)?;
+//! wire.extend_from_slice(events.as_bytes());
+//! let names: [&[u8]; 4] = [b"ei_connection", b"ei_callback", b"ei_pingpong", b"ei_keyboard"];
+//! for name in names {
+//!     let version = handshake::Request::InterfaceVersion { name, version: 1 };
+//!     handshaker.handle_request(Request::Handshake(version), &mut out)?;
+//! }
+//! let finish = Request::Handshake(handshake::Request::Finish);
+//! let (Some(response), events) = handshaker.handle_request(finish, &mut out)? else { return Ok(()) };
+//! wire.extend_from_slice(events.as_bytes());
+//! let mut converter = EisRequestConverter::new(response);
+//! let (seat, events) = converter.handle_mut().add_seat(Some(b"counter 3"), Keyboard, &mut out)?;
+//! wire.extend_from_slice(events.as_bytes());
+//! let (device, events) = converter.handle_mut().add_device(seat, None, DeviceType::Virtual, Keyboard, &mut out)?;
+//! wire.extend_from_slice(events.as_bytes());
+//! let Some(keyboard) = converter.handle().interface(device, Keyboard)? else { return Ok(()) };
+//! for request in [
+//!     Request::Keyboard(keyboard, keyboard::Request::Key { key: 30, state: KeyState::Press }),
+//!     Request::Device(device, device::Request::Frame { last_serial: 7, timestamp: 500 }),
+//! ] {
+//!     wire.extend_from_slice(converter.handle_request(request, 501, &mut out)?.as_bytes());
+//!     while let Some(request) = converter.next_request(&mut text)? {
+//!         if let EisRequest::KeyboardKey(key) = request {
+//!             assert_eq!((key.key, key.time), (30, 500));
+//!         }
+//!     }
+//! }
+//! # Ok::<(), bozterrun::Refusal>(())
+//! ```
+//!
+//! A call that is refused answers a [`Refusal`] and leaves the session as it was. Nothing here panics on what a client
+//! sends, blocks, or locks; memory is allocated once for each session.
+
+#![deny(missing_docs)]
+#![deny(unsafe_op_in_unsafe_fn)]
+#![deny(clippy::undocumented_unsafe_blocks)]
+
+mod capability;
+mod connection;
+mod converter;
+pub mod eis;
+mod event;
+mod handshake;
+mod refusal;
+pub mod request;
+mod session;
+mod sys;
+
+pub use capability::{DeviceCapabilities, DeviceCapability};
+pub use connection::Connection;
+pub use converter::{EisRequestConverter, Requests};
+pub use eis::{
+    button::ButtonState, connection::DisconnectReason, device::DeviceType, handshake::ContextType, keyboard::KeyState,
+};
+pub use event::{Event, EventKind, Events, Interface};
+pub use handshake::{EisHandshakeResp, EisHandshaker};
+pub use refusal::Refusal;
+pub use request::{Device, EisRequest, Seat};
+pub use session::TEXTS_LENGTH;
+
+/// How many bytes of `out` are enough for any call.
+pub const OUT_LENGTH: usize = 1225;
+
+/// How many bytes of buffer are enough for any delivered text, and the most that a name or an explanation has.
+pub const TEXT_LENGTH: usize = session::NAME_LENGTH;
+
+/// The examples of the README, which are tested with the rest.
+#[cfg(doctest)]
+#[doc = include_str!("../README.md")]
+pub struct Readme;
