@@ -1,14 +1,17 @@
 #!/usr/bin/env python3
-"""Times this module and the crate reis on the same turns, in one run.
+"""Times this module and the crate reis on the same turns, in one run: called from Rattle, through the C interface and through the Rust crate.
 
-usage: bench.py ORACLE [ROUNDS]     run at the repository's root, after `rt check bench`
+usage: bench.py ORACLE [ROUNDS]     run at the repository's root
 
-ORACLE is the oracle's folder (`./build.sh` there builds target/release/oracle; Rust is needed, and no network). Each of its five workloads is run ROUNDS times (7) by turns, ours and the crate's: for both a turn is
-the same calls, and making the requests is counted in. Ours is the time of the program `bench` less that of its start, divided by the calls. Medians are printed, and
-how many times faster ours is. Behind them, where valgrind is at hand, the instructions of a call, from the difference of two runs.
+ORACLE is the oracle's folder (its ./build.sh builds target/release/oracle; Rust is needed, and no network). What is not there yet is built: the oracle, the
+program bench (`rt check bench`), the library (`rt staticlib bozterrun`), and the programs tests/c/bench.c and rust/examples/bench.rs, anew each time. Each of the
+oracle's five workloads is run ROUNDS times (7) by turns, ours and the crate's: for all a turn is the same calls, and making the requests is counted in. The
+time of ours is that of the program less that of its start, divided by the calls. Medians are printed, and how many times faster ours is. Where valgrind is at
+hand, the instructions of a call follow, from the difference of two runs.
 
-Below the line: the store's own turns, through the calls that a station makes: a Disconnect queued and taken (push and pop), and frames of 1 and of 64 keys with their delivery.
+Below the line: the queue's own turns, called from Rattle: a Disconnect queued and taken (push and pop), and frames of 1 and of 64 keys with their delivery.
 """
+import os
 import re
 import shutil
 import statistics
@@ -18,7 +21,19 @@ import time
 
 CALLS = {"keys": 7, "touches": 9, "texts": 5, "eight": 7, "deep": 6}
 OWN = {"push": 2, "frame1": 4, "frame64": 130}
-BENCH = "target/bin/bench"
+ARCHIVE = "target/staticlib/libbozterrun.a"
+PROGRAMS = {"Rattle": "target/bin/bench", "C": "target/c/bench", "Rust": "rust/target/release/examples/bench"}
+
+
+def build(oracle):
+    made = os.path.join(oracle, "target/release/oracle")
+    for path, command, cwd in [(made, ["./build.sh"], oracle), (PROGRAMS["Rattle"], ["rt", "check", "bench"], None), (ARCHIVE, ["rt", "staticlib", "bozterrun"], None)]:
+        if not os.path.exists(path):
+            subprocess.run(command, cwd=cwd, stdout=subprocess.DEVNULL, check=True)
+    os.makedirs("target/c", exist_ok=True)
+    subprocess.run(["gcc", "-std=c11", "-O2", "-Iinclude", "tests/c/bench.c", ARCHIVE, "-o", PROGRAMS["C"]], check=True)
+    env = dict(os.environ, BOZTERRUN_LIB=os.path.abspath(os.path.dirname(ARCHIVE)))
+    subprocess.run(["cargo", "build", "--quiet", "--offline", "--release", "--example", "bench", "--manifest-path", "rust/Cargo.toml"], env=env, check=True)
 
 
 def seconds(command):
@@ -27,10 +42,10 @@ def seconds(command):
     return time.perf_counter() - began
 
 
-def ours(workload, calls):
+def ours(program, workload, calls):
     turns = 3000000 // calls
-    start = min(seconds([BENCH, workload, "0"]) for _ in range(3))
-    return (seconds([BENCH, workload, str(turns)]) - start) * 1e9 / (turns * calls)
+    start = min(seconds([program, workload, "0"]) for _ in range(3))
+    return (seconds([program, workload, str(turns)]) - start) * 1e9 / (turns * calls)
 
 
 def theirs(oracle, workload):
@@ -50,25 +65,34 @@ def main():
     if len(sys.argv) not in (2, 3):
         sys.exit(__doc__)
     oracle, rounds = sys.argv[1], int(sys.argv[2]) if len(sys.argv) > 2 else 7
-    valgrind = shutil.which("valgrind")
-    print("workload   ours ns/call   crate ns/call   times faster" + ("   instructions/call: ours   crate" if valgrind else ""))
+    build(oracle)
+    names = [*PROGRAMS, "crate"]
+    print("| workload | " + " | ".join(f"{name} ns" for name in names) + " | " + " | ".join(f"{name}, times faster" for name in PROGRAMS) + " |", flush=True)
+    print("|---" * (2 * len(names)) + "|")
     for workload, calls in CALLS.items():
-        pairs = [(ours(workload, calls), theirs(oracle, workload)) for _ in range(rounds)]
-        a, b = statistics.median(p[0] for p in pairs), statistics.median(p[1] for p in pairs)
-        line = f"{workload:10} {a:12.1f} {b:15.1f} {b / a:14.1f}"
-        if valgrind:
-            mine = instructions([[BENCH, workload, "1000"], [BENCH, workload, "3000"]], 2000 * calls)
-            # the oracle repeats its turns in nine rounds
-            crate = [f"{oracle}/target/release/oracle", "--bench"]
-            line += f"{mine:27.0f} {instructions([crate + ['200', workload], crate + ['600', workload]], 400 * 9 * calls):7.0f}"
-        print(line, flush=True)
+        taken = {name: [] for name in names}
+        for _ in range(rounds):
+            for name, program in PROGRAMS.items():
+                taken[name].append(ours(program, workload, calls))
+            taken["crate"].append(theirs(oracle, workload))
+        median = {name: statistics.median(times) for name, times in taken.items()}
+        ratios = [f"{median['crate'] / median[name]:.1f}" for name in PROGRAMS]
+        print(f"| {workload} | " + " | ".join(f"{median[name]:.1f}" for name in names) + " | " + " | ".join(ratios) + " |", flush=True)
+    if not shutil.which("valgrind"):
+        return
+    print("\n| workload | " + " | ".join(f"{name} instructions" for name in names) + " |")
+    print("|---" * (1 + len(names)) + "|")
+    for workload, calls in CALLS.items():
+        counts = [instructions([[program, workload, "1000"], [program, workload, "3000"]], 2000 * calls) for program in PROGRAMS.values()]
+        # the oracle repeats its turns in nine rounds
+        crate = [f"{oracle}/target/release/oracle", "--bench"]
+        counts.append(instructions([crate + ["200", workload], crate + ["600", workload]], 400 * 9 * calls))
+        print(f"| {workload} | " + " | ".join(f"{count:.1f}" for count in counts) + " |", flush=True)
     print()
     for workload, calls in OWN.items():
-        a = statistics.median(ours(workload, calls) for _ in range(rounds))
-        line = f"{workload:10} {a * calls:12.1f} ns a turn of {calls} calls"
-        if valgrind:
-            line += f", {instructions([[BENCH, workload, '1000'], [BENCH, workload, '3000']], 2000):.0f} instructions"
-        print(line, flush=True)
+        a = statistics.median(ours(PROGRAMS["Rattle"], workload, calls) for _ in range(rounds))
+        mine = instructions([[PROGRAMS["Rattle"], workload, "1000"], [PROGRAMS["Rattle"], workload, "3000"]], 2000)
+        print(f"{workload:10} {a * calls:12.1f} ns a turn of {calls} calls, {mine:.0f} instructions", flush=True)
 
 
 main()

@@ -1,0 +1,4 @@
+pub mod Reply
+pub mod Numbers
+pub mod Delivery
+pub mod Handshake

@@ -1,0 +1,148 @@
+// The lengths of the slices, and the numbers that the header has names for.
+use crate::answer::BAD_ARGUMENT;
+use crate::answer::NONE;
+use answers::NAME_LENGTH_LIMIT;
+use control::CONTROL_LENGTH;
+use eiproto::event::DeviceCapability;
+use lent_handshake::HANDSHAKE_LENGTH;
+use requests::kinds;
+use session::REALS_LENGTH;
+use session::TEXTS_LENGTH;
+use session::WORDS_LENGTH;
+ghost use mathlib.Core.Path.{_≡_};
+ghost use lib.ListN.{getD};
+ghost use Rattle.control.specs.Control.{controlLength};
+ghost use Rattle.session.specs.View.{wordsLength, realsLength, textsLength};
+ghost use Rattle.lent_handshake.specs.Lent.{handshakeLength, nameLength};
+ghost use Rattle.bozterrun.specs.Numbers.{numbers};
+
+#[no_mangle]
+pub extern "C" fn bozterrun_handshake_length() -> usize
+    ensures { λ r. ⌜ r ≡ handshakeLength ⌝ }
+{
+    HANDSHAKE_LENGTH
+}
+
+// Of the slice for the client's name; also the most bytes that a name, an explanation or a text has.
+#[no_mangle]
+pub extern "C" fn bozterrun_name_length() -> usize
+    ensures { λ r. ⌜ r ≡ nameLength ⌝ }
+{
+    NAME_LENGTH_LIMIT
+}
+
+#[no_mangle]
+pub extern "C" fn bozterrun_control_length() -> usize
+    ensures { λ r. ⌜ r ≡ controlLength ⌝ }
+{
+    CONTROL_LENGTH
+}
+
+#[no_mangle]
+pub extern "C" fn bozterrun_words_length() -> usize
+    ensures { λ r. ⌜ r ≡ wordsLength ⌝ }
+{
+    WORDS_LENGTH
+}
+
+#[no_mangle]
+pub extern "C" fn bozterrun_reals_length() -> usize
+    ensures { λ r. ⌜ r ≡ realsLength ⌝ }
+{
+    REALS_LENGTH
+}
+
+#[no_mangle]
+pub extern "C" fn bozterrun_texts_length() -> usize
+    ensures { λ r. ⌜ r ≡ textsLength ⌝ }
+{
+    TEXTS_LENGTH
+}
+
+// The numbers that include/bozterrun.h has names for, in its order: refusals, what is no refusal, kinds of requests, interfaces, capabilities,
+// context types, device types, reasons. specs/Numbers says what each is the number of.
+const NUMBERS: usize = 74;
+
+// The number at a place of that table, 0 past its end: a program tests by it that its header is the library's.
+#[no_mangle]
+pub extern "C" fn bozterrun_number(place: usize) -> u64
+    ensures { λ r. ⌜ r ≡ getD numbers place 0 ⌝ }
+{
+    let table: [u64; NUMBERS] = [
+        1,
+        2,
+        3,
+        4,
+        5,
+        6,
+        7,
+        8,
+        9,
+        10,
+        11,
+        12,
+        13,
+        14,
+        15,
+        16,
+        17,
+        18,
+        19,
+        20,
+        21,
+        NONE as u64,
+        BAD_ARGUMENT as u64,
+        kinds::DISCONNECT,
+        kinds::BIND,
+        kinds::DEVICE_CLOSED,
+        kinds::REQUEST_DEVICE,
+        kinds::FRAME,
+        kinds::READY,
+        kinds::DEVICE_START_EMULATING,
+        kinds::DEVICE_STOP_EMULATING,
+        kinds::POINTER_MOTION,
+        kinds::POINTER_MOTION_ABSOLUTE,
+        kinds::BUTTON,
+        kinds::SCROLL_DELTA,
+        kinds::SCROLL_STOP,
+        kinds::SCROLL_CANCEL,
+        kinds::SCROLL_DISCRETE,
+        kinds::KEYBOARD_KEY,
+        kinds::TOUCH_DOWN,
+        kinds::TOUCH_UP,
+        kinds::TOUCH_MOTION,
+        kinds::TOUCH_CANCEL,
+        kinds::TEXT_KEYSYM,
+        kinds::TEXT_UTF8,
+        1,
+        2,
+        3,
+        4,
+        5,
+        6,
+        7,
+        8,
+        9,
+        10,
+        11,
+        12,
+        DeviceCapability::POINTER,
+        DeviceCapability::POINTER_ABSOLUTE,
+        DeviceCapability::KEYBOARD,
+        DeviceCapability::TOUCH,
+        DeviceCapability::SCROLL,
+        DeviceCapability::BUTTON,
+        DeviceCapability::TEXT,
+        1,
+        2,
+        1,
+        2,
+        0,
+        1,
+        2,
+        3,
+        4,
+        5,
+    ];
+    if place < NUMBERS { table[place] } else { 0 }
+}
