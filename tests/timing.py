@@ -3,12 +3,13 @@
 
 usage: timing.py [ARCHIVE]     run at the repository's root, after `rt staticlib bozterrun`
 
-ARCHIVE is the library (target/staticlib/libbozterrun.a). gcc and valgrind are needed. tests/c/twins.c is run under
-callgrind with ten seeds and with texts of 20 and of 240 bytes: its sessions differ in their payload alone, and the
-texts of odd seeds are not ASCII. For each function the instructions of all its calls are added, what it calls
-included. tests/c/texts.c is run with texts of several lengths and make-ups. Two tables are printed. The exit status
-is 1 where the answers of two seeds differ, where a function other than text_utf8 has another count at another seed,
-where text_utf8 has another count at another even seed, or where ASCII texts of one length do.
+ARCHIVE is the library (target/staticlib/libbozterrun.a). gcc, cargo and valgrind are needed. tests/c/twins.c is run
+under callgrind with ten seeds and with texts of 20 and of 240 bytes: its sessions differ in their payload alone, and
+the texts of odd seeds are not ASCII. For each function the instructions of all its calls are added, what it calls
+included. tests/c/texts.c is run with texts of several lengths and make-ups. Two tables are printed. The rounds of
+rust/examples/twins.rs, which go through the Rust crate, are counted as a whole. The exit status is 1 where the answers
+of two seeds differ, where a function other than text_utf8 has another count at another seed, where text_utf8 has
+another count at another even seed, where ASCII texts of one length do, or where the rounds through Rust do.
 """
 import os
 import re
@@ -35,8 +36,8 @@ def build(name, archive):
     return program
 
 
-def instructions(text):
-    """For each exported function its calls and its instructions, of a file that callgrind wrote.
+def instructions(text, prefix):
+    """For each function of the prefix its calls and its instructions, of a file that callgrind wrote.
 
     `fn=` begins a function, whose lines are a place and a cost. `calls=` has the calls of the function of the last
     `cfn=`, and its next line their cost, what they call included. Names are given once, then by number.
@@ -59,19 +60,19 @@ def instructions(text):
             calls[called] = calls.get(called, 0) + int(line[6:].split()[0])
         elif here and re.match(r"[0-9+*-]", line):
             costs[here] = costs.get(here, 0) + int(line.split()[1])
-    exported = [name for name in costs if name.startswith("bozterrun_") and name in calls]
-    return {name: (calls[name], costs[name]) for name in exported}
+    wanted = [name for name in costs if name.startswith(prefix) and name in calls]
+    return {name: (calls[name], costs[name]) for name in wanted}
 
 
-def count(command):
-    """What a program writes, and the instructions of its calls."""
+def count(command, prefix="bozterrun_"):
+    """What a program writes, and the instructions of its calls of the functions of the prefix."""
     path = os.path.join(BUILD, "callgrind.out")
     done = subprocess.run(["valgrind", "--tool=callgrind", f"--callgrind-out-file={path}", *command],
                           capture_output=True, text=True)
     if done.returncode:
         sys.exit(f"{' '.join(command)}: {done.stdout}{done.stderr}")
     with open(path) as file:
-        return done.stdout, instructions(file.read())
+        return done.stdout, instructions(file.read(), prefix)
 
 
 def compare_twins(program):
@@ -129,6 +130,21 @@ def compare_texts(program):
     return wrong
 
 
+def compare_rust(archive):
+    """The rounds through the Rust crate; how much is wrong."""
+    env = dict(os.environ, BOZTERRUN_LIB=os.path.abspath(os.path.dirname(archive)))
+    manifest = os.path.join(ROOT, "rust/Cargo.toml")
+    subprocess.run(["cargo", "build", "--quiet", "--offline", "--release", "--example", "twins", "--manifest-path",
+                    manifest], env=env, check=True)
+    program = os.path.join(ROOT, "rust/target/release/examples/twins")
+    done = [count([program, str(seed)], "twins::rounds") for seed in SEEDS]
+    costs = [sum(cost for _, cost in found.values()) for _, found in done]
+    print(f"\nThrough the Rust crate, {done[0][0].strip()} deliveries: {costs[0]} instructions at each of "
+          f"{len(costs)} seeds" if len(set(costs)) == 1 else f"\nThrough the Rust crate: {costs}")
+    wrong = [] if len({text for text, _ in done}) == 1 else ["the Rust crate delivers more at one seed than at another"]
+    return wrong + ([] if len(set(costs)) == 1 and costs[0] else [f"the rounds through the Rust crate: {costs}"])
+
+
 def main():
     if len(sys.argv) > 2 or "-h" in sys.argv or "--help" in sys.argv:
         sys.exit(__doc__)
@@ -137,6 +153,7 @@ def main():
         sys.exit(f"{archive} is not there: run `rt staticlib bozterrun`")
     os.makedirs(BUILD, exist_ok=True)
     wrong = compare_twins(build("twins", archive)) + compare_texts(build("texts", archive))
+    wrong += compare_rust(archive)
     print()
     for line in wrong:
         print(f"DIFFERS: {line}")

@@ -7,12 +7,13 @@
 //! - `eight`: as keys, on each of eight devices in turn, every device with all seven interfaces.
 //! - `deep`: as keys, but 198 requests stay queued: 3 next_request a turn, none of them none (6 calls).
 //!
-//! A program that times it takes the difference of two Ns, which leaves its start out.
+//! A program that times it takes the difference of two Ns, which leaves its start out. Each request is made where it is
+//! sent, and each delivered one taken apart by a `match`, as a station does.
 
 use bozterrun::eis::{device, handshake, keyboard, text, touchscreen, Object, Request};
 use bozterrun::{
-    Device, DeviceCapabilities, DeviceCapability, DeviceType, EisHandshaker, EisRequestConverter, Interface, KeyState,
-    Refusal,
+    Device, DeviceCapabilities, DeviceCapability, DeviceType, EisHandshaker, EisRequest, EisRequestConverter,
+    Interface, KeyState, Refusal,
 };
 use std::hint::black_box;
 use std::{env, process::ExitCode};
@@ -57,7 +58,7 @@ impl Bench {
 
     #[inline(always)]
     fn send(&mut self, request: Request) -> Result<(), Refusal> {
-        self.converter.handle_request(black_box(request), NOW, &mut [])?;
+        self.converter.handle_request(request, NOW, &mut [])?;
         Ok(())
     }
 
@@ -111,10 +112,26 @@ impl Bench {
     fn next(&mut self, most: usize) -> Result<u64, Refusal> {
         let mut given = 0;
         for _ in 0..most {
-            let next = black_box(self.converter.next_request(&mut self.buffer));
-            given += u64::from(next?.is_some());
+            if let Some(request) = self.converter.next_request(&mut self.buffer)? {
+                take(request);
+                given += 1;
+            }
         }
         Ok(given)
+    }
+}
+
+/// Takes a delivered request apart. What is made of it is not to be known.
+#[inline(always)]
+fn take(request: EisRequest) {
+    match request {
+        EisRequest::KeyboardKey(key) => _ = black_box((key.device, key.time, key.key, key.state)),
+        EisRequest::TouchDown(down) => _ = black_box((down.device, down.time, down.touch_id, down.x, down.y)),
+        EisRequest::TouchMotion(moved) => _ = black_box((moved.device, moved.time, moved.touch_id, moved.x, moved.y)),
+        EisRequest::TouchUp(up) => _ = black_box((up.device, up.time, up.touch_id)),
+        EisRequest::TextUtf8(text) => _ = black_box((text.device, text.time, text.text)),
+        EisRequest::Frame(frame) => _ = black_box((frame.device, frame.time)),
+        _ => {}
     }
 }
 
