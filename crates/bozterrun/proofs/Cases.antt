@@ -1,7 +1,8 @@
 -- A number is a case of its enum or none, and only one case; a truth is 1 or 0. Assumes nothing.
 use Prim.Native.Nat.{ℕ}
-use mathlib.Core.Path.{_≡_, refl, ap, subst}
+use mathlib.Core.Path.{_≡_, refl, sym, ap, _∙_, subst}
 use mathlib.Core.Bool.{Bool, true, false, cond}
+use mathlib.Core.Option.{Option, none, some}
 use mir.Val.{boolByte}
 use Rattle.eiproto.specs.declared.event.DeviceCapability.{DeviceCapability}
 use Rattle.eiproto.specs.declared.event.DeviceCapabilityOf.{DeviceCapabilityOf}
@@ -16,59 +17,37 @@ pub as-number : (t : Bool) → boolByte t ≡ cond t 1 0
 as-number true = refl
 as-number false = refl
 
--- the case that was found, or another; and whether there is one
-abbrev capability-or : DeviceCapability → DeviceCapabilityOf → DeviceCapability
-capability-or other (DeviceCapabilityOf.Case c) = c
-capability-or other DeviceCapabilityOf.Unknown = other
+-- ---- the case that a parse tells, of each enum
 
-abbrev capability-is : DeviceCapabilityOf → Type 0
-capability-is (DeviceCapabilityOf.Case c) = Unit {0}
-capability-is DeviceCapabilityOf.Unknown = ⊥
+abbrev pub capability : DeviceCapabilityOf → Option DeviceCapability
+capability (DeviceCapabilityOf.Case c) = some c
+capability DeviceCapabilityOf.Unknown = none
 
-pub capability-case : {a b : DeviceCapability} → DeviceCapabilityOf.Case a ≡ DeviceCapabilityOf.Case b → a ≡ b
-capability-case {a} e = ap (capability-or a) e
+abbrev pub context : ContextTypeOf → Option ContextType
+context (ContextTypeOf.Case c) = some c
+context (ContextTypeOf.InvalidVariant n) = none
 
-pub capability-unknown : {a : DeviceCapability} → DeviceCapabilityOf.Case a ≡ DeviceCapabilityOf.Unknown → ⊥
-capability-unknown e = subst capability-is e tt
+abbrev pub type : DeviceTypeOf → Option DeviceType
+type (DeviceTypeOf.Case t) = some t
+type (DeviceTypeOf.InvalidVariant n) = none
 
-abbrev type-or : DeviceType → DeviceTypeOf → DeviceType
-type-or other (DeviceTypeOf.Case c) = c
-type-or other (DeviceTypeOf.InvalidVariant n) = other
+abbrev pub reason : DisconnectReasonOf → Option DisconnectReason
+reason (DisconnectReasonOf.Case r) = some r
+reason (DisconnectReasonOf.InvalidVariant n) = none
 
-abbrev type-is : DeviceTypeOf → Type 0
-type-is (DeviceTypeOf.Case c) = Unit {0}
-type-is (DeviceTypeOf.InvalidVariant n) = ⊥
+module _ {A : Type 0} where
+  abbrev orElse : A → Option A → A
+  orElse other none = other
+  orElse other (some a) = a
 
-pub type-case : {a b : DeviceType} → DeviceTypeOf.Case a ≡ DeviceTypeOf.Case b → a ≡ b
-type-case {a} e = ap (type-or a) e
+  abbrev isSome : Option A → Type 0
+  isSome none = ⊥
+  isSome (some a) = Unit {0}
 
-pub type-invalid : {a : DeviceType} {n : ℕ} → DeviceTypeOf.Case a ≡ DeviceTypeOf.InvalidVariant n → ⊥
-type-invalid e = subst type-is e tt
+  -- a parse that tells two cases tells the same; one that tells a case does not tell none
+  module _ {D : Type 0} (told : D → Option A) {x y : D} (same : x ≡ y) where
+    pub one-case : {a b : A} → told x ≡ some a → told y ≡ some b → a ≡ b
+    one-case {a} p q = ap (orElse a) (sym p ∙ ap told same ∙ q)
 
-abbrev reason-or : DisconnectReason → DisconnectReasonOf → DisconnectReason
-reason-or other (DisconnectReasonOf.Case c) = c
-reason-or other (DisconnectReasonOf.InvalidVariant n) = other
-
-abbrev reason-is : DisconnectReasonOf → Type 0
-reason-is (DisconnectReasonOf.Case c) = Unit {0}
-reason-is (DisconnectReasonOf.InvalidVariant n) = ⊥
-
-pub reason-case : {a b : DisconnectReason} → DisconnectReasonOf.Case a ≡ DisconnectReasonOf.Case b → a ≡ b
-reason-case {a} e = ap (reason-or a) e
-
-pub reason-invalid : {a : DisconnectReason} {n : ℕ} → DisconnectReasonOf.Case a ≡ DisconnectReasonOf.InvalidVariant n → ⊥
-reason-invalid e = subst reason-is e tt
-
-abbrev context-or : ContextType → ContextTypeOf → ContextType
-context-or other (ContextTypeOf.Case c) = c
-context-or other (ContextTypeOf.InvalidVariant n) = other
-
-abbrev context-is : ContextTypeOf → Type 0
-context-is (ContextTypeOf.Case c) = Unit {0}
-context-is (ContextTypeOf.InvalidVariant n) = ⊥
-
-pub context-case : {a b : ContextType} → ContextTypeOf.Case a ≡ ContextTypeOf.Case b → a ≡ b
-context-case {a} e = ap (context-or a) e
-
-pub context-invalid : {a : ContextType} {n : ℕ} → ContextTypeOf.Case a ≡ ContextTypeOf.InvalidVariant n → ⊥
-context-invalid e = subst context-is e tt
+    pub not-none : {a : A} → told x ≡ some a → told y ≡ none → ⊥
+    not-none p q = subst isSome (sym p ∙ ap told same ∙ q) tt

@@ -1,7 +1,7 @@
 -- The call's answer, as numbers, where the type's number is a case. Assumes nothing.
 use mathlib.Core.Path.{refl, sym, _∙_}
 use native.Mathlib.Omega.{arith}
-use Rattle.bozterrun.proofs.Cases.{type-case, type-invalid}
+use Rattle.bozterrun.proofs.Cases.{type, one-case, not-none}
 use borrow.Author.Needs.{needs}
 use Rattle.bozterrun.proofs.station.bozterrun_add_device.Statement.{statement}
 use Rattle.bozterrun.proofs.station.bozterrun_add_device.Tie as tie
@@ -12,15 +12,15 @@ returns c = (λ k low. absurd (omega arith), (λ high. (refl, (refl, (refl, (ref
 returns-2 : tie.Need-returns-2
 returns-2 c =
     let told = sym (c .before .before .parse .ensures) ∙ c .enum-told .given .1 in
-    (λ k low known. absurd (type-invalid (sym known ∙ told)), (λ high. (refl, (refl, (refl, (refl, refl)))), λ n invalid. (refl, (refl, (refl, (refl, refl))))))
+    (λ k low known. absurd (not-none type (sym known ∙ told) refl refl), (λ high. (refl, (refl, (refl, (refl, refl)))), λ n invalid. (refl, (refl, (refl, (refl, refl))))))
 
 returns-3 : tie.Need-returns-3
 returns-3 c =
     let at-add = c .before .before .before .before .before .before in
     let at-known = at-add .before .before .before .before in
     let told = sym (at-known .before .before .parse .ensures) ∙ at-known .known .given .1 in (
-      λ k low known. record { answer = at-add .add-device .result; promised = rw (type-case (sym known ∙ told)) (at-add .add-device .ensures); status-is = c .status .ensures; rest = (refl, c .before .value .ensures) },
-      (λ high. absurd (omega arith), λ n invalid. absurd (type-invalid (sym told ∙ invalid))),
+      λ k low known. record { answer = at-add .add-device .result; promised = rw (one-case type (sym known ∙ told) refl refl) (at-add .add-device .ensures); status-is = c .status .ensures; rest = (refl, c .before .value .ensures) },
+      (λ high. absurd (omega arith), λ n invalid. absurd (not-none type (sym told ∙ invalid) refl refl)),
     )
 
 pub bozterrun-add-device-spec : {M : Type 1} → statement M

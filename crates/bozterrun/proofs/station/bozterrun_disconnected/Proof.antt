@@ -1,7 +1,7 @@
 -- The call's answer, as numbers, where the reason's number is a case. Assumes nothing.
 use mathlib.Core.Path.{refl, sym, _∙_}
 use native.Mathlib.Omega.{arith}
-use Rattle.bozterrun.proofs.Cases.{reason-case, reason-invalid}
+use Rattle.bozterrun.proofs.Cases.{reason, one-case, not-none}
 use borrow.Author.Needs.{needs}
 use Rattle.bozterrun.proofs.station.bozterrun_disconnected.Statement.{statement}
 use Rattle.bozterrun.proofs.station.bozterrun_disconnected.Tie as tie
@@ -12,15 +12,15 @@ returns c = (λ d low. absurd (omega arith), (λ high. (refl, (refl, (refl, refl
 returns-2 : tie.Need-returns-2
 returns-2 c =
     let told = sym (c .before .before .parse .ensures) ∙ c .enum-told .given .1 in
-    (λ d low known. absurd (reason-invalid (sym known ∙ told)), (λ high. (refl, (refl, (refl, refl))), λ n invalid. (refl, (refl, (refl, refl)))))
+    (λ d low known. absurd (not-none reason (sym known ∙ told) refl refl), (λ high. (refl, (refl, (refl, refl))), λ n invalid. (refl, (refl, (refl, refl)))))
 
 returns-3 : tie.Need-returns-3
 returns-3 c =
     let at-call = c .before .before .before .before .before .before .before .before .before in
     let at-known = at-call .before .before .before .before .before .before in
     let told = sym (at-known .before .before .parse .ensures) ∙ at-known .known .given .1 in (
-      λ d low known. record { answer = at-call .disconnected .result; promised = rw (reason-case (sym known ∙ told)) (at-call .disconnected .ensures); status-is = c .status .ensures; rest = refl },
-      (λ high. absurd (omega arith), λ n invalid. absurd (reason-invalid (sym told ∙ invalid))),
+      λ d low known. record { answer = at-call .disconnected .result; promised = rw (one-case reason (sym known ∙ told) refl refl) (at-call .disconnected .ensures); status-is = c .status .ensures; rest = refl },
+      (λ high. absurd (omega arith), λ n invalid. absurd (not-none reason (sym told ∙ invalid) refl refl)),
     )
 
 pub bozterrun-disconnected-spec : {M : Type 1} → statement M

@@ -1,6 +1,6 @@
 -- The call's answer, as numbers, where the mask is a capability's. Assumes nothing.
 use mathlib.Core.Path.{refl, sym, _∙_}
-use Rattle.bozterrun.proofs.Cases.{capability-case, capability-unknown}
+use Rattle.bozterrun.proofs.Cases.{capability, one-case, not-none}
 use borrow.Author.Needs.{needs}
 use Rattle.bozterrun.proofs.station.bozterrun_has_capability.Statement.{statement}
 use Rattle.bozterrun.proofs.station.bozterrun_has_capability.Tie as tie
@@ -8,15 +8,15 @@ use Rattle.bozterrun.proofs.station.bozterrun_has_capability.Tie as tie
 returns : tie.Need-returns
 returns c =
     let told = sym (c .before .before .from-mask .ensures) ∙ c .enum-told .given .1 in
-    (λ k known. absurd (capability-unknown (sym known ∙ told)), λ unknown. (refl, refl))
+    (λ k known. absurd (not-none capability (sym known ∙ told) refl refl), λ unknown. (refl, refl))
 
 returns-2 : tie.Need-returns-2
 returns-2 c =
     let at-call = c .before .before in
     let at-known = at-call .before .before in
     let told = sym (at-known .before .before .from-mask .ensures) ∙ at-known .known .given .1 in (
-      λ k known. record { answer = at-call .has-capability .result; promised = rw (capability-case (sym known ∙ told)) (at-call .has-capability .ensures); status-is = c .status .ensures; rest = c .before .value .ensures },
-      λ unknown. absurd (capability-unknown (sym told ∙ unknown)),
+      λ k known. record { answer = at-call .has-capability .result; promised = rw (one-case capability (sym known ∙ told) refl refl) (at-call .has-capability .ensures); status-is = c .status .ensures; rest = c .before .value .ensures },
+      λ unknown. absurd (not-none capability (sym told ∙ unknown) refl refl),
     )
 
 pub bozterrun-has-capability-spec : {M : Type 1} → statement M
