@@ -165,29 +165,6 @@ pub new-length : (device caps : ℕ) → length (newInterfaces device caps) ≡ 
 unfolding newInterfaces
 new-length device caps = from-length (device + 1) (bitsOf caps)
 
--- ---- an id that no interface of the device can have
-
-few-from : (k p m : ℕ) → length (bitsFrom k p m) ≤ k
-unfolding bitsFrom
-few-from zero p m = omega arith
-few-from (suc k) p m = go (eqb (m % 2) 1) (few-from k (p + 1) (m / 2))
-  where
-    go : (b : Bool) → length (bitsFrom k (p + 1) (m / 2)) ≤ k → length (cond b (p ∷ []) [] ++ bitsFrom k (p + 1) (m / 2)) ≤ suc k
-    go true l = omega arith
-    go false l = omega arith
-
--- r is the id less the device's
-pub far : (device id r : ℕ) → (r + device) % 2 ^ 64 ≡ id → r < 2 ^ 64 → 65 < r → (caps b : ℕ) → eqb (interfaceId device caps b) id ≡ false
-unfolding interfaceId bitsBelow bitsOf
-far device id r e f l caps b =
-    ne-eqb ((device + 1 + bitsBelow caps b) % 2 ^ 64) id
-    (λ z. let few : bitsBelow caps b ≤ 64 = few-from 64 0 (caps % 2 ^ b) in omega arith)
-
-pub unlinked : (x y : Bool) → x && (y && false) ≡ false
-unlinked true true = refl
-unlinked true false = refl
-unlinked false y = refl
-
 -- ---- a row's device
 
 module _ (c : List ℕ) (k : ℕ) where

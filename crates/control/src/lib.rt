@@ -7,7 +7,7 @@ use eiproto::event::DeviceCapability;
 use touches::EIS_MAX_TOUCHES;
 ghost use mathlib.Core.Path.{_≡_};
 ghost use Prim.Native.Nat.{ℕ, _≤_, _<_};
-ghost use mathlib.Core.Bool.{true, false};
+ghost use mathlib.Core.Bool.{true};
 ghost use lib.Dec.{eqb};
 ghost use mathlib.Core.Option.{none};
 ghost use lib.ListN.{length, getD};
@@ -298,23 +298,11 @@ pub fn has_capability(control: &[u64], k: usize, bit: u32) -> bool
     has_bit(device_capabilities(control, k), bit)
 }
 
-// Whether the id can be that of an interface of the device: they follow it, and a mask has 64 bits. Most devices are passed over by this
-// alone, without counting the bits of their masks.
-fn is_near(device: u64, id: u64) -> bool
-    ensures { λ r. ⌜ (r ≡ false → (caps b : ℕ) → eqb (interfaceId device caps b) id ≡ false) ⌝ }
-{
-    std::num::wrapping_sub_u64(id, device) <= 65
-}
-
 // Whether a device's interface for the bit has the id and is linked.
 pub fn links(control: &[u64], k: usize, bit: u32, id: u64) -> bool
     requires { ⌜ (length (now control) ≡ controlLength) × (k < devicesLimit) ⌝ }
     ensures { λ r. ⌜ r ≡ linksIn bit id (coreAt (now (control .entry)) k .interfaces) ⌝ }
 {
-    let device = device_id(control, k);
-    if !is_near(device, id) {
-        return false;
-    }
     let capabilities = device_capabilities(control, k);
     if !has_bit(capabilities, bit) {
         return false;
@@ -322,7 +310,7 @@ pub fn links(control: &[u64], k: usize, bit: u32, id: u64) -> bool
     if !has_bit(device_linked(control, k), bit) {
         return false;
     }
-    interface_id(device, capabilities, bit) == id
+    interface_id(device_id(control, k), capabilities, bit) == id
 }
 
 // The slot of the first device with the id.
