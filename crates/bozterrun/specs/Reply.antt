@@ -99,11 +99,11 @@ abbrev pub Detailed : (interface version : Number) → Answer → Type 0
 Detailed interface version a =
     (interface .exit .now ≡ versionIn (outcomeOf (a .outcome)) .interface) × (version .exit .now ≡ versionIn (outcomeOf (a .outcome)) .version)
 
--- ---- "a number that is no case of its enum is refused"
+-- ---- numbers that are no case of their enum
 
 -- a name or an explanation, where `given` is 1
-abbrev pub optional : (given : ℕ) → Numbers → Option (List ℕ)
-optional given t = text (eqb given 1) t
+abbrev pub textIf : (given : ℕ) → Numbers → Option (List ℕ)
+textIf given t = text (eqb given 1) t
 
 -- a state of a key or a button is 0 or 1; behind another nothing is touched
 abbrev pub Pressed : (state status : ℕ) → (kept told : Type 0) → Type 0

@@ -14,7 +14,7 @@ ghost use Rattle.eiproto.specs.declared.eiproto_enum.DeviceType.{DeviceType};
 ghost use Rattle.eiproto.specs.declared.eiproto_enum.DisconnectReason.{DisconnectReason};
 ghost use Rattle.model.specs.Call.{Plain};
 ghost use Rattle.answers.specs.Promise.{Promise, Reply, PromiseRows};
-ghost use Rattle.bozterrun.specs.Reply.{badArgument, optional, Sent, Gave, Valued, Unsent, UnsentRows};
+ghost use Rattle.bozterrun.specs.Reply.{badArgument, textIf, Sent, Gave, Valued, Unsent, UnsentRows};
 ghost use Rattle.bozterrun.specs.Numbers.{IsCapability, NoCapability, IsType, NoType, IsReason, NoReason};
 
 // The name counts where `given` is 1.
@@ -28,7 +28,7 @@ pub extern "C" fn bozterrun_add_seat(
     count: &mut usize,
     id: &mut u64,
 ) -> u32
-    ensures { λ r. ⌜ (given ≤ 1 → Gave (Promise control out (Plain.addSeat (optional given name) capabilities)) r count id) ⌝ }
+    ensures { λ r. ⌜ (given ≤ 1 → Gave (Promise control out (Plain.addSeat (textIf given name) capabilities)) r count id) ⌝ }
     ensures { λ r. ⌜ (1 < given → (r ≡ badArgument) × Unsent control out count id) ⌝ }
 {
     if 1 < given {
@@ -55,7 +55,7 @@ pub extern "C" fn bozterrun_add_device(
     count: &mut usize,
     id: &mut u64,
 ) -> u32
-    ensures { λ r. ⌜ ((k : DeviceType) → given ≤ 1 → IsType kind k → Gave (Promise control out (Plain.addDevice seat (optional given name) k capabilities)) r count id) ⌝ }
+    ensures { λ r. ⌜ ((k : DeviceType) → given ≤ 1 → IsType kind k → Gave (Promise control out (Plain.addDevice seat (textIf given name) k capabilities)) r count id) ⌝ }
     ensures { λ r. ⌜ (1 < given → (r ≡ badArgument) × Unsent control out count id) ⌝ }
     ensures { λ r. ⌜ ((n : ℕ) → NoType kind n → (r ≡ badArgument) × Unsent control out count id) ⌝ }
 {
@@ -211,7 +211,7 @@ pub extern "C" fn bozterrun_disconnected(
     out: &mut [u8],
     count: &mut usize,
 ) -> u32
-    ensures { λ r. ⌜ ((d : DisconnectReason) → given ≤ 1 → IsReason reason d → Sent (PromiseRows control words reals out (Plain.disconnected d (optional given explanation))) r count) ⌝ }
+    ensures { λ r. ⌜ ((d : DisconnectReason) → given ≤ 1 → IsReason reason d → Sent (PromiseRows control words reals out (Plain.disconnected d (textIf given explanation))) r count) ⌝ }
     ensures { λ r. ⌜ (1 < given → (r ≡ badArgument) × UnsentRows control words reals out count) ⌝ }
     ensures { λ r. ⌜ ((n : ℕ) → NoReason reason n → (r ≡ badArgument) × UnsentRows control words reals out count) ⌝ }
 {
