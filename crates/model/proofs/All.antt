@@ -19,6 +19,10 @@ module _ {A : Type 0} {Q : A → Type 0} where
   all-append none b = b
   all-append (more q a) b = more q (all-append a b)
 
+  pub all-kept : (b : Bool) (x : A) {xs : List A} → Q x → All Q xs → All Q (cond b [] (x ∷ []) ++ xs)
+  all-kept true x q a = a
+  all-kept false x q a = more q a
+
 module _ {P : Type 0} {Q : Device P → Type 0} where
   pub all-at : (g : Device P → Device P) → ((x : Device P) → Q x → Q (g x)) → (k : ℕ) {xs : List (Device P)} → All Q xs → All Q (at g k xs)
   unfolding at
@@ -31,10 +35,6 @@ module _ {P : Type 0} {Q : Device P → Type 0} where
   all-withoutSlot k none = none
   all-withoutSlot zero (more q a) = a
   all-withoutSlot (suc k) (more q a) = more q (all-withoutSlot k a)
-
-  all-kept : (b : Bool) (x : Device P) {xs : List (Device P)} → Q x → All Q xs → All Q (cond b [] (x ∷ []) ++ xs)
-  all-kept true x q a = a
-  all-kept false x q a = more q a
 
   pub all-withoutSeat : (seat : ℕ) {xs : List (Device P)} → All Q xs → All Q (withoutSeat seat xs)
   unfolding withoutSeat

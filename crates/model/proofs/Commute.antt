@@ -100,7 +100,7 @@ module _ {P Q : Type 0} (f : P → Q) where
   amended-map (Amend.touchDown t) d = refl
   amended-map (Amend.touchUp t) d = refl
   amended-map Amend.clearTouches d = refl
-  amended-map (Amend.unlink i) d = refl
+  amended-map (Amend.unlist cap) d = refl
 
   pended-map : (i : Item P) (d : Device P) → pended (mapItem f i) (mapDevice f d) ≡ mapDevice f (pended i d)
   unfolding pended mapDevice

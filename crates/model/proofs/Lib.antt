@@ -16,6 +16,9 @@ pub mod Provenance
 pub mod Ascending
 pub mod Removals
 pub mod ReachableOrder
+pub mod ReachableBits
 pub mod ReachableHeld
 pub mod ReachablePlans
 pub mod Reachable
+pub mod Destroyed
+pub mod Released

@@ -18,7 +18,7 @@ unfolding amended
 amended-keeps (Amend.touchDown t) x = (refl, refl)
 amended-keeps (Amend.touchUp t) x = (refl, refl)
 amended-keeps Amend.clearTouches x = (refl, refl)
-amended-keeps (Amend.unlink i) x = (refl, refl)
+amended-keeps (Amend.unlist cap) x = (refl, refl)
 
 module _ {P : Type 0} (d : ℕ) where
   -- ---- what is taken, and what stands, of the device with id d

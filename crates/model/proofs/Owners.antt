@@ -4,7 +4,7 @@ use Prim.Native.Nat.{ℕ, _+_, _≤_, _<_}
 use mathlib.Core.Path.{_≡_, refl, sym, _∙_}
 use mathlib.Core.Logic.{_⊎_, inl, inr}
 use mathlib.Core.Bool.{Bool, true, false, _&&_, _||_, false≢true, or-assoc, or-false}
-use mathlib.Core.List.{List, [], _∷_, _++_, map, append-nil}
+use mathlib.Core.List.{List, [], _∷_, _++_, append-nil}
 use mathlib.Core.Option.{Option}
 use native.Mathlib.Omega.{arith}
 use lib.Dec.{eqb}
@@ -12,10 +12,10 @@ use lib.ListN.{length}
 use borrow.Author.Tests.{eq-eqb, ne-eqb}
 use Rattle.eiproto.specs.Bits.{bitsOf}
 use Rattle.model.specs.Session.{Interface, Device, Session, fresh}
-use Rattle.model.specs.Edit.{Amend, Edit, interfacesFrom, newInterfaces, unlinked, amended, item, pended, emptied, enact, enactAll}
+use Rattle.model.specs.Edit.{Amend, Edit, interfacesFrom, newInterfaces, interfacesWithout, amended, item, pended, emptied, enact, enactAll}
 use Rattle.model.specs.Plan.{Result, Plan}
 use Rattle.model.specs.Demand3.{MadeInterface, made, madeFor}
-use Rattle.model.proofs.All.{All, none, more, all-map, all-append, all-at, all-withoutSlot, all-withoutSeat}
+use Rattle.model.proofs.All.{All, none, more, all-map, all-append, all-kept, all-at, all-withoutSlot, all-withoutSeat}
 use Rattle.model.proofs.Plans.{allows, allowsAll, allows-cons, madeWith, Formed, answers, acts, adds}
 
 pub nothing-made : (o : Result) → made o [] ≡ []
@@ -57,7 +57,7 @@ module _ (d : ℕ) where
   unfolding interfacesFrom madeWith madeFor
   new-told e low [] = none
   new-told e low (b ∷ bs) =
-      more {x = record { capability = b; id = low; linked = true }}
+      more {x = record { capability = b; id = low }}
       (record {
         least = omega arith;
         most = omega arith;
@@ -72,10 +72,10 @@ module _ (d : ℕ) where
     given : i .id < next
     pub owner : madeFor (i .id) d ms ≡ eqb e d
 
-  unlinked-told : {next : ℕ} {ms : List MadeInterface} {e : ℕ} (j : ℕ) {is : List Interface} → All (Told next ms e) is → All (Told next ms e) (map (unlinked j) is)
-  unfolding unlinked
-  unlinked-told j none = none
-  unlinked-told j (more w a) = more (record { given = w .given; owner = w .owner }) (unlinked-told j a)
+  unlisted-told : {next : ℕ} {ms : List MadeInterface} {e : ℕ} (cap : ℕ) {is : List Interface} → All (Told next ms e) is → All (Told next ms e) (interfacesWithout cap is)
+  unfolding interfacesWithout
+  unlisted-told cap none = none
+  unlisted-told cap (more {x = i} w a) = all-kept (eqb (i .capability) cap) i w (unlisted-told cap a)
 
   module _ {P : Type 0} where
     abbrev pub Stands : (next : ℕ) → List MadeInterface → Device P → Type 0
@@ -99,7 +99,7 @@ module _ (d : ℕ) where
     amended-stands (Amend.touchDown t) x h = h
     amended-stands (Amend.touchUp t) x h = h
     amended-stands Amend.clearTouches x h = h
-    amended-stands (Amend.unlink i) x h = unlinked-told i h
+    amended-stands (Amend.unlist cap) x h = unlisted-told cap h
 
     edit-owned : (timed : Bool) (e : Edit) (p : P) (s : Session P) (ms : List MadeInterface) → allows timed e ≡ true → Owned s ms → Owned (enact e p s) ms
     unfolding enact allows

@@ -70,7 +70,6 @@ noted-allowed : {edits : List Edit} → Noted edits → allowsAll false edits �
 unfolding allowsAll
 noted-allowed Noted.nothing = refl
 noted-allowed (Noted.clears k) = refl
-noted-allowed (Noted.unlinks k i) = refl
 
 -- the events of a new device that tell no interface
 name-made : (d object : ℕ) (name : Option (List ℕ)) (es : List Sent) → madeOn d (nameEvents object name ++ es) ≡ madeOn d es
@@ -90,9 +89,10 @@ leaf-formed (Leaf.passed h) = answers Result.accepted
 leaf-formed (Leaf.pended {x = x} f amends e g t) = acts Result.accepted [] _ refl refl (pend-allowed amends f x)
 leaf-formed (Leaf.answered o m) = answers o
 leaf-formed (Leaf.synced callback) = acts Result.accepted _ _ refl refl refl
-leaf-formed (Leaf.noted object event edits h) = acts Result.accepted _ _ refl refl (noted-allowed h)
+leaf-formed (Leaf.noted object event edits m h) = acts Result.accepted _ _ refl refl (noted-allowed h)
+leaf-formed (Leaf.released cap id f e) = acts Result.accepted _ _ refl refl refl
 leaf-formed (Leaf.deviceGone id f e) = acts Result.accepted _ _ refl refl refl
-leaf-formed (Leaf.seatGone id) = acts Result.accepted _ _ refl refl refl
+leaf-formed (Leaf.seatGone id x e) = acts Result.accepted _ _ refl refl refl
 leaf-formed {v = v} (Leaf.allGone reason explanation) = acts Result.accepted _ _ refl refl (removeSeats-allowed (v .connection .seats))
 leaf-formed (Leaf.queued u) = acts Result.accepted _ _ refl refl refl
 leaf-formed (Leaf.flushed id f u e) = acts Result.accepted _ _ refl refl refl

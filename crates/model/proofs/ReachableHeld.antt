@@ -24,7 +24,7 @@ quiet (Edit.removeDevicesOf seat) = true
 quiet (Edit.amend k (Amend.touchDown t)) = false
 quiet (Edit.amend k (Amend.touchUp t)) = true
 quiet (Edit.amend k Amend.clearTouches) = true
-quiet (Edit.amend k (Amend.unlink i)) = true
+quiet (Edit.amend k (Amend.unlist cap)) = true
 quiet (Edit.pend k sight) = true
 quiet (Edit.frame k serial time) = true
 quiet (Edit.queue r) = true
@@ -88,7 +88,7 @@ module _ {P : Type 0} where
   edit-held (Edit.amend k (Amend.touchDown t)) p s q h = absurd (false≢true q)
   edit-held (Edit.amend k (Amend.touchUp t)) p s q h = held-at (amended (Amend.touchUp t)) (λ d. without-length t (d .downTouchIds)) k (s .devices) h
   edit-held (Edit.amend k Amend.clearTouches) p s q h = held-at (amended Amend.clearTouches) (λ d. omega arith) k (s .devices) h
-  edit-held (Edit.amend k (Amend.unlink i)) p s q h = held-at (amended (Amend.unlink i)) (λ d. omega arith) k (s .devices) h
+  edit-held (Edit.amend k (Amend.unlist cap)) p s q h = held-at (amended (Amend.unlist cap)) (λ d. omega arith) k (s .devices) h
   edit-held (Edit.pend k sight) p s q h = held-at (pended (item sight p)) (λ d. omega arith) k (s .devices) h
   edit-held (Edit.frame k serial time) p s q h = held-at emptied (λ d. omega arith) k (s .devices) h
   edit-held (Edit.queue r) p s q h = h

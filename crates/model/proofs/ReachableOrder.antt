@@ -1,17 +1,17 @@
 -- The order of ids, which every edit keeps: those of the seats ascend, and so do those of all objects of devices, each device's followed by its
 -- interfaces'; both stay below the next id, which never falls. Assumes nothing.
 use Prim.Native.Nat.{ℕ, zero, suc, _+_, _≤_}
-use mathlib.Core.Path.{_≡_, refl, ap, sym}
+use mathlib.Core.Path.{_≡_, refl, sym}
 use mathlib.Core.List.{List, [], _∷_, _++_, map, map-append, append-assoc, append-nil, Sublistᴰ, Sublistᴰ·slnil, Sublistᴰ·cons, Sublistᴰ·cons-cons, Sublistᴰ·refl, Sublistᴰ·append, Sublistᴰ·nil-sublist}
 use native.Mathlib.Nat.{le-refl, le-add-right}
 use native.Mathlib.Omega.{arith}
 use lib.ListN.{length}
 use Rattle.eiproto.specs.Bits.{bitsOf}
 use Rattle.model.specs.Session.{Interface, Device, Session}
-use Rattle.model.specs.Edit.{Amend, Edit, interfacesFrom, newInterfaces, unlinked, amended, item, pended, emptied, newDevice, at, enact, enactAll}
+use Rattle.model.specs.Edit.{Amend, Edit, interfacesFrom, newInterfaces, amended, item, pended, emptied, newDevice, at, enact, enactAll}
 use Rattle.model.specs.Reachable.{seatIds, interfaceIdsIn}
 use Rattle.model.proofs.Ascending.{Between, end, next, higher, joined, left-out}
-use Rattle.model.proofs.Removals.{sub-map, seatsWithout-sub, withoutSlot-sub, withoutSeat-sub}
+use Rattle.model.proofs.Removals.{sub-map, interfacesWithout-sub, seatsWithout-sub, withoutSlot-sub, withoutSeat-sub}
 
 abbrev pub idsOf : List Interface → List ℕ
 idsOf is = map (λ i. i .id) is
@@ -28,11 +28,6 @@ interfaces-between id (b ∷ bs) =
 pub new-between : (id caps : ℕ) → Between id (id ∷ idsOf (newInterfaces id caps)) (id + 1 + length (newInterfaces id caps))
 unfolding newInterfaces
 new-between id caps = next (le-refl id) (interfaces-between (id + 1) (bitsOf caps))
-
-unlinked-ids : (id : ℕ) (is : List Interface) → idsOf (map (unlinked id) is) ≡ idsOf is
-unfolding unlinked
-unlinked-ids id [] = refl
-unlinked-ids id (i ∷ is) = ap (λ r. i .id ∷ r) (unlinked-ids id is)
 
 pub record OrderedIds (seatIds objectIds : List ℕ) (nextId : ℕ) : Type 0 where
   pub seats : Between 0 seatIds nextId
@@ -61,12 +56,12 @@ module _ {P : Type 0} where
       Between low (objectIds (ds ++ (d ∷ []))) high
   objects-added ds d b c = rw (objects-new ds d) (joined b c)
 
-  objects-at : (f : Device P → Device P) → ((d : Device P) → objectsOf (f d) ≡ objectsOf d) → (k : ℕ) (ds : List (Device P)) →
-      objectIds (at f k ds) ≡ objectIds ds
+  objects-at : (f : Device P → Device P) → ((d : Device P) → Sublistᴰ (objectsOf (f d)) (objectsOf d)) → (k : ℕ) (ds : List (Device P)) →
+      Sublistᴰ (objectIds (at f k ds)) (objectIds ds)
   unfolding objectIds at
-  objects-at f h k [] = refl
-  objects-at f h zero (d ∷ ds) = ap (λ r. r ++ objectIds ds) (h d)
-  objects-at f h (suc k) (d ∷ ds) = ap (λ r. objectsOf d ++ r) (objects-at f h k ds)
+  objects-at f h k [] = Sublistᴰ·slnil
+  objects-at f h zero (d ∷ ds) = Sublistᴰ·append (h d) (Sublistᴰ·refl (objectIds ds))
+  objects-at f h (suc k) (d ∷ ds) = Sublistᴰ·append (Sublistᴰ·refl (objectsOf d)) (objects-at f h k ds)
 
   objects-sub : {ds es : List (Device P)} → Sublistᴰ ds es → Sublistᴰ (objectIds ds) (objectIds es)
   unfolding objectIds
@@ -86,12 +81,17 @@ module _ {P : Type 0} where
 
   -- ---- the edits
 
-  amended-objects : (a : Amend) (d : Device P) → objectsOf (amended a d) ≡ objectsOf d
+  amended-objects : (a : Amend) (d : Device P) → Sublistᴰ (objectsOf (amended a d)) (objectsOf d)
   unfolding amended
-  amended-objects (Amend.touchDown t) d = refl
-  amended-objects (Amend.touchUp t) d = refl
-  amended-objects Amend.clearTouches d = refl
-  amended-objects (Amend.unlink i) d = ap (λ r. d .id ∷ r) (unlinked-ids i (d .interfaces))
+  amended-objects (Amend.touchDown t) d = Sublistᴰ·refl (objectsOf d)
+  amended-objects (Amend.touchUp t) d = Sublistᴰ·refl (objectsOf d)
+  amended-objects Amend.clearTouches d = Sublistᴰ·refl (objectsOf d)
+  amended-objects (Amend.unlist cap) d = Sublistᴰ·cons-cons refl (sub-map (λ i. i .id) (interfacesWithout-sub cap (d .interfaces)))
+
+  -- objects left out of devices that stay
+  at-ordered : {ss : List ℕ} {n : ℕ} (f : Device P → Device P) → ((d : Device P) → Sublistᴰ (objectsOf (f d)) (objectsOf d)) → (k : ℕ) (ds : List (Device P)) →
+      OrderedIds ss (objectIds ds) n → OrderedIds ss (objectIds (at f k ds)) n
+  at-ordered f h k ds o = record { seats = o .seats; objects = left-out (objects-at f h k ds) (o .objects) }
 
   removed-ordered : {ss : List ℕ} {ds es : List (Device P)} {n : ℕ} → Sublistᴰ ds es → OrderedIds ss (objectIds es) n → OrderedIds ss (objectIds ds) n
   removed-ordered t o = record { seats = o .seats; objects = left-out (objects-sub t) (o .objects) }
@@ -115,9 +115,9 @@ module _ {P : Type 0} where
       }
   edit-ordered (Edit.removeDevice k) p s o = removed-ordered (withoutSlot-sub k (s .devices)) o
   edit-ordered (Edit.removeDevicesOf seat) p s o = removed-ordered (withoutSeat-sub seat (s .devices)) o
-  edit-ordered (Edit.amend k a) p s o = rw (objects-at (amended a) (amended-objects a) k (s .devices)) o
-  edit-ordered (Edit.pend k sight) p s o = rw (objects-at (pended (item sight p)) (λ d. refl) k (s .devices)) o
-  edit-ordered (Edit.frame k serial time) p s o = rw (objects-at emptied (λ d. refl) k (s .devices)) o
+  edit-ordered (Edit.amend k a) p s o = at-ordered (amended a) (amended-objects a) k (s .devices) o
+  edit-ordered (Edit.pend k sight) p s o = at-ordered (pended (item sight p)) (λ d. Sublistᴰ·refl (objectsOf d)) k (s .devices) o
+  edit-ordered (Edit.frame k serial time) p s o = at-ordered emptied (λ d. Sublistᴰ·refl (objectsOf d)) k (s .devices) o
   edit-ordered (Edit.queue r) p s o = o
   edit-ordered Edit.deliver p s o = o
 

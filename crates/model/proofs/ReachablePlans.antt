@@ -14,7 +14,7 @@ use Rattle.model.specs.Call.{Sight, Call}
 use Rattle.model.specs.Session.{Interface, Seat, Device, Connection, Session, mapDevice, blank, view}
 use Rattle.model.specs.Edit.{Amend, Edit, newInterfaces, enact, enactAll}
 use Rattle.model.specs.Plan.{Sent, on, Result, Plan, answer, ignore, edit, send}
-use Rattle.model.specs.Decide.{Found, version, versionOr1, later, find, linksIn, pendAfter, handler, deviceForInterface, nameEvents, interfaceEvents, removeSeats, sendNext, sendDestroyed, decide}
+use Rattle.model.specs.Decide.{Found, version, versionOr1, later, find, listsAs, pendAfter, handler, deviceForInterface, nameEvents, interfaceEvents, removeSeats, sendNext, sendDestroyed, decide}
 use Rattle.model.specs.Demand3.{madeOn}
 use Rattle.model.specs.Reachable.{newIds}
 use Rattle.model.proofs.Ascending.{Between, end, next}
@@ -36,13 +36,18 @@ made-interfaces d object c [] es = refl
 made-interfaces d object c (i ∷ is) es = ap (λ r. i .id ∷ r) (made-interfaces d object c is es)
 
 -- stated over any interfaces, so that those of a new device stay uncomputed
+pub device-ids : (id seat ver type : ℕ) (name : Option (List ℕ)) (c : Connection) (is : List Interface) →
+    newIds (Result.device id) (on seat (Event.Device id ver) ∷ nameEvents id name ++ (on id (Event.DeviceType type) ∷ interfaceEvents c id is ++ (on id Event.Done ∷ [])))
+    ≡ id ∷ idsOf is
+unfolding newIds madeOn
+device-ids id seat ver type name c is = rw (made-name id id name, made-interfaces id id c is, append-nil (idsOf is))
+
 device-told : (id seat ver type : ℕ) (name : Option (List ℕ)) (c : Connection) (is : List Interface) (high : ℕ) →
     Between id (id ∷ idsOf is) high →
     Between id
     (newIds (Result.device id) (on seat (Event.Device id ver) ∷ nameEvents id name ++ (on id (Event.DeviceType type) ∷ interfaceEvents c id is ++ (on id Event.Done ∷ []))))
     high
-unfolding newIds madeOn
-device-told id seat ver type name c is high b = rw (made-name id id name, made-interfaces id id c is, append-nil) b
+device-told id seat ver type name c is high b = rw (device-ids id seat ver type name c is) b
 
 removeSeats-quiet : (ss : List Seat) → allQuiet (removeSeats ss) ≡ true
 unfolding removeSeats allQuiet
@@ -53,9 +58,8 @@ noted-quiet : {edits : List Edit} → Noted edits → allQuiet edits ≡ true
 unfolding allQuiet
 noted-quiet Noted.nothing = refl
 noted-quiet (Noted.clears k) = refl
-noted-quiet (Noted.unlinks k i) = refl
 
-modest-ids : (o : Result) → modest o ≡ true → newIds o [] ≡ []
+pub modest-ids : (o : Result) → modest o ≡ true → newIds o [] ≡ []
 unfolding modest newIds
 modest-ids Result.accepted h = refl
 modest-ids (Result.refused n) h = refl
@@ -122,7 +126,7 @@ module _ {P : Type 0} (s : Session P) (p : P) where
 
   found-stands : (cap i : ℕ) (f : Found) → deviceForInterface cap i (view s) ≡ some f → Stands (s .devices) (some f)
   unfolding deviceForInterface view
-  found-stands cap i f e = subst (Stands (s .devices)) e (find-stands (λ d. linksIn cap i (d .interfaces)) (s .devices))
+  found-stands cap i f e = subst (Stands (s .devices)) e (find-stands (λ d. listsAs cap i (d .interfaces)) (s .devices))
 
   leaf-fits : {now : ℕ} {c : Call Sight} {plan : Plan} → Leaf (view s) now c plan → Fits plan
   unfolding ignore modest edit send sendNext sendDestroyed newIds allQuiet enactAll enact view
@@ -131,9 +135,10 @@ module _ {P : Type 0} (s : Session P) (p : P) where
   leaf-fits (Leaf.pended {i = i} {x = x} f amends e g t) = pend-fits f x (found-stands (capabilityIndex (handler (x .kind) .capability)) i f e) t
   leaf-fits (Leaf.answered o m) = answer-fits o m
   leaf-fits (Leaf.synced callback) = fits-quiet _ refl refl
-  leaf-fits (Leaf.noted object event edits h) = fits-quiet _ refl (noted-quiet h)
+  leaf-fits (Leaf.noted object event edits m h) = fits-quiet _ refl (noted-quiet h)
+  leaf-fits (Leaf.released cap id f e) = fits-quiet _ refl refl
   leaf-fits (Leaf.deviceGone id f e) = fits-quiet _ refl refl
-  leaf-fits (Leaf.seatGone id) = fits-quiet _ refl refl
+  leaf-fits (Leaf.seatGone id x e) = fits-quiet _ refl refl
   leaf-fits (Leaf.allGone reason explanation) = fits-quiet _ refl (removeSeats-quiet (s .connection .seats))
   leaf-fits (Leaf.queued u) = fits-quiet _ refl refl
   leaf-fits (Leaf.flushed id f u e) = fits-quiet _ refl refl

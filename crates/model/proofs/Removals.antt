@@ -1,11 +1,11 @@
--- What a removal leaves of seats or devices is a sublist: they stand in the order that they had. Assumes nothing.
+-- What a removal leaves of interfaces, seats or devices is a sublist: they stand in the order that they had. Assumes nothing.
 use Prim.Native.Nat.{ℕ, zero, suc}
 use mathlib.Core.Path.{refl, ap}
 use mathlib.Core.Bool.{Bool, true, false, cond}
 use mathlib.Core.List.{List, [], _∷_, _++_, map, Sublistᴰ, Sublistᴰ·slnil, Sublistᴰ·cons, Sublistᴰ·cons-cons, Sublistᴰ·refl}
 use lib.Dec.{eqb}
-use Rattle.model.specs.Session.{Seat, Device}
-use Rattle.model.specs.Edit.{seatsWithout, withoutSlot, withoutSeat}
+use Rattle.model.specs.Session.{Interface, Seat, Device}
+use Rattle.model.specs.Edit.{interfacesWithout, seatsWithout, withoutSlot, withoutSeat}
 
 pub sub-map : {A B : Type 0} (f : A → B) {xs ys : List A} → Sublistᴰ xs ys → Sublistᴰ (map f xs) (map f ys)
 sub-map f Sublistᴰ·slnil = Sublistᴰ·slnil
@@ -20,6 +20,11 @@ first-sub false x s = Sublistᴰ·cons-cons refl s
 each-sub : {A : Type 0} (b : Bool) (x : A) {xs ys : List A} → Sublistᴰ xs ys → Sublistᴰ (cond b [] (x ∷ []) ++ xs) (x ∷ ys)
 each-sub true x s = Sublistᴰ·cons s
 each-sub false x s = Sublistᴰ·cons-cons refl s
+
+pub interfacesWithout-sub : (cap : ℕ) (is : List Interface) → Sublistᴰ (interfacesWithout cap is) is
+unfolding interfacesWithout
+interfacesWithout-sub cap [] = Sublistᴰ·slnil
+interfacesWithout-sub cap (i ∷ is) = each-sub (eqb (i .capability) cap) i (interfacesWithout-sub cap is)
 
 pub seatsWithout-sub : (id : ℕ) (ss : List Seat) → Sublistᴰ (seatsWithout id ss) ss
 unfolding seatsWithout

@@ -13,7 +13,7 @@ use Rattle.model.specs.Call.{Sight, Input, Load, Call, sight, load, mapC
 use Rattle.model.specs.Session.{Item, Interface, Device, Session, view, mapDevice, blank}
 use Rattle.model.specs.Edit.{Amend, Edit, amended, item, at, enact}
 use Rattle.model.specs.Plan.{Plan, answer, ignore, edit}
-use Rattle.model.specs.Decide.{Found, later, find, linksIn, deviceForInterface, handler, pendAfter, decide}
+use Rattle.model.specs.Decide.{Found, later, find, listsAs, deviceForInterface, handler, pendAfter, decide}
 use Rattle.model.specs.Step.{refuses}
 use Rattle.model.specs.Demand3.{MadeInterface, madeFor, ignored, takenOf}
 use Rattle.model.proofs.Plans.{allows, allowsAll, allows-cons, Formed, answers, acts, adds, decide-formed}
@@ -23,22 +23,21 @@ use Rattle.model.proofs.Owners.{Told, Stands, Owned}
 use Rattle.model.proofs.Walk.{Leaf, walk, isTimed}
 
 -- a test of an interface that passes: its id's test passes, or another's
-either : (linked capability id others : Bool) → (linked && (capability && id) || others) ≡ true → (id ≡ true) ⊎ (others ≡ true)
-either l c true o h = inl refl
-either true true false o h = inr h
-either true false false o h = inr h
-either false c false o h = inr h
+either : (capability id others : Bool) → (capability && id || others) ≡ true → (id ≡ true) ⊎ (others ≡ true)
+either c true o h = inl refl
+either true false o h = inr h
+either false false o h = inr h
 
 module _ (d : ℕ) (ms : List MadeInterface) (next cap object : ℕ) where
-  -- the device that links an interface is the one that it was told for
-  links-owner : (e : ℕ) {is : List Interface} → All (Told d next ms e) is → linksIn cap object is ≡ true → madeFor object d ms ≡ eqb e d
-  unfolding linksIn
-  links-owner e All.none h = absurd (false≢true h)
-  links-owner e (All.more {x = i} {xs = is} w a) h =
-      go (either (i .linked) (eqb (i .capability) cap) (eqb (i .id) object) (linksIn cap object is) h) (links-owner e a)
+  -- the device that lists an interface is the one that it was told for
+  lists-owner : (e : ℕ) {is : List Interface} → All (Told d next ms e) is → listsAs cap object is ≡ true → madeFor object d ms ≡ eqb e d
+  unfolding listsAs
+  lists-owner e All.none h = absurd (false≢true h)
+  lists-owner e (All.more {x = i} {xs = is} w a) h =
+      go (either (eqb (i .capability) cap) (eqb (i .id) object) (listsAs cap object is) h) (lists-owner e a)
     where
-      go : (eqb (i .id) object ≡ true) ⊎ (linksIn cap object is ≡ true) →
-          (linksIn cap object is ≡ true → madeFor object d ms ≡ eqb e d) → madeFor object d ms ≡ eqb e d
+      go : (eqb (i .id) object ≡ true) ⊎ (listsAs cap object is ≡ true) →
+          (listsAs cap object is ≡ true → madeFor object d ms ≡ eqb e d) → madeFor object d ms ≡ eqb e d
       go (inl q) k = ap (λ j. madeFor j d ms) (sym (eqb-true (i .id) object q)) ∙ w .owner
       go (inr q) k = k q
 
@@ -88,12 +87,12 @@ module _ {P : Type 0} (d : ℕ) where
     cond-takes true ds v w h k = h refl
     cond-takes false ds v w h k = k
 
-    find-takes : (ds : List (Device P)) → All (Stands d next ms) ds → Takes ds (find (λ x. linksIn cap object (x .interfaces)) (map (mapDevice blank) ds))
+    find-takes : (ds : List (Device P)) → All (Stands d next ms) ds → Takes ds (find (λ x. listsAs cap object (x .interfaces)) (map (mapDevice blank) ds))
     unfolding find takenAt mapDevice
     find-takes [] All.none = tt
     find-takes (x ∷ ds) (All.more w a) =
-        cond-takes (linksIn cap object (x .interfaces)) (x ∷ ds) _ _ (λ h. ap (λ b. cond b (i ∷ []) []) (sym (links-owner d ms next cap object (x .id) w h)))
-        (later-takes x ds (find (λ x. linksIn cap object (x .interfaces)) (map (mapDevice blank) ds)) (find-takes ds a))
+        cond-takes (listsAs cap object (x .interfaces)) (x ∷ ds) _ _ (λ h. ap (λ b. cond b (i ∷ []) []) (sym (lists-owner d ms next cap object (x .id) w h)))
+        (later-takes x ds (find (λ x. listsAs cap object (x .interfaces)) (map (mapDevice blank) ds)) (find-takes ds a))
 
   -- ---- a timed request
 

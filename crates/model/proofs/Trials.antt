@@ -1,8 +1,11 @@
 -- The trial lines hold, and what is warned of does not, by computation. Assumes nothing.
 use mathlib.Core.Path.{_≡_, refl}
-use mathlib.Core.List.{_++_, map}
-use Rattle.model.specs.Trials.{starred, unstarred, falseFriends, idsSpent, computed, expected}
+use mathlib.Core.List.{List, _++_, map}
+use Rattle.model.specs.Trials.{Trial, starred, unstarred, falseFriends, idsSpent, released, computed, expected}
 
-pub trial-lines : map computed (starred ++ (unstarred ++ (falseFriends ++ idsSpent))) ≡ map expected (starred ++ (unstarred ++ (falseFriends ++ idsSpent)))
+abbrev trials : List Trial
+trials = starred ++ (unstarred ++ (falseFriends ++ (idsSpent ++ released)))
+
+pub trial-lines : map computed trials ≡ map expected trials
 unfolding computed expected
 trial-lines = refl

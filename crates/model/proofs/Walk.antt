@@ -1,4 +1,4 @@
--- THE WALK: every plan of `decide` is one of fifteen. What is to hold of every plan is shown of these, and the calls are gone over here and nowhere
+-- THE WALK: every plan of `decide` is one of sixteen. What is to hold of every plan is shown of these, and the calls are gone over here and nowhere
 -- else. Assumes nothing.
 use Prim.Native.Nat.{ℕ, _≤_, _<_}
 use mathlib.Core.Path.{_≡_, refl, ap}
@@ -15,12 +15,13 @@ use Rattle.eiproto.specs.Capability.{capabilityIndex, unknownBits}
 use Rattle.eiproto.specs.Interface.{eiCallback, eiTouchscreen, lookup}
 use Rattle.utf8.specs.Rfc3629.{isUtf8}
 use Rattle.wire.specs.declared.event.Event.{Event}
+use Rattle.wire.specs.Record.{layout}
 use Rattle.touches.specs.Touches.{member}
 use Rattle.model.specs.Call.{Sight, HandshakeRequest, Plain, Call}
-use Rattle.model.specs.Session.{Untimed, Queued, View}
+use Rattle.model.specs.Session.{Untimed, Queued, Seat, View}
 use Rattle.model.specs.Edit.{Amend, Edit}
 use Rattle.model.specs.Plan.{on, Result, Plan, answer, refuse, ignore, edit, send}
-use Rattle.model.specs.Decide.{Found, Rule, handler, deviceForInterface, deviceOf, seatOf, checkUtf8, checkName, checkOptional, checkCapabilities, onFound, sendNext, pendAfter, ifHeld, handle, handleTimed, handleHandshake, handleSync, handleSeat, handleDevice, handleFrame, handleRelease, nextOf, seatAdded, addSeat, deviceAdded, addDevice, objectsOf, seatObjects, seatsObjects, sendDestroyed, removeDevice, removeSeat, removeSeats, farewell, disconnected, notify, negotiated, versionAnswer, decidePlain, decide}
+use Rattle.model.specs.Decide.{Found, Rule, handler, deviceForInterface, deviceOf, seatOf, checkUtf8, checkName, checkOptional, checkCapabilities, onFound, sendNext, pendAfter, ifHeld, handle, handleTimed, handleHandshake, handleSync, handleSeat, handleDevice, handleFrame, handleRelease, handleSeatRelease, nextOf, seatAdded, addSeat, deviceAdded, addDevice, objectsOf, seatsObjects, sendDestroyed, removeDevice, retireSeat, removeSeat, removeSeats, farewell, disconnected, notify, negotiated, versionAnswer, decidePlain, decide}
 use Rattle.model.specs.Step.{refuses}
 use Rattle.model.specs.Refusals.{ofSession}
 use Rattle.model.specs.Demand3.{wantsHeld, ignoredOn, ignored}
@@ -37,11 +38,14 @@ modest (Result.truth b) = true
 modest Result.none = true
 modest Result.given = false
 
--- what an event that tells of a change may change besides
+-- an event that destroys nothing
+abbrev pub Mild : (ℕ → Event) → Type 0
+Mild event = (serial : ℕ) → eqb (layout (event serial) .kind) 5 ≡ false
+
+-- what such an event may change besides
 pub data Noted : List Edit → Type 0 where
   nothing : Noted []
   clears : (slot : ℕ) → Noted (Edit.amend slot Amend.clearTouches ∷ [])
-  unlinks : (slot interface : ℕ) → Noted (Edit.amend slot (Amend.unlink interface) ∷ [])
 
 -- how a timed request changes the held touches of its device
 pub data Touched (held : List ℕ) (touch : ℕ) : List Amend → Type 0 where
@@ -58,11 +62,13 @@ pub data Leaf (v : View) (now : ℕ) : Call Sight → Plan → Type 0 where
   -- any other call: an answer and nothing else; events; requests queued; a request given; something new
   answered : {c : Plain} (o : Result) → modest o ≡ true → Leaf v now (Call.plain c) (answer o)
   synced : {c : Plain} (callback : ℕ) → Leaf v now (Call.plain c) (send (on callback (Event.CallbackDone 0) ∷ []) [])
-  noted : {c : Plain} (object : ℕ) (event : ℕ → Event) (edits : List Edit) → Noted edits → Leaf v now (Call.plain c) (sendNext v object event edits)
+  noted : {c : Plain} (object : ℕ) (event : ℕ → Event) (edits : List Edit) → Mild event → Noted edits →
+      Leaf v now (Call.plain c) (sendNext v object event edits)
+  released : {c : Plain} (cap id : ℕ) (f : Found) → deviceForInterface cap id v ≡ some f →
+      Leaf v now (Call.plain c) (sendNext v id (λ s. Event.Destroyed s) (Edit.amend (f .slot) (Amend.unlist cap) ∷ []))
   deviceGone : {c : Plain} (id : ℕ) (f : Found) → deviceOf id v ≡ some f →
       Leaf v now (Call.plain c) (sendDestroyed v (objectsOf (f .device)) (Edit.removeDevice (f .slot) ∷ []))
-  seatGone : {c : Plain} (id : ℕ) →
-      Leaf v now (Call.plain c) (sendDestroyed v (seatObjects id (v .devices)) (Edit.removeDevicesOf id ∷ Edit.removeSeat id ∷ []))
+  seatGone : {c : Plain} (id : ℕ) (x : Seat) → seatOf id v ≡ some x → Leaf v now (Call.plain c) (retireSeat v id)
   allGone : {c : Plain} (reason : ℕ) (explanation : Option (List ℕ)) →
       Leaf v now (Call.plain c)
       (send (farewell v reason explanation) (Edit.raise (length (seatsObjects (v .connection .seats) (v .devices))) ∷ removeSeats (v .connection .seats)))
@@ -197,17 +203,18 @@ module _ {v : View} {now : ℕ} {c : Plain} where
   version-leaf none = answered Result.none refl
   version-leaf (some n) = answered (Result.value n) refl
 
-  notify-leaf : (id : ℕ) (event : ℕ → Event) (edits : ℕ → List Edit) → ((k : ℕ) → Noted (edits k)) → Leaf v now (Call.plain c) (notify v id event edits)
+  notify-leaf : (id : ℕ) (event : ℕ → Event) (edits : ℕ → List Edit) → Mild event → ((k : ℕ) → Noted (edits k)) →
+      Leaf v now (Call.plain c) (notify v id event edits)
   unfolding notify
-  notify-leaf id event edits h = onFound-leaf (deviceOf id v) (refuse-leaf 12 refl) λ f e. noted id event (edits (f .slot)) (h (f .slot))
+  notify-leaf id event edits m h = onFound-leaf (deviceOf id v) (refuse-leaf 12 refl) λ f e. noted id event (edits (f .slot)) m (h (f .slot))
 
 plain-leaf : (v : View) (now : ℕ) (c : Plain) → Leaf v now (Call.plain c) (decidePlain v now c)
-unfolding decidePlain handleSync handleFrame handleRelease addSeat addDevice removeDevice removeSeat disconnected modest
+unfolding decidePlain handleSync handleFrame handleRelease handleSeatRelease addSeat addDevice removeDevice removeSeat disconnected modest layout
 plain-leaf v now (Plain.handshake r) = handshake-leaf r
 plain-leaf v now (Plain.sync callback ver) = cond-leaf (eqb ver 1) (synced callback) (answered (Result.refusedVersion eiCallback ver) refl)
 plain-leaf v now Plain.disconnect = queued Untimed.Disconnect
 plain-leaf v now Plain.pingpongDone = ignore-leaf
-plain-leaf v now (Plain.seatRelease seat) = noted seat (λ s. Event.Destroyed s) [] Noted.nothing
+plain-leaf v now (Plain.seatRelease seat) = onFound-leaf (seatOf seat v) ignore-leaf λ x e. seatGone seat x e
 plain-leaf v now (Plain.bind seat caps) = seat-leaf seat caps (Untimed.Bind seat caps)
 plain-leaf v now (Plain.requestDevice seat caps) = seat-leaf seat caps (Untimed.RequestDevice seat caps)
 plain-leaf v now (Plain.deviceRelease d) = device-leaf d (Untimed.DeviceClosed d)
@@ -216,19 +223,19 @@ plain-leaf v now (Plain.deviceStopEmulating d s) = device-leaf d (Untimed.Device
 plain-leaf v now (Plain.deviceFrame d s t) = onFound-leaf (deviceOf d v) ignore-leaf λ f e. closed d s t f e
 plain-leaf v now (Plain.deviceReady d) = device-leaf d (Untimed.Ready d)
 plain-leaf v now (Plain.interfaceRelease cap i) =
-    onFound-leaf (deviceForInterface (capabilityIndex cap) i v) ignore-leaf λ f e. noted i (λ s. Event.Destroyed s) _ (Noted.unlinks (f .slot) i)
+    onFound-leaf (deviceForInterface (capabilityIndex cap) i v) ignore-leaf λ f e. released (capabilityIndex cap) i f e
 plain-leaf v now Plain.nextRequest = next-leaf (v .requests)
 plain-leaf v now (Plain.addSeat name caps) = checkOptional-leaf name (checkCapabilities-leaf caps (newSeat name caps))
 plain-leaf v now (Plain.addDevice seat name type caps) =
     checkOptional-leaf name
     (checkCapabilities-leaf caps (onFound-leaf (seatOf seat v) (refuse-leaf 12 refl) λ s e. newDevice seat name (deviceTypeNumber type) (common caps (s .capabilities))))
-plain-leaf v now (Plain.removeSeat seat) = onFound-leaf (seatOf seat v) (refuse-leaf 12 refl) λ s e. seatGone seat
+plain-leaf v now (Plain.removeSeat seat) = onFound-leaf (seatOf seat v) (refuse-leaf 12 refl) λ x e. seatGone seat x e
 plain-leaf v now (Plain.removeDevice d) = onFound-leaf (deviceOf d v) (refuse-leaf 12 refl) λ f e. deviceGone d f e
-plain-leaf v now (Plain.resumed d) = notify-leaf d (λ s. Event.Resumed s) (λ k. []) (λ k. Noted.nothing)
-plain-leaf v now (Plain.paused d) = notify-leaf d (λ s. Event.Paused s) (λ k. Edit.amend k Amend.clearTouches ∷ []) (λ k. Noted.clears k)
-plain-leaf v now (Plain.startEmulating d q) = notify-leaf d (λ s. Event.StartEmulating s q) (λ k. []) (λ k. Noted.nothing)
-plain-leaf v now (Plain.stopEmulating d) = notify-leaf d (λ s. Event.StopEmulating s) (λ k. []) (λ k. Noted.nothing)
-plain-leaf v now (Plain.frame d t) = notify-leaf d (λ s. Event.Frame s t) (λ k. []) (λ k. Noted.nothing)
+plain-leaf v now (Plain.resumed d) = notify-leaf d (λ s. Event.Resumed s) (λ k. []) (λ s. refl) (λ k. Noted.nothing)
+plain-leaf v now (Plain.paused d) = notify-leaf d (λ s. Event.Paused s) (λ k. Edit.amend k Amend.clearTouches ∷ []) (λ s. refl) (λ k. Noted.clears k)
+plain-leaf v now (Plain.startEmulating d q) = notify-leaf d (λ s. Event.StartEmulating s q) (λ k. []) (λ s. refl) (λ k. Noted.nothing)
+plain-leaf v now (Plain.stopEmulating d) = notify-leaf d (λ s. Event.StopEmulating s) (λ k. []) (λ s. refl) (λ k. Noted.nothing)
+plain-leaf v now (Plain.frame d t) = notify-leaf d (λ s. Event.Frame s t) (λ k. []) (λ s. refl) (λ k. Noted.nothing)
 plain-leaf v now (Plain.disconnected reason explanation) = checkOptional-leaf explanation (allGone (disconnectReasonNumber reason) explanation)
 plain-leaf v now Plain.lastSerial = answered (Result.value (v .connection .lastSerial)) refl
 plain-leaf v now (Plain.hasInterface name) = checkUtf8-leaf name (answered _ refl)

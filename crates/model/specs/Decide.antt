@@ -78,15 +78,15 @@ unfoldable pub deviceOf : ℕ → View → Option Found
 unfolding find
 deviceOf id v = find (λ d. eqb (d .id) id) (v .devices)
 
--- the device lists an interface with this id for this capability, and it is linked: "an id of another kind is unknown"
-unfoldable pub linksIn : (capability id : ℕ) → List Interface → Bool
-linksIn cap id [] = false
-linksIn cap id (i ∷ is) = (i .linked && (eqb (i .capability) cap && eqb (i .id) id)) || linksIn cap id is
+-- the device lists an interface with this id for this capability: "an id of another kind is unknown"
+unfoldable pub listsAs : (capability id : ℕ) → List Interface → Bool
+listsAs cap id [] = false
+listsAs cap id (i ∷ is) = (eqb (i .capability) cap && eqb (i .id) id) || listsAs cap id is
 
 -- `device_for_interface`
 unfoldable pub deviceForInterface : (capability id : ℕ) → View → Option Found
-unfolding find linksIn
-deviceForInterface cap id v = find (λ d. linksIn cap id (d .interfaces)) (v .devices)
+unfolding find listsAs
+deviceForInterface cap id v = find (λ d. listsAs cap id (d .interfaces)) (v .devices)
 
 unfoldable pub seatIn : ℕ → List Seat → Option Seat
 seatIn id [] = none
@@ -208,12 +208,12 @@ unfoldable pub handleFrame : View → (device lastSerial timestamp : ℕ) → Pl
 unfolding onFound deviceOf edit ignore
 handleFrame v id serial time = onFound (deviceOf id v) ignore λ f. edit (Edit.frame (f .slot) serial time ∷ [])
 
--- "Interface Release sends destroyed and unlinks the interface; the device still lists it"
+-- "A released interface now leaves its device's list, so `has_capability` turns false, and removing the device passes over it."
 unfoldable pub handleRelease : View → (capability interface : ℕ) → Plan
 unfolding onFound deviceForInterface sendNext ignore
 handleRelease v cap id =
     onFound (deviceForInterface cap id v) ignore λ f.
-    sendNext v id (λ s. Event.Destroyed s) (Edit.amend (f .slot) (Amend.unlink id) ∷ [])
+    sendNext v id (λ s. Event.Destroyed s) (Edit.amend (f .slot) (Amend.unlist cap) ∷ [])
 
 -- "`next_request` gives the oldest queued request, or NONE when none is queued"
 unfoldable pub nextOf : List (Queued (Unit {0})) → Plan
@@ -315,11 +315,19 @@ unfoldable pub removeDevice : View → ℕ → Plan
 unfolding onFound deviceOf refuse sendDestroyed objectsOf
 removeDevice v id = onFound (deviceOf id v) (refuse 12) λ f. sendDestroyed v (objectsOf (f .device)) (Edit.removeDevice (f .slot) ∷ [])
 
+-- a seat goes, and its devices with it
+abbrev pub retireSeat : View → (seat : ℕ) → Plan
+retireSeat v id = sendDestroyed v (seatObjects id (v .devices)) (Edit.removeDevicesOf id ∷ Edit.removeSeat id ∷ [])
+
 unfoldable pub removeSeat : View → ℕ → Plan
 unfolding onFound seatOf refuse sendDestroyed seatObjects
-removeSeat v id =
-    onFound (seatOf id v) (refuse 12) λ s.
-    sendDestroyed v (seatObjects id (v .devices)) (Edit.removeDevicesOf id ∷ Edit.removeSeat id ∷ [])
+removeSeat v id = onFound (seatOf id v) (refuse 12) λ s. retireSeat v id
+
+-- "A released seat takes its devices with it in ascending id, each destroyed as by `Device::remove`, then sends its own event and leaves the
+-- table. Seat Release for an unknown seat sends nothing."
+unfoldable pub handleSeatRelease : View → (seat : ℕ) → Plan
+unfolding onFound seatOf ignore sendDestroyed seatObjects
+handleSeatRelease v id = onFound (seatOf id v) ignore λ s. retireSeat v id
 
 unfoldable pub removeSeats : List Seat → List Edit
 removeSeats [] = []
@@ -365,14 +373,13 @@ lists cap (i ∷ is) = eqb (i .capability) cap || lists cap is
 -- ---- every call
 
 unfoldable pub decidePlain : View → (now : ℕ) → Plain → Plan
-unfolding handleHandshake handleSync handleSeat handleDevice handleFrame handleRelease nextOf addSeat addDevice removeDevice removeSeat disconnected notify sendNext edit ignore refuse answer checkUtf8 isSome negotiated lookup versionAnswer lists onFound deviceOf
+unfolding handleHandshake handleSync handleSeat handleDevice handleFrame handleRelease nextOf addSeat addDevice removeDevice removeSeat handleSeatRelease disconnected notify edit ignore refuse answer checkUtf8 isSome negotiated lookup versionAnswer lists onFound deviceOf
 decidePlain v now (Plain.handshake r) = handleHandshake r
 decidePlain v now (Plain.sync callback ver) = handleSync callback ver
 decidePlain v now Plain.disconnect = edit (Edit.queue Untimed.Disconnect ∷ [])
 -- "Pingpong Done does nothing."
 decidePlain v now Plain.pingpongDone = ignore
--- "Seat Release is the exception: it always sends destroyed."
-decidePlain v now (Plain.seatRelease seat) = sendNext v seat (λ s. Event.Destroyed s) []
+decidePlain v now (Plain.seatRelease seat) = handleSeatRelease v seat
 decidePlain v now (Plain.bind seat caps) = handleSeat v seat caps (Untimed.Bind seat caps)
 decidePlain v now (Plain.requestDevice seat caps) = handleSeat v seat caps (Untimed.RequestDevice seat caps)
 decidePlain v now (Plain.deviceRelease d) = handleDevice v now d (Untimed.DeviceClosed d)

@@ -1,6 +1,6 @@
 -- The edits that a session changes by. Only `enact` and what it calls touch a payload. Assumes nothing.
 use Prim.Native.Nat.{ℕ, zero, suc, _+_, _%_}
-use mathlib.Core.Bool.{true, false, cond}
+use mathlib.Core.Bool.{cond}
 use mathlib.Core.List.{List, [], _∷_, _++_, map}
 use lib.Dec.{eqb}
 use lib.ListN.{length}
@@ -14,7 +14,7 @@ pub data Amend : Type 0 where
   touchDown : (touch : ℕ) → Amend
   touchUp : (touch : ℕ) → Amend
   clearTouches : Amend
-  unlink : (interface : ℕ) → Amend
+  unlist : (capability : ℕ) → Amend
 
 -- a slot is a device's place in the list of devices. New ids come from the session's next id, so no edit can give one twice
 pub data Edit : Type 0 where
@@ -43,14 +43,16 @@ raised (suc n) s = raised n (nextSerial s)
 -- the interfaces of a new device: one for each capability, by bit, with the ids from `id` on
 unfoldable pub interfacesFrom : (id : ℕ) → List ℕ → List Interface
 interfacesFrom id [] = []
-interfacesFrom id (b ∷ bs) = record { capability = b; id = id; linked = true } ∷ interfacesFrom (id + 1) bs
+interfacesFrom id (b ∷ bs) = record { capability = b; id = id } ∷ interfacesFrom (id + 1) bs
 
 unfoldable pub newInterfaces : (device capabilities : ℕ) → List Interface
 unfolding interfacesFrom bitsOf
 newInterfaces device capabilities = interfacesFrom (device + 1) (bitsOf capabilities)
 
-unfoldable pub unlinked : ℕ → Interface → Interface
-unlinked id i = record { capability = i .capability; id = i .id; linked = cond (eqb (i .id) id) false (i .linked) }
+-- all but those for a capability
+unfoldable pub interfacesWithout : (capability : ℕ) → List Interface → List Interface
+interfacesWithout cap [] = []
+interfacesWithout cap (i ∷ is) = cond (eqb (i .capability) cap) [] (i ∷ []) ++ interfacesWithout cap is
 
 unfoldable pub seatsWithout : ℕ → List Seat → List Seat
 seatsWithout id [] = []
@@ -65,11 +67,11 @@ module _ {P : Type 0} where
   deviceWith is ts ps d = record { id = d .id; seat = d .seat; interfaces = is; downTouchIds = ts; pending = ps }
 
   unfoldable pub amended : Amend → Device P → Device P
-  unfolding deviceWith without unlinked
+  unfolding deviceWith without interfacesWithout
   amended (Amend.touchDown t) d = deviceWith (d .interfaces) (d .downTouchIds ++ (t ∷ [])) (d .pending) d
   amended (Amend.touchUp t) d = deviceWith (d .interfaces) (without t (d .downTouchIds)) (d .pending) d
   amended Amend.clearTouches d = deviceWith (d .interfaces) [] (d .pending) d
-  amended (Amend.unlink i) d = deviceWith (map (unlinked i) (d .interfaces)) (d .downTouchIds) (d .pending) d
+  amended (Amend.unlist cap) d = deviceWith (interfacesWithout cap (d .interfaces)) (d .downTouchIds) (d .pending) d
 
   unfoldable pub item : Sight → P → Item P
   item s p = record { kind = s .kind; touch = s .touch; size = s .size; load = p }

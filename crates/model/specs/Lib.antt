@@ -10,4 +10,5 @@ pub mod Within
 pub mod Refusals
 pub mod Reachable
 pub mod Kept
+pub mod Destroyed
 pub mod Trials

@@ -1,5 +1,4 @@
--- What holds of every session that calls lead to from a fresh one. (That the linked interfaces are among the listed ones needs no statement: a link
--- is a mark on a listed interface.) Assumes nothing.
+-- What holds of every session that calls lead to from a fresh one. Assumes nothing.
 use Prim.Native.Nat.{ℕ, _+_, _≤_}
 use mathlib.Core.Path.{_≡_}
 use mathlib.Core.Bool.{Bool, true, _&&_, cond}
@@ -39,16 +38,22 @@ module _ {P : Type 0} where
   interfaceIdsIn [] = []
   interfaceIdsIn (d ∷ ds) = map (λ i. i .id) (d .interfaces) ++ interfaceIdsIn ds
 
+  -- each device's interfaces, by ascending capability bit
+  unfoldable pub bitsAscend : List (Device P) → Bool
+  bitsAscend [] = true
+  bitsAscend (d ∷ ds) = ascendsFrom 0 (map (λ i. i .capability) (d .interfaces)) && bitsAscend ds
+
   unfoldable pub heldWithin : ℕ → List (Device P) → Bool
   heldWithin most [] = true
   heldWithin most (d ∷ ds) = leb (length (d .downTouchIds)) most && heldWithin most ds
 
--- "devices and seats by id, each ascending"; "Held touches never exceed 16"
+-- "interfaces by capability bit, devices and seats by id, each ascending"; "Held touches never exceed 16"
 pub record Orderly {P : Type 0} (s : Session P) : Type 0 where
   pub seats : ascendsFrom 0 (seatIds s) ≡ true
   pub devices : ascendsFrom 0 (deviceIds s) ≡ true
   pub seatOnce : (id : ℕ) → countOf id (seatIds s) ≤ 1
   pub deviceOnce : (id : ℕ) → countOf id (deviceIds s) ≤ 1
+  pub interfaces : bitsAscend (s .devices) ≡ true
   pub interfaceOnce : (id : ℕ) → countOf id (interfaceIdsIn (s .devices)) ≤ 1
   pub seatsGiven : allBelow (s .connection .nextId) (seatIds s) ≡ true
   pub devicesGiven : allBelow (s .connection .nextId) (deviceIds s) ≡ true

@@ -1,6 +1,5 @@
 -- A session as the source holds it: lists of any length, ids for `Arc` and `Weak`. `P` is the payload of a request. Assumes nothing.
 use Prim.Native.Nat.{ℕ}
-use mathlib.Core.Bool.{Bool}
 use mathlib.Core.List.{List, [], map}
 use mathlib.Core.Option.{Option}
 use Rattle.model.specs.Call.{Kind}
@@ -28,12 +27,11 @@ pub data Queued (P : Type 0) : Type 0 where
   timed : (device time : ℕ) → Item P → Queued P
   untimed : Untimed → Queued P
 
--- an interface that a device lists; linked: requests on it are known to be the device's (`device_for_interface`)
+-- an interface that a device lists, so that requests on it are known to be the device's (`device_for_interface`)
 pub record Interface : Type 0 where
   -- by its bit
   pub capability : ℕ
   pub id : ℕ
-  pub linked : Bool
 
 pub record Seat : Type 0 where
   pub id : ℕ

@@ -1,12 +1,14 @@
 -- The scope's trial lines in one table, the starred ones first, then what it warns of: the calls, and what they are to answer.
 -- (proofs/Trials.antt has the one proof.) Assumes nothing.
-use Prim.Native.Nat.{ℕ, zero, suc, _-_}
+use Prim.Native.Nat.{ℕ, zero, suc, _+_, _-_}
+use mathlib.Core.Bool.{true, false}
 use mathlib.Core.List.{List, [], _∷_, _++_, map}
 use mathlib.Core.Option.{Option, none, some}
 use lib.ListN.{length, drop, replicate}
 use Rattle.eiproto.specs.declared.eiproto_enum.DeviceType.{DeviceType}
 use Rattle.eiproto.specs.declared.eiproto_enum.DisconnectReason.{DisconnectReason}
 use Rattle.eiproto.specs.declared.eiproto_enum.KeyState.{KeyState}
+use Rattle.eiproto.specs.declared.event.DeviceCapability.{DeviceCapability}
 use lib.Ieee.{nan}
 use Rattle.model.specs.Call.{Kind, Input, Load, Plain, Call, Turn}
 use Rattle.model.specs.Session.{Untimed, Queued}
@@ -128,9 +130,14 @@ starred =
       calls = a (Plain.resumed device) ∷ a Plain.lastSerial ∷ [];
       answers = record { outcome = Result.accepted; bytes = 0x48 ∷ 0x0e ∷ 0xff ∷ 0 ∷ 0 ∷ 0 ∷ 0 ∷ 0 ∷ 0 ∷ 2 ∷ 0 ∷ 0 ∷ 0 ∷ 0 ∷ []; given = [] } ∷ says (Result.value 0) ∷ [];
     }
-    -- ★ Destroyed, object ff00000000000001 hex, serial 8: `28 0e ff 00 00 00 00 00 00 01 00 00 00 08`.
-    ∷ trial [] (a (Plain.seatRelease seat) ∷ [])
-    (record { outcome = Result.accepted; bytes = 0x28 ∷ 0x0e ∷ 0xff ∷ 0 ∷ 0 ∷ 0 ∷ 0 ∷ 0 ∷ 0 ∷ 1 ∷ 0 ∷ 0 ∷ 0 ∷ 8 ∷ []; given = [] } ∷ [])
+    -- ★ Destroyed, object ff00000000000001 hex, serial 8: `28 0e ff 00 00 00 00 00 00 01 00 00 00 08`. The seat has no device.
+    ∷ record {
+      serial = 7;
+      nextId = seat;
+      before = a (Plain.addSeat none 127) ∷ [];
+      calls = a (Plain.seatRelease seat) ∷ [];
+      answers = record { outcome = Result.accepted; bytes = 0x28 ∷ 0x0e ∷ 0xff ∷ 0 ∷ 0 ∷ 0 ∷ 0 ∷ 0 ∷ 0 ∷ 1 ∷ 0 ∷ 0 ∷ 0 ∷ 8 ∷ []; given = [] } ∷ [];
+    }
     -- ★ Bind 0: taken; ★ Bind 128: 3.
     ∷ trial [] (a (Plain.bind seat 0) ∷ next ∷ []) (says Result.accepted ∷ gives (Queued.untimed (Untimed.Bind seat 0)) ∷ [])
     ∷ trial [] (a (Plain.bind seat 128) ∷ []) (says (Result.refused 3) ∷ [])
@@ -199,6 +206,92 @@ idsSpent =
     ∷ spentBy 0xffff_ffff_ffff_fffd (a aSeat ∷ []) (aDeviceAt 0xffff_ffff_ffff_fffe 0) 19
     ∷ spentBy 0xffff_ffff_ffff_fffd (a aSeat ∷ []) (aDeviceAt 0xffff_ffff_ffff_fffe 4) 20
     ∷ spentBy 0xffff_ffff_ffff_fffe (a aSeat ∷ []) (aDeviceAt 0xffff_ffff_ffff_ffff 0) 20
+    ∷ []
+
+-- ---- "Released is released." Worked out by hand
+
+-- a seat with two devices, ..02 with the keyboard ..03, ..04 with the keyboard ..05
+abbrev pub object : ℕ → ℕ
+object n = 0xff00_0000_0000_0000 + n
+
+abbrev pub twoKeyboards : List Turn
+twoKeyboards =
+    a (Plain.addSeat none 127)
+    ∷ a (Plain.addDevice seat none DeviceType.Virtual 4)
+    ∷ a (Plain.addDevice seat none DeviceType.Virtual 4)
+    ∷ []
+
+abbrev pub keyOn : ℕ → Turn
+keyOn interface = now70 (Call.timed interface 1 (Input.Key 30 KeyState.Press))
+
+abbrev pub releaseSeat : (room : ℕ) → Turn
+releaseSeat room = record { call = Call.plain (Plain.seatRelease seat); now = 70; room = room }
+
+abbrev pub releaseKeyboard : ℕ → Turn
+releaseKeyboard interface = a (Plain.interfaceRelease DeviceCapability.Keyboard interface)
+
+-- destroyed on object ..n with a serial below 256
+abbrev pub gone : (n serial : ℕ) → List ℕ
+gone n serial = 0x28 ∷ 0x0e ∷ 0xff ∷ 0 ∷ 0 ∷ 0 ∷ 0 ∷ 0 ∷ 0 ∷ n ∷ 0 ∷ 0 ∷ 0 ∷ serial ∷ []
+
+abbrev pub sends : List ℕ → Expected
+sends bytes = record { outcome = Result.accepted; bytes = bytes; given = [] }
+
+abbrev pub releasing : List Turn → List Expected → Trial
+releasing calls answers = record { serial = 7; nextId = seat; before = twoKeyboards; calls = calls; answers = answers }
+
+abbrev pub released : List Trial
+released =
+    -- a released interface is told once, is listed no more, and the device goes without it
+    releasing
+    (releaseKeyboard (object 3)
+    ∷ a (Plain.hasCapability (object 2) DeviceCapability.Keyboard)
+    ∷ a (Plain.hasCapability (object 4) DeviceCapability.Keyboard)
+    ∷ releaseKeyboard (object 3)
+    ∷ a Plain.lastSerial
+    ∷ a (Plain.removeDevice (object 2))
+    ∷ [])
+    (sends (gone 3 8) ∷ says (Result.truth false) ∷ says (Result.truth true) ∷ says Result.accepted ∷ says (Result.value 8) ∷ sends (gone 2 9) ∷ [])
+    -- a released seat takes its devices with it, in ascending id, and is unknown then
+    ∷ releasing
+    (releaseSeat 4096 ∷ a (Plain.removeSeat seat) ∷ a (Plain.resumed (object 2)) ∷ releaseSeat 4096 ∷ a (Plain.bind seat 128) ∷ next ∷ a Plain.lastSerial ∷ [])
+    (sends (gone 3 8 ++ (gone 2 9 ++ (gone 5 10 ++ (gone 4 11 ++ gone 1 12))))
+    ∷ says (Result.refused 12)
+    ∷ says (Result.refused 12)
+    ∷ says Result.accepted
+    ∷ says Result.accepted
+    ∷ says Result.none
+    ∷ says (Result.value 12)
+    ∷ [])
+    -- and passes over an interface that was released before
+    ∷ releasing (releaseKeyboard (object 5) ∷ releaseSeat 4096 ∷ [])
+    (sends (gone 5 8) ∷ sends (gone 3 9 ++ (gone 2 10 ++ (gone 4 11 ++ gone 1 12))) ∷ [])
+    -- "Seat Release for an unknown seat sends nothing": not for a device's id, nor for an interface's
+    ∷ releasing
+    (a (Plain.seatRelease 5) ∷ a (Plain.seatRelease (object 2)) ∷ a (Plain.seatRelease (object 3)) ∷ a Plain.lastSerial ∷ [])
+    (says Result.accepted ∷ says Result.accepted ∷ says Result.accepted ∷ says (Result.value 7) ∷ [])
+    -- five objects are 70 bytes; 19 leaves the key pending, a release loses it, and what is queued stays
+    ∷ releasing
+    (keyOn (object 3)
+    ∷ a (Plain.deviceFrame (object 2) 7 9)
+    ∷ keyOn (object 3)
+    ∷ releaseSeat 69
+    ∷ releaseSeat 70
+    ∷ a (Plain.deviceFrame (object 2) 7 9)
+    ∷ next
+    ∷ next
+    ∷ next
+    ∷ [])
+    (says Result.accepted
+    ∷ says Result.accepted
+    ∷ says Result.accepted
+    ∷ says (Result.refused 19)
+    ∷ sends (gone 3 8 ++ (gone 2 9 ++ (gone 5 10 ++ (gone 4 11 ++ gone 1 12))))
+    ∷ says Result.accepted
+    ∷ gives (keyAt 9)
+    ∷ gives (frameAt 7 9)
+    ∷ says Result.none
+    ∷ [])
     ∷ []
 
 -- ---- what the definitions compute

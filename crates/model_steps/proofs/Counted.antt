@@ -255,7 +255,7 @@ module _ {P : Type 0} where
   amended-pending (Amend.touchDown t) d = refl
   amended-pending (Amend.touchUp t) d = refl
   amended-pending Amend.clearTouches d = refl
-  amended-pending (Amend.unlink i) d = refl
+  amended-pending (Amend.unlist cap) d = refl
 
   amend-texts : (a : Amend) (k : ℕ) (ds : List (Device P)) → devicesTexts (at (amended a) k ds) ≡ devicesTexts ds
   unfolding at devicesTexts
