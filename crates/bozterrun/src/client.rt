@@ -14,7 +14,7 @@ ghost use mathlib.Core.Path.{_≡_};
 ghost use Rattle.eiproto.specs.declared.event.DeviceCapability.{DeviceCapability};
 ghost use Rattle.requests.specs.Row.{keyState, buttonState};
 ghost use Rattle.model.specs.Call.{Input, Plain, Call};
-ghost use Rattle.answers.specs.Promise.{Promise, Reply};
+ghost use Rattle.answers.specs.Promise.{Promise, PromiseRows, Reply};
 ghost use Rattle.client_requests.specs.Decision.{OnlyQueued, Waits};
 ghost use Rattle.handlers.specs.Call.{handshakeCall, deviceCall};
 ghost use Rattle.client_calls.specs.Request.{AsksControl, AsksRows, AsksRowsAt, AsksAll};
@@ -481,13 +481,15 @@ pub extern "C" fn bozterrun_seat_request_device(
 #[no_mangle]
 pub extern "C" fn bozterrun_seat_release(
     control: &mut [u64],
+    words: &mut [u64],
+    reals: &mut [f32],
     seat: u64,
     out: &mut [u8],
     count: &mut usize,
 ) -> u32
-    ensures { λ r. ⌜ Sent (Promise control out (Plain.seatRelease seat)) r count ⌝ }
+    ensures { λ r. ⌜ Sent (PromiseRows control words reals out (Plain.seatRelease seat)) r count ⌝ }
 {
-    let answer = client_calls::release_seat(control, seat, out);
+    let answer = client_calls::release_seat(control, words, reals, seat, out);
     let outcome = answer.outcome;
     *count = answer.count;
     answer::status(outcome)

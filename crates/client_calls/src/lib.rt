@@ -14,7 +14,7 @@ use requests::eis::TextRequest;
 use requests::eis::TouchscreenRequest;
 ghost use Prim.Native.Nat.{ℕ};
 ghost use Rattle.model.specs.Call.{Input, Plain, Call};
-ghost use Rattle.answers.specs.Promise.{Promise, Reply};
+ghost use Rattle.answers.specs.Promise.{Promise, PromiseRows, Reply};
 ghost use Rattle.client_requests.specs.Decision.{OnlyQueued, Waits};
 ghost use Rattle.handlers.specs.Call.{handshakeCall, seatCall, deviceCall, touchscreenCall};
 ghost use Rattle.client_calls.specs.Request.{AsksControl, AsksRows, AsksRowsAt, AsksAll};
@@ -154,13 +154,19 @@ pub fn disconnect(control: &mut [u64], words: &mut [u64], reals: &mut [f32]) -> 
     )
 }
 
-pub fn release_seat(control: &mut [u64], seat: u64, out: &mut [u8]) -> Answer
-    ensures { λ r. ⌜ Promise control out (Plain.seatRelease seat) r ⌝ }
+pub fn release_seat(
+    control: &mut [u64],
+    words: &mut [u64],
+    reals: &mut [f32],
+    seat: u64,
+    out: &mut [u8],
+) -> Answer
+    ensures { λ r. ⌜ PromiseRows control words reals out (Plain.seatRelease seat) r ⌝ }
 {
-    if !control::sound(control) {
+    if !session::lent(control, words, reals) {
         return Answer::refused(Error::BadState);
     }
-    untimed::release_seat(control, seat, out)
+    untimed::release_seat(control, words, reals, seat, out)
 }
 
 // The Release of the interface for a capability.

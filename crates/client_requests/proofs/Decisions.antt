@@ -19,7 +19,7 @@ use Rattle.model.specs.Call.{Kind, Input, Sight, sight, touching, Load, Call, S
 use Rattle.model.specs.Session.{View, view}
 use Rattle.model.specs.Edit.{Amend}
 use Rattle.model.specs.Plan.{Result, Plan, answer, refuse, ignore}
-use Rattle.model.specs.Decide.{Found, Handler, handler, pendAfter, ifHeld, handle, handleTimed, linksIn, deviceForInterface, onFound, decide}
+use Rattle.model.specs.Decide.{Found, Handler, handler, pendAfter, ifHeld, handle, handleTimed, listsAs, deviceForInterface, onFound, decide}
 use Rattle.model.specs.Step.{textsBy, texts, counts, unchanged, carriedOut, step}
 use Rattle.model_steps.proofs.Steps.{step-answer, step-pend-full, step-pend-texts, step-pend}
 use Rattle.control.specs.Table.{first}
@@ -78,11 +78,11 @@ bit-is DeviceCapability.Text = refl
 -- ---- the step, by what was found
 
 -- the slot of the device of which the interface is
-abbrev pub linkedSlot : DeviceCapability → (interface : ℕ) → List ℕ → Option ℕ
-linkedSlot cap interface c = first (λ d. linksIn (capabilityIndex cap) interface (d .interfaces)) (coresOf c)
+abbrev pub interfaceSlot : DeviceCapability → (interface : ℕ) → List ℕ → Option ℕ
+interfaceSlot cap interface c = first (λ d. listsAs (capabilityIndex cap) interface (d .interfaces)) (coresOf c)
 
-pub linked-within : (cap : DeviceCapability) (interface : ℕ) (c : List ℕ) {k : ℕ} → linkedSlot cap interface c ≡ some k → k < deviceCount c
-linked-within cap interface c {k} e = device-passes c (λ d. linksIn (capabilityIndex cap) interface (d .interfaces)) k e .within
+pub interface-within : (cap : DeviceCapability) (interface : ℕ) (c : List ℕ) {k : ℕ} → interfaceSlot cap interface c ≡ some k → k < deviceCount c
+interface-within cap interface c {k} e = device-passes c (λ d. listsAs (capabilityIndex cap) interface (d .interfaces)) k e .within
 
 module _ (cap : DeviceCapability) (interface version : ℕ) (i : Sight) (valid : i .valid ≡ true) (by : handler (i .kind) .capability ≡ cap) where
   abbrev handled : Found → Plan
@@ -98,12 +98,12 @@ module _ (cap : DeviceCapability) (interface version : ℕ) (i : Sight) (valid :
     plan-is : decide (view (session s)) (t .now) (t .call) ≡ onFound (deviceForInterface (capabilityIndex cap) interface (view (session s))) ignore handled
     plan-is = ap (decide (view (session s)) (t .now)) call ∙ planned (view (session s)) (t .now)
 
-    pub step-unknown : linkedSlot cap interface (s .control) ≡ none → step t (session s) ≡ unchanged (session s) Result.accepted
+    pub step-unknown : interfaceSlot cap interface (s .control) ≡ none → step t (session s) ≡ unchanged (session s) Result.accepted
     unfolding onFound ignore
     step-unknown e =
         step-answer t (session s) Result.accepted (plan-is ∙ ap (λ (o : Option Found). onFound o ignore handled) (no-interface s (capabilityIndex cap) interface e))
 
-    module _ {k : ℕ} (e : linkedSlot cap interface (s .control) ≡ some k) where
+    module _ {k : ℕ} (e : interfaceSlot cap interface (s .control) ≡ some k) where
       abbrev seen : Found
       seen = record { slot = k; device = deviceSeen s k }
 
@@ -134,17 +134,17 @@ module _ (cap : DeviceCapability) (interface version : ℕ) (i : Sight) (valid :
   -- ---- the decision
 
   module _ (c : List ℕ) (request : Cell) where
-    pub unknown : linkedSlot cap interface c ≡ none → Decided c interface version i request Decision.Ignored
+    pub unknown : interfaceSlot cap interface c ≡ none → Decided c interface version i request Decision.Ignored
     unknown e =
         record {
-          step-is = λ s t same call. step-unknown s t call (ap (linkedSlot cap interface) same ∙ e);
+          step-is = λ s t same call. step-unknown s t call (ap (interfaceSlot cap interface) same ∙ e);
           fits = λ k x y q. absurd (ignored-not q);
           same = λ k x y q. absurd (ignored-not q);
         }
 
-    module _ {k : ℕ} (e : linkedSlot cap interface c ≡ some k) where
-      found : (s : Store) → s .control ≡ c → linkedSlot cap interface (s .control) ≡ some k
-      found s same = ap (linkedSlot cap interface) same ∙ e
+    module _ {k : ℕ} (e : interfaceSlot cap interface c ≡ some k) where
+      found : (s : Store) → s .control ≡ c → interfaceSlot cap interface (s .control) ≡ some k
+      found s same = ap (interfaceSlot cap interface) same ∙ e
 
       -- what a handler reads of a device
       touches : (s : Store) → s .control ≡ c → deviceSeen s k .downTouchIds ≡ coreAt c k .downTouchIds
@@ -189,17 +189,17 @@ module _ (cap : DeviceCapability) (interface version : ℕ) (i : Sight) (valid :
                 step-is = λ s t same call.
                     step-queued s t call (found s same) (amendsOf change) (h _ (touches s same)) (rw (waiting s same) (leb-false 64 _ room)) (inl textless);
                 fits = λ j x y q.
-                    rw (← same-slot q, ← same-change q) (record { known = linked-within cap interface c e; room = leb-false 64 _ room; touch = touch });
+                    rw (← same-slot q, ← same-change q) (record { known = interface-within cap interface c e; room = leb-false 64 _ room; touch = touch });
                 same = λ j x y q. sym (same-request q);
               }
 
 -- ---- a request of which nothing is asked
 
 module _ (c : List ℕ) {cap : DeviceCapability} (interface version : ℕ) {input : Input} (only : OnlyQueued cap input) (request : Cell) where
-  pub plain-unknown : linkedSlot cap interface c ≡ none → Decided c interface version (sight input) request Decision.Ignored
+  pub plain-unknown : interfaceSlot cap interface c ≡ none → Decided c interface version (sight input) request Decision.Ignored
   plain-unknown e = unknown cap interface version (sight input) (only .valid) (ap (λ (x : Handler). x .capability) (only .by)) c request e
 
-  pub plain-queued : {k : ℕ} {d : Decision} → linkedSlot cap interface c ≡ some k → d ≡ queueOn c k TouchChange.Nothing request → Decided c interface version (sight input) request d
+  pub plain-queued : {k : ℕ} {d : Decision} → interfaceSlot cap interface c ≡ some k → d ≡ queueOn c k TouchChange.Nothing request → Decided c interface version (sight input) request d
   unfolding texts textsBy handle
   plain-queued {k} e q =
       queued cap interface version (sight input) (only .valid) (ap (λ (x : Handler). x .capability) (only .by)) c request e TouchChange.Nothing (not-down (coreAt c k .downTouchIds) refl) q
@@ -228,12 +228,12 @@ touch-texts Kind.TextUtf8 e = absurd (text-not e)
     text-not e = let z : _≡_ {A = ℕ} 6 3 = ap capabilityIndex e in omega arith
 
 module _ (c : List ℕ) (touchscreen touch : ℕ) (kind : Kind) (version : ℕ) (by : handler kind .capability ≡ DeviceCapability.Touch) (request : Cell) where
-  pub touch-unknown : linkedSlot DeviceCapability.Touch touchscreen c ≡ none → Decided c touchscreen version (touching kind touch) request Decision.Ignored
+  pub touch-unknown : interfaceSlot DeviceCapability.Touch touchscreen c ≡ none → Decided c touchscreen version (touching kind touch) request Decision.Ignored
   touch-unknown e = unknown DeviceCapability.Touch touchscreen version (touching kind touch) refl by c request e
 
 -- the touch must be held
 module _ (c : List ℕ) (touchscreen touch : ℕ) {kind : Kind} {version : ℕ} {change : TouchChange} (only : OnlyHeld kind version touch change)
-    (request : Cell) {k : ℕ} (e : linkedSlot DeviceCapability.Touch touchscreen c ≡ some k) where
+    (request : Cell) {k : ℕ} (e : interfaceSlot DeviceCapability.Touch touchscreen c ≡ some k) where
   asked : {b : Bool} → member touch (coreAt c k .downTouchIds) ≡ b → (f : Found) → f .device .downTouchIds ≡ coreAt c k .downTouchIds
       → handle (handler kind .rule) version f (touching kind touch) ≡ cond b (pendAfter (amendsOf change) f (touching kind touch)) ignore
   unfolding ifHeld
@@ -250,7 +250,7 @@ module _ (c : List ℕ) (touchscreen touch : ℕ) {kind : Kind} {version : ℕ} 
 
 -- ---- Down
 
-module _ (c : List ℕ) (touchscreen touch : ℕ) (request : Cell) {k : ℕ} (e : linkedSlot DeviceCapability.Touch touchscreen c ≡ some k) where
+module _ (c : List ℕ) (touchscreen touch : ℕ) (request : Cell) {k : ℕ} (e : interfaceSlot DeviceCapability.Touch touchscreen c ≡ some k) where
   abbrev Downs : Decision → Type 0
   Downs d = (version : ℕ) → Decided c touchscreen version (touching Kind.TouchDown touch) request d
 
@@ -287,7 +287,7 @@ module _ (c : List ℕ) (touchscreen touch version : ℕ) where
   unfolding handler handle
   cancel-held h = record { by = refl; asks = λ f. rw (le-ltb version 2 h) }
 
-  pub cancel-old : (request : Cell) {k : ℕ} → linkedSlot DeviceCapability.Touch touchscreen c ≡ some k → version < 2
+  pub cancel-old : (request : Cell) {k : ℕ} → interfaceSlot DeviceCapability.Touch touchscreen c ≡ some k → version < 2
       → Decided c touchscreen version (touching Kind.TouchCancel touch) request (Decision.Refused (Error.InvalidInterfaceVersion eiTouchscreen version))
   unfolding handler handle
   cancel-old request e h =

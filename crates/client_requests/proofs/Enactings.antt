@@ -34,7 +34,7 @@ use Rattle.answers.proofs.Meetings.{meets-unchanged, meets-done}
 use Rattle.client_requests.specs.Decision.{amendsOf, decidedStep, CanQueue, Decided}
 use Rattle.client_requests.specs.declared.timed.TouchChange.{TouchChange}
 use Rattle.client_requests.specs.declared.timed.Decision.{Decision}
-use Rattle.client_requests.proofs.Decisions.{linkedSlot, step-unknown, step-told, step-full, step-texts, step-queued}
+use Rattle.client_requests.proofs.Decisions.{interfaceSlot, step-unknown, step-told, step-full, step-texts, step-queued}
 
 -- ---- what was decided
 
@@ -115,7 +115,7 @@ module _ (s : Store) (out : List ℕ) (interface version clock : ℕ) (text : Li
   abbrev call : Call Input
   call = Call.timed interface version (Input.Utf8 text)
 
-  pub text-unknown : linkedSlot DeviceCapability.Text interface (s .control) ≡ none
+  pub text-unknown : interfaceSlot DeviceCapability.Text interface (s .control) ≡ none
       → (r .outcome ≡ Outcome.Accepted) × (r .count ≡ 0) → Handled s s out out call clock r
   unfolding split mapCall sight handler
   text-unknown e told =
@@ -123,7 +123,7 @@ module _ (s : Store) (out : List ℕ) (interface version clock : ℕ) (text : Li
       (step-unknown DeviceCapability.Text interface version (sight (Input.Utf8 text)) valid refl s (split (turn call clock out)) refl e)
       (ap outcomeOf (told .0)) (told .1)
 
-  module _ {k : ℕ} (e : linkedSlot DeviceCapability.Text interface (s .control) ≡ some k) where
+  module _ {k : ℕ} (e : interfaceSlot DeviceCapability.Text interface (s .control) ≡ some k) where
     -- "0 bytes or above 254"
     pub text-length : (length text ≡ 0) ⊎ (254 < length text) → (r .outcome ≡ Outcome.Refused Error.InvalidTextLength) × (r .count ≡ 0) → Handled s s out out call clock r
     unfolding split mapCall sight handler handle refuse

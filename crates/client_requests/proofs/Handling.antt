@@ -23,7 +23,7 @@ use Rattle.model.specs.Session.{Untimed, Connection, Session, View, view}
 use Rattle.model.specs.Edit.{Amend, Edit, nextSerial, withConnection, withDevices, enact, enactAll}
 use Rattle.model.specs.Plan as plan
 use Rattle.model.specs.Plan.{Sent, on, records, answer, refuse, ignore, edit, send, refusal}
-use Rattle.model.specs.Decide.{linksIn, onFound, sendNext, handleSync, handleSeat, handleDevice, handleFrame, handleRelease, destroyed, decidePlain, decide}
+use Rattle.model.specs.Decide.{listsAs, onFound, sendNext, handleSync, handleSeat, handleDevice, handleFrame, handleRelease, handleSeatRelease, retireSeat, destroyed, decidePlain, decide}
 use Rattle.model.specs.Step.{Counts, counts, refuses}
 use Rattle.model_steps.proofs.Counted.{framedLength, afterFrame, counts-frame, quietAll, quiet-none}
 use Rattle.model_steps.proofs.Steps.{step-answer, step-sent, step-sent-short, step-queue, step-queue-full, step-frame, step-frame-full, step-flush, step-flush-full}
@@ -252,10 +252,6 @@ module _ (s : Store) (out : List ℕ) (callback version clock : ℕ) (r : Answer
 -- ---- destroyed
 
 module _ (v : View) (clock : ℕ) where
-  pub seat-plan : (seat : ℕ) → decide v clock (mapCall sight (Call.plain (Plain.seatRelease seat))) ≡ sendNext v seat (λ n. Event.Destroyed n) []
-  unfolding mapCall decide decidePlain
-  seat-plan seat = refl
-
   pub interface-plan : (cap : DeviceCapability) (id : ℕ) → decide v clock (mapCall sight (Call.plain (Plain.interfaceRelease cap id))) ≡ handleRelease v (capabilityIndex cap) id
   unfolding mapCall decide decidePlain
   interface-plan cap id = refl
@@ -294,6 +290,19 @@ module _ (s : Store) (out : List ℕ) (call : Call Input) (clock object : ℕ) (
       done refl (ap outcomeOf (a .0)) (a .1 ∙ omega (arith, d .at, destroyed-length last (object ∷ [])))
       (d .bytes ∙ ap (λ (n : ℕ). splice out 0 (records (destroyed n (object ∷ [])))) q)
 
+-- ---- Release of a seat
+
+module _ (s : Store) (seat clock : ℕ) where
+  pub seat-unknown : first (λ x. eqb (x .id) seat) (connectionOf (s .control) .seats) ≡ none
+      → decide (view (session s)) clock (mapCall sight (Call.plain (Plain.seatRelease seat))) ≡ answer plan.Result.accepted
+  unfolding mapCall decide decidePlain handleSeatRelease onFound ignore
+  seat-unknown e = rw (no-seat s seat e)
+
+  pub seat-plan : {k : ℕ} → first (λ x. eqb (x .id) seat) (connectionOf (s .control) .seats) ≡ some k
+      → decidePlain (view (session s)) clock (Plain.seatRelease seat) ≡ retireSeat (view (session s)) seat
+  unfolding decidePlain handleSeatRelease onFound
+  seat-plan e = rw (found-seat s seat e)
+
 -- ---- Release of an interface
 
 -- a capability's number is its bit
@@ -308,24 +317,24 @@ index-is DeviceCapability.Button e q = q ∙ ap lowestBit e
 index-is DeviceCapability.Text e q = q ∙ ap lowestBit e
 
 module _ (s : Store) (cap : DeviceCapability) (id : ℕ) {b : ℕ} (q : b ≡ capabilityIndex cap) where
-  pub release-none : first (λ d. linksIn b id (d .interfaces)) (coresOf (s .control)) ≡ none → handleRelease (view (session s)) (capabilityIndex cap) id ≡ answer plan.Result.accepted
+  pub release-none : first (λ d. listsAs b id (d .interfaces)) (coresOf (s .control)) ≡ none → handleRelease (view (session s)) (capabilityIndex cap) id ≡ answer plan.Result.accepted
   unfolding handleRelease onFound ignore
   release-none e = rw (← q, no-interface s b id e)
 
-  pub release-found : {k : ℕ} → first (λ d. linksIn b id (d .interfaces)) (coresOf (s .control)) ≡ some k
-      → handleRelease (view (session s)) (capabilityIndex cap) id ≡ sendNext (view (session s)) id (λ n. Event.Destroyed n) (Edit.amend k (Amend.unlink id) ∷ [])
+  pub release-found : {k : ℕ} → first (λ d. listsAs b id (d .interfaces)) (coresOf (s .control)) ≡ some k
+      → handleRelease (view (session s)) (capabilityIndex cap) id ≡ sendNext (view (session s)) id (λ n. Event.Destroyed n) (Edit.amend k (Amend.unlist b) ∷ [])
   unfolding handleRelease onFound
   release-found e = rw (← q, found-interface s b id e)
 
 -- the connection is as it was
-pub unlinked-connection : {c e : List ℕ} {k : ℕ} {a : Amend} → EnactedControl c e (Edit.amend k a ∷ []) → connectionOf e ≡ connectionOf c
+pub amended-connection : {c e : List ℕ} {k : ℕ} {a : Amend} → EnactedControl c e (Edit.amend k a ∷ []) → connectionOf e ≡ connectionOf c
 unfolding enactAll enact withDevices
-unlinked-connection {c} {e} {k} {a} x =
+amended-connection {c} {e} {k} {a} x =
     let d = x [] [] [] Load.None in
     sym (connection-is (store e [] [] [])) ∙ ap (λ (y : Session Load). y .connection) (d .view) ∙ connection-is (store c [] [] [])
 
--- an interface unlinked and then the serial raised, or the other way round
-pub unlink-raise : {s m e : Store} {k n : ℕ} {a : Amend} {load : Load} → Enacted s m (Edit.amend k a ∷ []) load → Enacted m e (Edit.raise n ∷ []) load
+-- a device amended and then the serial raised, or the other way round
+pub amend-raise : {s m e : Store} {k n : ℕ} {a : Amend} {load : Load} → Enacted s m (Edit.amend k a ∷ []) load → Enacted m e (Edit.raise n ∷ []) load
     → Enacted s e (Edit.raise n ∷ Edit.amend k a ∷ []) load
 unfolding enactAll enact withConnection withDevices
-unlink-raise x y = let j = enacted-join x y in record { sound = j .sound; view = j .view }
+amend-raise x y = let j = enacted-join x y in record { sound = j .sound; view = j .view }

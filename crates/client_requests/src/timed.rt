@@ -16,7 +16,7 @@ ghost use Rattle.eiproto.specs.Capability.{capabilityIndex};
 ghost use Rattle.utf8.specs.Rfc3629.{isUtf8};
 ghost use Rattle.model.specs.Call.{Kind, Input, touching, Call};
 ghost use Rattle.model.specs.Edit.{Edit};
-ghost use Rattle.model.specs.Decide.{linksIn};
+ghost use Rattle.model.specs.Decide.{listsAs};
 ghost use Rattle.control.specs.Table.{first};
 ghost use Rattle.control.specs.Control.{deviceCount, coreAt, coresOf};
 ghost use Rattle.control.specs.Sound.{Sound};
@@ -65,7 +65,7 @@ fn queue_on(control: &[u64], k: usize, change: TouchChange, request: Cell) -> De
 // The slot of the device of which a request's interface is, for the capability.
 pub fn device_for_interface(control: &[u64], capability: DeviceCapability, interface: u64) -> Slot
     requires { ⌜ Sound (now control) ⌝ }
-    ensures { λ r. ⌜ slotTold r ≡ first (λ d. linksIn (capabilityIndex capability) interface (d .interfaces)) (coresOf (now (control .entry))) ⌝ }
+    ensures { λ r. ⌜ slotTold r ≡ first (λ d. listsAs (capabilityIndex capability) interface (d .interfaces)) (coresOf (now (control .entry))) ⌝ }
 {
     control::find_interface(
         control,

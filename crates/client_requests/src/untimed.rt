@@ -15,7 +15,7 @@ ghost use Rattle.model.specs.Decide.{handleSeat, handleDevice};
 ghost use Rattle.control.specs.Sound.{Sound};
 ghost use Rattle.session.specs.View.{Lent};
 ghost use Rattle.answers.specs.Meets.{HandledControl};
-ghost use Rattle.answers.specs.Promise.{HandlesControl, SilentRows};
+ghost use Rattle.answers.specs.Promise.{HandlesControl, HandlesRows, SilentRows};
 ghost use Rattle.client_requests.specs.Queueing.{Planned, QueuesRows};
 
 // A request that flushes nothing, behind all others.
@@ -51,18 +51,21 @@ pub fn sync(callback: u64, version: u32, out: &mut [u8]) -> Answer
     Answer::sent(events::send(out, 0, callback, done, b""))
 }
 
-// "Seat Release .. always sends destroyed."
-pub fn release_seat(control: &mut [u64], seat: u64, out: &mut [u8]) -> Answer
-    requires { ⌜ Sound (now control) ⌝ }
-    ensures { λ r. ⌜ ((clock : ℕ) → HandlesControl control out (Call.plain (Plain.seatRelease seat)) clock r) ⌝ }
+// "A released seat takes its devices with it .. Seat Release for an unknown seat sends nothing."
+pub fn release_seat(
+    control: &mut [u64],
+    words: &mut [u64],
+    reals: &mut [f32],
+    seat: u64,
+    out: &mut [u8],
+) -> Answer
+    requires { ⌜ Lent (now control) (now words) (now reals) ⌝ }
+    ensures { λ r. ⌜ ((clock : ℕ) → HandlesRows control words reals out (Call.plain (Plain.seatRelease seat)) clock r) ⌝ }
 {
-    if out.len() < events::DESTROYED_LENGTH {
-        return Answer::refused(Error::ShortOut);
+    match control::find_seat(control, seat) {
+        Slot::At(_) => removal::remove_seat(control, words, reals, seat, out),
+        Slot::Unknown => Answer::accepted(),
     }
-    let serial = control::last_serial(control);
-    let sent = events::destroy(out, Mark { at: 0, serial }, seat);
-    session::raise(control, sent.serial);
-    Answer::sent(sent.at)
 }
 
 // Bind and RequestDevice: "on a known seat with a bit above bit 6, or a bit not in the seat's set" is 3.
@@ -141,7 +144,7 @@ pub fn queue_frame(
     }
 }
 
-// "Interface Release sends destroyed and unlinks the interface; the device still lists it."
+// "A released interface now leaves its device's list."
 pub fn release_interface(
     control: &mut [u64],
     capability: DeviceCapability,
@@ -159,7 +162,7 @@ pub fn release_interface(
             }
             let serial = control::last_serial(control);
             let mark = events::destroy(out, Mark { at: 0, serial }, interface);
-            session::unlink(control, k, bit, interface);
+            session::unlist(control, k, bit);
             session::raise(control, mark.serial);
             Answer::sent(mark.at)
         }

@@ -1,23 +1,24 @@
 -- Stores into the control words, as changes of what they mean. Assumes nothing.
 use Prim.Native.Nat.{ℕ, _+_, _%_, _^_, _≤_, _<_}
-use mathlib.Core.Path.{_≡_, refl, ap, sym, _∙_}
+use mathlib.Core.Path.{_≡_, refl, ap, ap₂, sym, _∙_}
 use mathlib.Core.Bool.{false, cond}
-use mathlib.Core.List.{List, [], _∷_, _++_, map}
+use mathlib.Core.List.{List, [], _∷_, _++_}
 use native.Mathlib.Omega.{arith}
 use lib.Dec.{eqb}
 use lib.ListN.{length, getD, set, take, length-set}
 use lib.Seq.{getD-set-same, getD-set-other}
-use Rattle.eiproto.specs.Bits.{bit}
+use Rattle.eiproto.specs.Bits.{bit, common}
+use Rattle.eiproto.proofs.Bits.{common-self}
 use Rattle.model.specs.Session.{Interface}
-use Rattle.model.specs.Edit.{connectionWith}
+use Rattle.model.specs.Edit.{connectionWith, interfacesWithout}
 use Rattle.touches.specs.Touches.{touchesLimit}
 use Rattle.control.specs.Table.{tab}
-use Rattle.control.specs.Control.{seatsLimit, devicesLimit, pendingLimit, queueLimit, seatWords, versionPlace, seatPlace, devicePlace, seatCount, deviceCount, deviceWord, capabilitiesAt, linkedAt, seatAt, connectionOf, interfacesOn, coreAt}
+use Rattle.control.specs.Control.{seatsLimit, devicesLimit, pendingLimit, queueLimit, seatWords, versionPlace, seatPlace, devicePlace, seatCount, deviceCount, deviceWord, capabilitiesAt, listedAt, seatAt, connectionOf, interfacesOn, coreAt}
 use Rattle.control.specs.Sound.{Sound}
 use Rattle.control.proofs.Tables.{case-eq, tab-ext, tab-push}
-use Rattle.control.specs.Change.{Reconnected, Amended, Appended, Requeued, newCore, withPending, withInterfaces, unlinkedBit, withSeats, withSerial, withNextId}
+use Rattle.control.specs.Change.{Reconnected, Amended, Appended, Requeued, newCore, withPending, withInterfaces, withSeats, withSerial, withNextId}
 use Rattle.control.proofs.Views.{seat-ext, seats-ext, connection-with, reconnected, amended, appended, requeued}
-use Rattle.control.proofs.LinkBits.{clear, unlinked-bit}
+use Rattle.control.proofs.Unlisted.{clear, unlisted-bit, shared-bit}
 
 -- the first n values of v now stand at i and after; no other word changed
 pub record Wrote (c e : List ℕ) (i n : ℕ) (v : ℕ → ℕ) : Type 0 where
@@ -130,10 +131,11 @@ module _ (c d : List ℕ) (ok : Sound c) (id seat mask : ℕ) (small : mask < 12
   unfolding coreAt newCore
   new-here =
       let known : deviceWord more (deviceCount c) 2 % 128 ≡ mask = omega (arith, new-word 2 (omega arith)) in
+      let listed : listedAt more (deviceCount c) ≡ mask = ap₂ common known (new-word 3 (omega arith)) ∙ common-self mask (omega arith) in
       λ t. record {
         id = new-word 0 (omega arith) t;
         seat = new-word 1 (omega arith) t;
-        interfaces = interfacesOn (new-word 0 (omega arith) t) (known t) (new-word 3 (omega arith) t);
+        interfaces = interfacesOn (new-word 0 (omega arith) t) (known t) (listed t);
         downTouchIds = take (new-word 5 (omega arith) t) (tab touchesLimit (λ j. deviceWord more (deviceCount c) (6 + j) % 2 ^ 32));
         pending = new-word 4 (omega arith) t;
       }
@@ -159,7 +161,7 @@ module _ (c : List ℕ) (ok : Sound c) (k : ℕ) (in-table : k < deviceCount c) 
       (λ t. record {
         id = word 0 (λ z. omega arith) t;
         seat = word 1 (λ z. omega arith) t;
-        interfaces = interfacesOn (word 0 (λ z. omega arith) t) (word 2 (λ z. omega arith) t % 128) (word 3 (λ z. omega arith) t);
+        interfaces = interfacesOn (word 0 (λ z. omega arith) t) (word 2 (λ z. omega arith) t % 128) (common (word 2 (λ z. omega arith) t % 128) (word 3 (λ z. omega arith) t));
         downTouchIds =
             take (word 5 (λ z. omega arith) t)
             (tab-ext touchesLimit (λ j. deviceWord e k (6 + j) % 2 ^ 32) (λ j. deviceWord c k (6 + j) % 2 ^ 32)
@@ -167,25 +169,26 @@ module _ (c : List ℕ) (ok : Sound c) (k : ℕ) (in-table : k < deviceCount c) 
         pending = here t;
       })
 
-  pub linked-set : (b after : ℕ) → ((x : ℕ) → bit x after ≡ cond (eqb x b) false (bit x (linkedAt c k)))
-      → Amended c (set c (devicePlace k + 3) after) k (withInterfaces (map (unlinkedBit b) (coreAt c k .interfaces)) (coreAt c k))
+  pub unlisted-set : (b after : ℕ) → ((x : ℕ) → bit x after ≡ cond (eqb x b) false (bit x (deviceWord c k 3)))
+      → Amended c (set c (devicePlace k + 3) after) k (withInterfaces (interfacesWithout b (coreAt c k .interfaces)) (coreAt c k))
   unfolding coreAt
-  linked-set b after h =
+  unlisted-set b after h =
       let e = set c (devicePlace k + 3) after in
       let off : (j : ℕ) → (j ≡ devicePlace k + 3 → ⊥) → getD e j 0 ≡ getD c j 0 = λ j h. getD-set-other c (devicePlace k + 3) j after 0 h in
       let here : getD e (devicePlace k + 3) 0 ≡ after = getD-set-same c (devicePlace k + 3) after 0 (omega (arith, ok .long, ok .devices)) in
       let word : (f : ℕ) → (f ≡ 3 → ⊥) → deviceWord e k f ≡ deviceWord c k f = λ f h. off (devicePlace k + f) (λ z. h (omega arith)) in
       let w0 = word 0 (λ z. omega arith) in
       let w2 = word 2 (λ z. omega arith) in
-      amended c e k (withInterfaces (map (unlinkedBit b) (coreAt c k .interfaces)) (coreAt c k)) ok (length-set c (devicePlace k + 3) after ∙ ok .long)
+      amended c e k (withInterfaces (interfacesWithout b (coreAt c k .interfaces)) (coreAt c k)) ok (length-set c (devicePlace k + 3) after ∙ ok .long)
       (λ j h. off j (λ z. h (omega arith) (omega arith))) (omega (arith, ok .pending k in-table, word 4 (λ z. omega arith)))
       (omega (arith, ok .held k in-table, word 5 (λ z. omega arith)))
       (λ t. record {
         id = w0 t;
         seat = word 1 (λ z. omega arith) t;
         interfaces =
-            ((λ s. interfacesOn (w0 s) (w2 s % 128) (here s))
-            ∙ unlinked-bit (deviceWord c k 0) (capabilitiesAt c k) (linkedAt c k) b after h) t;
+            ((λ s. interfacesOn (w0 s) (w2 s % 128) (common (w2 s % 128) (here s)))
+            ∙ unlisted-bit (deviceWord c k 0) (capabilitiesAt c k) b (listedAt c k) (common (capabilitiesAt c k) after)
+            (shared-bit (capabilitiesAt c k) (deviceWord c k 3) after b (omega arith) h)) t;
         downTouchIds =
             take (word 5 (λ z. omega arith) t)
             (tab-ext touchesLimit (λ j. deviceWord e k (6 + j) % 2 ^ 32) (λ j. deviceWord c k (6 + j) % 2 ^ 32)
@@ -193,11 +196,12 @@ module _ (c : List ℕ) (ok : Sound c) (k : ℕ) (in-table : k < deviceCount c) 
         pending = word 4 (λ z. omega arith) t;
       })
 
-  -- a bit that was not linked
-  pub linked-kept : (b : ℕ) → bit b (linkedAt c k) ≡ false → Amended c c k (withInterfaces (map (unlinkedBit b) (coreAt c k .interfaces)) (coreAt c k))
+  -- a bit that was not there
+  pub unlisted-kept : (b : ℕ) → bit b (deviceWord c k 3) ≡ false → Amended c c k (withInterfaces (interfacesWithout b (coreAt c k .interfaces)) (coreAt c k))
   unfolding coreAt
-  linked-kept b e =
-      amended c c k (withInterfaces (map (unlinkedBit b) (coreAt c k .interfaces)) (coreAt c k)) ok (ok .long) (λ j h. refl) (ok .pending k in-table)
+  unlisted-kept b e =
+      amended c c k (withInterfaces (interfacesWithout b (coreAt c k .interfaces)) (coreAt c k)) ok (ok .long) (λ j h. refl) (ok .pending k in-table)
       (ok .held k in-table)
       (ap (λ (is : List Interface). withInterfaces is (coreAt c k))
-      (unlinked-bit (deviceWord c k 0) (capabilitiesAt c k) (linkedAt c k) b (linkedAt c k) (clear b (linkedAt c k) e)))
+      (unlisted-bit (deviceWord c k 0) (capabilitiesAt c k) b (listedAt c k) (listedAt c k)
+      (shared-bit (capabilitiesAt c k) (deviceWord c k 3) (deviceWord c k 3) b (omega arith) (clear b (deviceWord c k 3) e))))

@@ -5,14 +5,14 @@ use mathlib.Core.Bool.{true, false}
 use mathlib.Core.List.{List, [], _∷_, _++_, map}
 use mathlib.Core.Option.{none, some}
 use lib.ListN.{set, replicate}
-use Rattle.eiproto.specs.Bits.{bitsOf, bitsBelow}
-use Rattle.model.specs.Decide.{version, linksIn}
+use Rattle.eiproto.specs.Bits.{bitsOf, bitsBelow, common}
+use Rattle.model.specs.Decide.{version, listsAs}
 use Rattle.control.specs.Table.{tab, first, mapOption}
 use Rattle.control.specs.Control.{controlLength, devicePlace, versionIn, seatAt, versionsOf, connectionOf, interfaceId, interfaceOn, interfacesOn, coreAt, coresOf}
 use Rattle.control.specs.Sound.{rowSound, rowsSound, isSound}
 
 -- Connection 5, last serial 7, next id 100, one seat, one device, nothing queued; version 2 of the first interface, version 0 of the third, no other;
--- seat 8 has all capabilities. Device 20 on it has pointer, keyboard and text (bits 0, 2 and 6), keyboard is unlinked, three requests are pending,
+-- seat 8 has all capabilities. Device 20 on it has pointer, keyboard and text (bits 0, 2 and 6), keyboard is no longer listed, three requests are pending,
 -- and the touches 9 and 0 are held.
 words : List ℕ
 words =
@@ -47,10 +47,10 @@ versions : map (version (connectionOf words)) (1 ∷ 2 ∷ 3 ∷ 12 ∷ 13 ∷ [
 unfolding version connectionOf versionsOf tab versionIn words
 versions = refl
 
--- the ids follow the device's in order of the bits
+-- the ids follow the device's in order of the bits that it was made with
 interfaces : coreAt words 0 .interfaces
-    ≡ record { capability = 0; id = 21; linked = true } ∷ record { capability = 2; id = 22; linked = false } ∷ record { capability = 6; id = 23; linked = true } ∷ []
-unfolding coreAt interfacesOn interfaceOn interfaceId bitsOf bitsBelow words
+    ≡ record { capability = 0; id = 21 } ∷ record { capability = 6; id = 23 } ∷ []
+unfolding coreAt interfacesOn interfaceOn interfaceId bitsOf bitsBelow common words
 interfaces = refl
 
 touches : coreAt words 0 .downTouchIds ≡ 9 ∷ 0 ∷ []
@@ -58,6 +58,6 @@ unfolding coreAt tab words
 touches = refl
 
 -- text is known by its id; keyboard is not any more; pointer's id is no text's
-found : map (λ id. first (λ d. linksIn 6 id (d .interfaces)) (coresOf words)) (23 ∷ 22 ∷ 21 ∷ []) ≡ some 0 ∷ none ∷ none ∷ []
-unfolding first mapOption linksIn coresOf coreAt tab interfacesOn interfaceOn interfaceId bitsOf bitsBelow words
+found : map (λ id. first (λ d. listsAs 6 id (d .interfaces)) (coresOf words)) (23 ∷ 22 ∷ 21 ∷ []) ≡ some 0 ∷ none ∷ none ∷ []
+unfolding first mapOption listsAs coresOf coreAt tab interfacesOn interfaceOn interfaceId bitsOf bitsBelow common words
 found = refl

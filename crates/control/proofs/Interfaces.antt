@@ -1,4 +1,4 @@
--- The interfaces of a device: which bits have one, which id it has, which is linked. Assumes nothing.
+-- The interfaces that a device lists: which bits have one, which id it has. Assumes nothing.
 use Prim.Native.Nat.{ℕ, zero, suc, _+_, _/_, _%_, _^_, _≤_, _<_}
 use mathlib.Core.Path.{_≡_, refl, ap, ap₂, sym, _∙_}
 use mathlib.Core.Bool.{Bool, true, false, cond, _&&_, _||_}
@@ -10,12 +10,12 @@ use lib.Dec.{eqb}
 use lib.ListN.{length, getD}
 use lib.Pow.{pow-mono, shr-shr}
 use Rattle.eiproto.specs.Bits.{bit, bitsFrom, bitsOf, bitsBelow}
-use Rattle.eiproto.proofs.Bits.{bits-place}
+use Rattle.eiproto.proofs.Bits.{bits-place, common-le}
 use Rattle.model.specs.Session.{Interface}
 use Rattle.model.specs.Edit.{interfacesFrom, newInterfaces}
 use Rattle.touches.specs.Touches.{member}
-use Rattle.model.specs.Decide.{linksIn, lists}
-use Rattle.control.specs.Control.{capabilitiesAt, linkedAt, interfaceId, interfaceOn, interfacesOn, coreAt}
+use Rattle.model.specs.Decide.{listsAs, lists}
+use Rattle.control.specs.Control.{deviceWord, capabilitiesAt, listedAt, interfaceId, interfaceOn, interfacesOn, coreAt}
 use Rattle.control.proofs.Tables.{case-eq}
 
 -- ---- the bits of a mask, one by one
@@ -79,81 +79,62 @@ pub bits-member : (b m : ℕ) → m < 2 ^ 64 → member b (bitsOf m) ≡ bit b m
 unfolding bitsOf
 bits-member b m h = let z : b ≡ 0 + b = omega arith in ap (λ (x : ℕ). member x (bitsFrom 64 0 m)) z ∙ member-from 64 0 m b h
 
-member-at : (xs : List ℕ) (i : ℕ) → i < length xs → member (getD xs i 0) xs ≡ true
-unfolding member
-member-at [] i h = absurd (omega arith)
-member-at (x ∷ xs) zero h = rw (eq-eqb x x refl)
-member-at (x ∷ xs) (suc i) h = go (eqb (getD xs i 0) x) (member-at xs i (omega arith))
-  where
-    go : (t : Bool) → member (getD xs i 0) xs ≡ true → t || member (getD xs i 0) xs ≡ true
-    go true e = refl
-    go false e = e
-
-pub bit-at : (m i : ℕ) → m < 2 ^ 64 → i < length (bitsOf m) → bit (getD (bitsOf m) i 0) m ≡ true
-bit-at m i h l = sym (bits-member (getD (bitsOf m) i 0) m h) ∙ member-at (bitsOf m) i l
-
 -- ---- what the list of interfaces says of a bit
 
-module _ (device caps links : ℕ) where
-  links-in : (b id : ℕ) (bs : List ℕ)
-      → linksIn b id (map (interfaceOn device caps links) bs) ≡ member b bs && (bit b links && eqb (interfaceId device caps b) id)
-  unfolding linksIn member interfaceOn
-  links-in b id [] = refl
-  links-in b id (x ∷ bs) =
+module _ (device caps : ℕ) where
+  lists-as-in : (b id : ℕ) (bs : List ℕ) → listsAs b id (map (interfaceOn device caps) bs) ≡ member b bs && eqb (interfaceId device caps b) id
+  unfolding listsAs member interfaceOn
+  lists-as-in b id [] = refl
+  lists-as-in b id (x ∷ bs) =
       case-eq x b
       (λ e.
-      ap (λ (y : ℕ). (bit y links && (eqb y b && eqb (interfaceId device caps y) id)) || linksIn b id (map (interfaceOn device caps links) bs)) e
-      ∙ rw (eq-eqb b b refl, links-in b id bs) (met (bit b links && eqb (interfaceId device caps b) id) (member b bs))
-      ∙ ap (λ (t : Bool). (t || member b bs) && (bit b links && eqb (interfaceId device caps b) id)) (sym (eq-eqb b x (sym e))))
-      (λ n. rw (ne-eqb x b n, ne-eqb b x (λ e. n (sym e)), links-in b id bs) (missed (bit x links) (member b bs && (bit b links && eqb (interfaceId device caps b) id))))
+      ap (λ (y : ℕ). (eqb y b && eqb (interfaceId device caps y) id) || listsAs b id (map (interfaceOn device caps) bs)) e
+      ∙ rw (eq-eqb b b refl, lists-as-in b id bs) (met (eqb (interfaceId device caps b) id) (member b bs))
+      ∙ ap (λ (t : Bool). (t || member b bs) && eqb (interfaceId device caps b) id) (sym (eq-eqb b x (sym e))))
+      (λ n. rw (ne-eqb x b n, ne-eqb b x (λ e. n (sym e)), lists-as-in b id bs))
     where
       met : (p t : Bool) → p || (t && p) ≡ (true || t) && p
       met true t = refl
       met false true = refl
       met false false = refl
 
-      missed : (s t : Bool) → (s && false) || t ≡ t
-      missed true t = refl
-      missed false t = refl
-
-  -- an interface of a bit that the device has, linked, and with this id
-  pub links-is : (b id : ℕ) → caps < 2 ^ 64
-      → linksIn b id (interfacesOn device caps links) ≡ bit b caps && (bit b links && eqb (interfaceId device caps b) id)
+  -- an interface of a bit that is listed, with this id
+  pub lists-as-is : (listed b id : ℕ) → listed < 2 ^ 64 → listsAs b id (interfacesOn device caps listed) ≡ bit b listed && eqb (interfaceId device caps b) id
   unfolding interfacesOn
-  links-is b id h = links-in b id (bitsOf caps) ∙ ap (λ (t : Bool). t && (bit b links && eqb (interfaceId device caps b) id)) (bits-member b caps h)
+  lists-as-is listed b id h = lists-as-in b id (bitsOf listed) ∙ ap (λ (t : Bool). t && eqb (interfaceId device caps b) id) (bits-member b listed h)
 
-  lists-in : (b : ℕ) (bs : List ℕ) → lists b (map (interfaceOn device caps links) bs) ≡ member b bs
+  lists-in : (b : ℕ) (bs : List ℕ) → lists b (map (interfaceOn device caps) bs) ≡ member b bs
   unfolding lists member interfaceOn
   lists-in b [] = refl
   lists-in b (x ∷ bs) = ap₂ (λ (s t : Bool). s || t) (case-eq x b (λ e. eq-eqb x b e ∙ sym (eq-eqb b x (sym e))) (λ n. ne-eqb x b n ∙ sym (ne-eqb b x (λ e. n (sym e))))) (lists-in b bs)
 
-  pub lists-is : (b : ℕ) → caps < 2 ^ 64 → lists b (interfacesOn device caps links) ≡ bit b caps
+  pub lists-is : (listed b : ℕ) → listed < 2 ^ 64 → lists b (interfacesOn device caps listed) ≡ bit b listed
   unfolding interfacesOn
-  lists-is b h = lists-in b (bitsOf caps) ∙ bits-member b caps h
+  lists-is listed b h = lists-in b (bitsOf listed) ∙ bits-member b listed h
 
 -- ---- a new device
 
 from-map : (F : ℕ → Interface) (id : ℕ) (bs : List ℕ)
-    → ((i : ℕ) → i < length bs → F (getD bs i 0) ≡ record { capability = getD bs i 0; id = id + i; linked = true }) → map F bs ≡ interfacesFrom id bs
+    → ((i : ℕ) → i < length bs → F (getD bs i 0) ≡ record { capability = getD bs i 0; id = id + i }) → map F bs ≡ interfacesFrom id bs
 unfolding interfacesFrom
 from-map F id [] h = refl
 from-map F id (b ∷ bs) h =
     ap₂ (λ (x : Interface) (xs : List Interface). x ∷ xs)
-    (h 0 (omega arith) ∙ (let z : id + 0 ≡ id = omega arith in λ t. record { capability = b; id = z t; linked = true }))
+    (h 0 (omega arith) ∙ (let z : id + 0 ≡ id = omega arith in λ t. record { capability = b; id = z t }))
     (from-map F (id + 1) bs
     (λ i l.
     let z : id + suc i ≡ id + 1 + i = omega arith in
-    h (suc i) (omega arith) ∙ (λ t. record { capability = getD bs i 0; id = z t; linked = true })))
+    h (suc i) (omega arith) ∙ (λ t. record { capability = getD bs i 0; id = z t })))
 
--- "one interface per capability, in ascending bit order", all linked, with the ids that follow the device's, while they are 64 bits wide
+-- one interface for each capability, by ascending bit, with the ids that follow the device's, while they are 64 bits wide
 pub new-interfaces : (device caps : ℕ) → caps < 2 ^ 64 → device + 1 + length (bitsOf caps) ≤ 2 ^ 64 → interfacesOn device caps caps ≡ newInterfaces device caps
 unfolding interfacesOn newInterfaces interfaceOn interfaceId
 new-interfaces device caps h room =
-    from-map (interfaceOn device caps caps) (device + 1) (bitsOf caps)
+    from-map (interfaceOn device caps) (device + 1) (bitsOf caps)
     (λ i l.
     let b : ℕ = getD (bitsOf caps) i 0 in
     let z : (device + 1 + bitsBelow caps b) % 2 ^ 64 ≡ device + 1 + i = omega (arith, bits-place caps i h l) in
-    λ t. record { capability = b; id = z t; linked = bit-at caps i h l t })
+    λ t. record { capability = b; id = z t })
 
 from-length : (id : ℕ) (bs : List ℕ) → length (interfacesFrom id bs) ≡ length bs
 unfolding interfacesFrom
@@ -168,24 +149,25 @@ new-length device caps = from-length (device + 1) (bitsOf caps)
 -- ---- a row's device
 
 module _ (c : List ℕ) (k : ℕ) where
-  pub core-interfaces : coreAt c k .interfaces ≡ interfacesOn (coreAt c k .id) (capabilitiesAt c k) (linkedAt c k)
+  pub core-interfaces : coreAt c k .interfaces ≡ interfacesOn (coreAt c k .id) (capabilitiesAt c k) (listedAt c k)
   unfolding coreAt
   core-interfaces = refl
 
-  pub core-links : (b id : ℕ)
-      → linksIn b id (coreAt c k .interfaces)
-      ≡ bit b (capabilitiesAt c k) && (bit b (linkedAt c k) && eqb (interfaceId (coreAt c k .id) (capabilitiesAt c k) b) id)
-  core-links b id = ap (linksIn b id) core-interfaces ∙ links-is (coreAt c k .id) (capabilitiesAt c k) (linkedAt c k) b id (omega arith)
+  pub listed-small : listedAt c k < 128
+  listed-small = omega (arith, common-le (capabilitiesAt c k) (deviceWord c k 3) (omega arith))
 
-  pub core-lists : (b : ℕ) → lists b (coreAt c k .interfaces) ≡ bit b (capabilitiesAt c k)
-  core-lists b = ap (lists b) core-interfaces ∙ lists-is (coreAt c k .id) (capabilitiesAt c k) (linkedAt c k) b (omega arith)
+  pub core-lists-as : (b id : ℕ) → listsAs b id (coreAt c k .interfaces) ≡ bit b (listedAt c k) && eqb (interfaceId (coreAt c k .id) (capabilitiesAt c k) b) id
+  core-lists-as b id = ap (listsAs b id) core-interfaces ∙ lists-as-is (coreAt c k .id) (capabilitiesAt c k) (listedAt c k) b id (omega (arith, listed-small))
+
+  pub core-lists : (b : ℕ) → lists b (coreAt c k .interfaces) ≡ bit b (listedAt c k)
+  core-lists b = ap (lists b) core-interfaces ∙ lists-is (coreAt c k .id) (capabilitiesAt c k) (listedAt c k) b (omega (arith, listed-small))
 
   -- the ids of its interfaces, in order of the bits
-  pub core-ids : map (λ i. i .id) (coreAt c k .interfaces) ≡ map (interfaceId (coreAt c k .id) (capabilitiesAt c k)) (bitsOf (capabilitiesAt c k))
+  pub core-ids : map (λ i. i .id) (coreAt c k .interfaces) ≡ map (interfaceId (coreAt c k .id) (capabilitiesAt c k)) (bitsOf (listedAt c k))
   unfolding interfacesOn interfaceOn
-  core-ids = ap (map (λ i. i .id)) core-interfaces ∙ go (bitsOf (capabilitiesAt c k))
+  core-ids = ap (map (λ i. i .id)) core-interfaces ∙ go (bitsOf (listedAt c k))
     where
       go : (bs : List ℕ)
-          → map (λ i. i .id) (map (interfaceOn (coreAt c k .id) (capabilitiesAt c k) (linkedAt c k)) bs) ≡ map (interfaceId (coreAt c k .id) (capabilitiesAt c k)) bs
+          → map (λ i. i .id) (map (interfaceOn (coreAt c k .id) (capabilitiesAt c k)) bs) ≡ map (interfaceId (coreAt c k .id) (capabilitiesAt c k)) bs
       go [] = refl
       go (b ∷ bs) = ap (λ (xs : List ℕ). interfaceId (coreAt c k .id) (capabilitiesAt c k) b ∷ xs) (go bs)

@@ -5,7 +5,7 @@ pub mod Versions
 pub mod Models
 pub mod Examples
 pub mod Views
-pub mod LinkBits
+pub mod Unlisted
 pub mod Changes
 pub mod Shifts
 pub mod Rows

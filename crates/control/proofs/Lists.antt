@@ -1,21 +1,18 @@
--- The changes in the model's words: of any table of devices; a new device's interfaces; an interface unlinked by its id. Assumes nothing.
+-- The changes in the model's words: of any table of devices; a new device's interfaces. Assumes nothing.
 use Prim.Native.Nat.{ℕ, suc, _+_, _^_, _≤_, _<_}
 use mathlib.Core.Path.{_≡_, sym, ap, _∙_}
-use mathlib.Core.Bool.{true}
-use mathlib.Core.List.{List, map}
+use mathlib.Core.List.{List}
 use native.Mathlib.Omega.{arith}
 use lib.ListN.{length}
 use Rattle.eiproto.specs.Bits.{bitsOf}
 use Rattle.model.specs.Session.{Device, Connection}
-use Rattle.model.specs.Edit.{newInterfaces, unlinked, at, withoutSlot}
-use Rattle.model.specs.Decide.{linksIn}
+use Rattle.model.specs.Edit.{newInterfaces, at, withoutSlot}
 use Rattle.control.specs.Table.{tab}
-use Rattle.control.specs.Control.{deviceCount, deviceWord, capabilitiesAt, linkedAt, Core, coreAt}
+use Rattle.control.specs.Control.{deviceCount, Core}
 use Rattle.control.proofs.Tables.{tab-cut}
 use Rattle.control.proofs.Interfaces.{new-interfaces}
 use Rattle.control.proofs.Models.{without-slot, at-slot}
-use Rattle.control.specs.Change.{Reconnected, Amended, Removed, newCore, unlinkedBit}
-use Rattle.control.proofs.LinkBits.{unlinked-found}
+use Rattle.control.specs.Change.{Reconnected, Amended, Removed, newCore}
 
 module _ {c e : List ℕ} where
   -- f and g: the devices with their pending requests, before and after
@@ -42,9 +39,3 @@ module _ {c e : List ℕ} where
 pub new-core : (id seat caps : ℕ) → caps < 128 → id + 1 + length (bitsOf caps) ≤ 2 ^ 64 → newCore id seat caps .interfaces ≡ newInterfaces id caps
 unfolding newCore
 new-core id seat caps small room = new-interfaces id caps (omega arith) room
-
--- what `unlink` does to the interface that `find_interface` found is what the model does to its id
-pub unlinked-core : (c : List ℕ) (k b id : ℕ) → linksIn b id (coreAt c k .interfaces) ≡ true
-    → map (unlinkedBit b) (coreAt c k .interfaces) ≡ map (unlinked id) (coreAt c k .interfaces)
-unfolding coreAt
-unlinked-core c k b id e = sym (unlinked-found (deviceWord c k 0) (capabilitiesAt c k) (linkedAt c k) b id (omega arith) e)

@@ -9,6 +9,7 @@ use native.Mathlib.Numerals.{add-one}
 use native.Mathlib.Omega.{arith}
 use lib.ListN.{length, getD, set, take, drop, length-set, drop-of-length-le}
 use lib.Seq.{drop-cons, ext-getD, length-take-le, getD-take, getD-set-same, getD-set-other}
+use Rattle.eiproto.specs.Bits.{common}
 use Rattle.touches.specs.declared.DownTouchIds.{DownTouchIds}
 use Rattle.touches.specs.Touches.{touchesLimit, held, member}
 use Rattle.touches.specs.Changes.{Holds}
@@ -91,7 +92,7 @@ module _ (c : List ℕ) (ok : Sound c) (k : ℕ) (in-table : k < deviceCount c) 
         (λ s. record {
           id = word 0 (omega arith) s;
           seat = word 1 (omega arith) s;
-          interfaces = interfacesOn (word 0 (omega arith) s) (word 2 (omega arith) s % 128) (word 3 (omega arith) s);
+          interfaces = interfacesOn (word 0 (omega arith) s) (word 2 (omega arith) s % 128) (common (word 2 (omega arith) s % 128) (word 3 (omega arith) s));
           downTouchIds =
               (ap (λ (n : ℕ). take n (tab touchesLimit (λ i. deviceWord e k (6 + i) % 2 ^ 32))) count
               ∙ held-is (t .ids) (t .count) (λ i. deviceWord e k (6 + i) % 2 ^ 32) few l id-at) s;

@@ -1,26 +1,22 @@
--- An interface unlinked: by its bit in the words, by its id in the model. Assumes nothing.
+-- An interface that a device no longer lists: its bit is taken out of the mask. Assumes nothing.
 use Prim.Native.Nat.{ℕ, zero, suc, _+_, _-_, _/_, _%_, _^_, _≤_, _<_}
 use mathlib.Core.Path.{_≡_, refl, ap, ap₂, sym, _∙_}
-use mathlib.Core.Bool.{Bool, true, false, cond, _&&_, _||_, false≢true}
+use mathlib.Core.Bool.{Bool, true, false, cond, _&&_, false≢true}
 use mathlib.Core.List.{List, [], _∷_, _++_, map}
 use mathlib.Core.Logic.{dite}
 use native.Mathlib.Decide.{decLt}
-use native.Mathlib.Nat.{pow-succ'}
+use native.Mathlib.Nat.{add-zero, zero-add, pow-succ'}
 use native.Mathlib.Omega.{arith}
 use borrow.Author.Tests.{eqb-true, eq-eqb, ne-eqb}
 use lib.Dec.{eqb}
-use lib.ListN.{length, getD}
 use lib.Pow.{shr-shr}
-use Rattle.eiproto.specs.Bits.{bit, bitsFrom, bitsOf, bitsBelow}
-use Rattle.eiproto.proofs.Bits.{bits-place}
+use Rattle.eiproto.specs.Bits.{bit, bitsFrom, bitsOf, common}
+use Rattle.eiproto.proofs.Bits.{common-bit}
 use Rattle.model.specs.Session.{Interface}
-use Rattle.model.specs.Edit.{unlinked}
-use Rattle.touches.specs.Touches.{member}
-use Rattle.model.specs.Decide.{linksIn}
-use Rattle.control.specs.Control.{interfaceId, interfaceOn, interfacesOn}
+use Rattle.model.specs.Edit.{interfacesWithout}
+use Rattle.control.specs.Control.{interfaceOn, interfacesOn}
 use Rattle.control.proofs.Tables.{case-eq}
-use Rattle.control.proofs.Interfaces.{bit-past, bits-member, links-is}
-use Rattle.control.specs.Change.{unlinkedBit}
+use Rattle.control.proofs.Interfaces.{bit-past}
 
 -- ---- a bit taken out of a mask
 
@@ -74,83 +70,44 @@ clear b m e x = case-eq x b (λ z. ap (λ (y : ℕ). bit y m) z ∙ e ∙ ap (λ
 
 -- ---- the interfaces
 
-module _ (device caps links : ℕ) where
-  pub unlinked-bit : (b after : ℕ) → ((x : ℕ) → bit x after ≡ cond (eqb x b) false (bit x links))
-      → interfacesOn device caps after ≡ map (unlinkedBit b) (interfacesOn device caps links)
-  unfolding interfacesOn interfaceOn unlinkedBit
-  unlinked-bit b after h = go (bitsOf caps)
-    where
-      go : (bs : List ℕ) → map (interfaceOn device caps after) bs ≡ map (unlinkedBit b) (map (interfaceOn device caps links) bs)
-      go [] = refl
-      go (x ∷ bs) =
-          ap₂ (λ (i : Interface) (is : List Interface). i ∷ is) (λ t. record { capability = x; id = interfaceId device caps x; linked = h x t }) (go bs)
+module _ (device caps b : ℕ) where
+  -- at place p: whether it is listed before, whether it is the one that goes, whether it is listed after
+  one-bit : (before goes after : Bool) → after ≡ cond goes false before → (p : ℕ) → eqb p b ≡ goes → (xs ys : List ℕ)
+      → map (interfaceOn device caps) xs ≡ interfacesWithout b (map (interfaceOn device caps) ys)
+      → map (interfaceOn device caps) (cond after (p ∷ []) [] ++ xs) ≡ interfacesWithout b (map (interfaceOn device caps) (cond before (p ∷ []) [] ++ ys))
+  unfolding interfacesWithout interfaceOn
+  one-bit false true after e p q xs ys h = rw e h
+  one-bit false false after e p q xs ys h = rw e h
+  one-bit true true after e p q xs ys h = rw (e, q) h
+  one-bit true false after e p q xs ys h = rw (e, q) (ap (λ (is : List Interface). interfaceOn device caps p ∷ is) h)
 
--- ---- by id: within a device no two interfaces have one id
+  without-from : (k p m after : ℕ) → ((x : ℕ) → bit x after ≡ cond (eqb (p + x) b) false (bit x m))
+      → map (interfaceOn device caps) (bitsFrom k p after) ≡ interfacesWithout b (map (interfaceOn device caps) (bitsFrom k p m))
+  unfolding bitsFrom interfacesWithout
+  without-from zero p m after h = refl
+  without-from (suc k) p m after h =
+      one-bit (eqb (m % 2) 1) (eqb p b) (eqb (after % 2) 1)
+      (sym (low-bit after) ∙ h 0 ∙ ap₂ (λ (q : ℕ) (t : Bool). cond (eqb q b) false t) (add-zero p) (low-bit m))
+      p refl (bitsFrom k (p + 1) (after / 2)) (bitsFrom k (p + 1) (m / 2))
+      (without-from k (p + 1) (m / 2) (after / 2)
+      (λ x.
+      let z : p + suc x ≡ p + 1 + x = omega arith in
+      sym (high-bit x after) ∙ h (suc x) ∙ ap₂ (λ (q : ℕ) (t : Bool). cond (eqb q b) false t) z (high-bit x m)))
 
-count-bound : (k p m : ℕ) → length (bitsFrom k p m) ≤ k
-unfolding bitsFrom
-count-bound zero p m = omega arith
-count-bound (suc k) p m = go (eqb (m % 2) 1) (count-bound k (p + 1) (m / 2))
+  pub unlisted-bit : (listed after : ℕ) → ((x : ℕ) → bit x after ≡ cond (eqb x b) false (bit x listed))
+      → interfacesOn device caps after ≡ interfacesWithout b (interfacesOn device caps listed)
+  unfolding interfacesOn bitsOf
+  unlisted-bit listed after h =
+      without-from 64 0 listed after (λ x. h x ∙ ap (λ (y : ℕ). cond (eqb y b) false (bit x listed)) (sym (zero-add x)))
+
+-- a bit that goes from one of two masks goes from what they share
+pub shared-bit : (caps w after b : ℕ) → caps < 2 ^ 64 → ((x : ℕ) → bit x after ≡ cond (eqb x b) false (bit x w))
+    → (x : ℕ) → bit x (common caps after) ≡ cond (eqb x b) false (bit x (common caps w))
+shared-bit caps w after b small h x =
+    common-bit caps after x small ∙ ap (λ (t : Bool). bit x caps && t) (h x) ∙ go (bit x caps) (eqb x b) (bit x w)
+    ∙ ap (λ (t : Bool). cond (eqb x b) false t) (sym (common-bit caps w x small))
   where
-    go : (t : Bool) → length (bitsFrom k (p + 1) (m / 2)) ≤ k → length (cond t (p ∷ []) [] ++ bitsFrom k (p + 1) (m / 2)) ≤ suc k
-    go true h = omega arith
-    go false h = omega arith
-
-bits-bound : (m : ℕ) → length (bitsOf m) ≤ 64
-unfolding bitsOf
-bits-bound m = count-bound 64 0 m
-
--- the place of a member
-abbrev Place : ℕ → List ℕ → Type 0
-Place b xs = (j : ℕ) × ((j < length xs) × (getD xs j 0 ≡ b))
-
-member-place : (b : ℕ) (xs : List ℕ) → member b xs ≡ true → Place b xs
-unfolding member
-member-place b [] e = absurd (false≢true e)
-member-place b (x ∷ xs) e = go (eqb b x) refl e (λ q. member-place b xs q)
-  where
-    go : (t : Bool) → eqb b x ≡ t → t || member b xs ≡ true → (member b xs ≡ true → Place b xs) → Place b (x ∷ xs)
-    go true z e h = (0, (omega arith, sym (eqb-true b x z)))
-    go false z e h = let p = h e in (suc (p .0), (omega (arith, p .1 .0), p .1 .1))
-
-module _ (device caps : ℕ) (small : caps < 2 ^ 64) where
-  same-id : (b i : ℕ) → bit b caps ≡ true → i < length (bitsOf caps)
-      → eqb (interfaceId device caps (getD (bitsOf caps) i 0)) (interfaceId device caps b) ≡ eqb (getD (bitsOf caps) i 0) b
-  unfolding interfaceId
-  same-id b i e l =
-      let x : ℕ = getD (bitsOf caps) i 0 in
-      let p = member-place b (bitsOf caps) (bits-member b caps small ∙ e) in
-      let bi = bits-place caps i small l in
-      let bj : bitsBelow caps b ≡ p .0 = ap (bitsBelow caps) (sym (p .1 .1)) ∙ bits-place caps (p .0) small (p .1 .0) in
-      case-eq x b (λ z. eq-eqb _ _ (ap (λ (y : ℕ). (device + 1 + bitsBelow caps y) % 2 ^ 64) z) ∙ sym (eq-eqb x b z))
-      (λ n.
-      ne-eqb ((device + 1 + bitsBelow caps x) % 2 ^ 64) ((device + 1 + bitsBelow caps b) % 2 ^ 64)
-      (λ z.
-      let ij : i ≡ p .0 = omega (arith, bits-bound caps, p .1 .0) in
-      n (ap (λ (y : ℕ). getD (bitsOf caps) y 0) ij ∙ p .1 .1))
-      ∙ sym (ne-eqb x b n))
-
-map-at : (F : ℕ → Interface) (u v : Interface → Interface) (bs : List ℕ) → ((i : ℕ) → i < length bs → u (F (getD bs i 0)) ≡ v (F (getD bs i 0)))
-    → map u (map F bs) ≡ map v (map F bs)
-map-at F u v [] h = refl
-map-at F u v (b ∷ bs) h =
-    ap₂ (λ (i : Interface) (is : List Interface). i ∷ is) (h 0 (omega arith)) (map-at F u v bs (λ i l. h (suc i) (omega arith)))
-
-both : (s t : Bool) → s && t ≡ true → (s ≡ true) × (t ≡ true)
-both true t e = (refl, e)
-both false t e = absurd (false≢true e)
-
--- the interface that was found by its capability and its id, unlinked by its id
-pub unlinked-found : (device caps links b id : ℕ) → caps < 2 ^ 64 → linksIn b id (interfacesOn device caps links) ≡ true
-    → map (unlinked id) (interfacesOn device caps links) ≡ map (unlinkedBit b) (interfacesOn device caps links)
-unfolding interfacesOn interfaceOn unlinked unlinkedBit
-unlinked-found device caps links b id small e =
-    let p = both (bit b caps) _ (sym (links-is device caps links b id small) ∙ e) in
-    let q = both (bit b links) _ (p .1) in
-    let is : interfaceId device caps b ≡ id = eqb-true _ _ (q .1) in
-    map-at (interfaceOn device caps links) (unlinked id) (unlinkedBit b) (bitsOf caps)
-    (λ i l.
-    let x : ℕ = getD (bitsOf caps) i 0 in
-    let z : eqb (interfaceId device caps x) id ≡ eqb x b =
-    ap (λ (y : ℕ). eqb (interfaceId device caps x) y) (sym is) ∙ same-id device caps small b i (p .0) l
-    in λ t. record { capability = x; id = interfaceId device caps x; linked = cond (z t) false (bit x links) })
+    go : (p t s : Bool) → p && cond t false s ≡ cond t false (p && s)
+    go true t s = refl
+    go false true s = refl
+    go false false s = refl

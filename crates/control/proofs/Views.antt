@@ -5,6 +5,7 @@ use mathlib.Core.List.{List}
 use native.Mathlib.Omega.{arith}
 use borrow.Author.Count.{below-more}
 use lib.ListN.{length, getD, take}
+use Rattle.eiproto.specs.Bits.{common}
 use Rattle.model.specs.Session.{Seat, Connection}
 use Rattle.model.specs.Edit.{connectionWith}
 use Rattle.touches.specs.Touches.{touchesLimit}
@@ -22,7 +23,7 @@ module _ (c e : List ℕ) where
       λ t. record {
         id = h 0 (omega arith) t;
         seat = h 1 (omega arith) t;
-        interfaces = interfacesOn (h 0 (omega arith) t) (h 2 (omega arith) t % 128) (h 3 (omega arith) t);
+        interfaces = interfacesOn (h 0 (omega arith) t) (h 2 (omega arith) t % 128) (common (h 2 (omega arith) t % 128) (h 3 (omega arith) t));
         downTouchIds =
             take (h 5 (omega arith) t)
             (tab-ext touchesLimit (λ k. deviceWord e i (6 + k) % 2 ^ 32) (λ k. deviceWord c j (6 + k) % 2 ^ 32)

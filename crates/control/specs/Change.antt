@@ -1,10 +1,8 @@
 -- What each kind of change makes of the control words: c are the words before it, e those after it. Assumes nothing.
 use Prim.Native.Nat.{ℕ, suc, _+_, _≤_, _<_}
 use mathlib.Core.Path.{_≡_}
-use mathlib.Core.Bool.{false, cond}
 use mathlib.Core.List.{List, []}
 use mathlib.Core.Option.{Option, none}
-use lib.Dec.{eqb}
 use lib.ListN.{replicate}
 use Rattle.model.specs.Session.{Interface, Seat, Connection, fresh}
 use Rattle.model.specs.Edit.{connectionWith}
@@ -77,7 +75,7 @@ pub record Fresh (e : List ℕ) (connection serial next : ℕ) : Type 0 where
 
 -- ---- what a device becomes
 
--- a new device: every interface linked, no touch held, nothing pending
+-- a new device: every interface listed, no touch held, nothing pending
 unfoldable pub newCore : (id seat capabilities : ℕ) → Core
 newCore id seat caps = record { id = id; seat = seat; interfaces = interfacesOn id caps caps; downTouchIds = []; pending = 0 }
 
@@ -89,10 +87,6 @@ withTouches ts d = record { id = d .id; seat = d .seat; interfaces = d .interfac
 
 abbrev pub withInterfaces : List Interface → Core → Core
 withInterfaces is d = record { id = d .id; seat = d .seat; interfaces = is; downTouchIds = d .downTouchIds; pending = d .pending }
-
--- an interface unlinked if it is the one of the bit
-unfoldable pub unlinkedBit : ℕ → Interface → Interface
-unlinkedBit b i = record { capability = i .capability; id = i .id; linked = cond (eqb (i .capability) b) false (i .linked) }
 
 -- ---- what the connection becomes
 

@@ -5,7 +5,7 @@ use mathlib.Core.List.{List, map}
 use mathlib.Core.Option.{Option, none, some}
 use lib.Dec.{eqb}
 use lib.ListN.{getD, take}
-use Rattle.eiproto.specs.Bits.{bit, bitsOf, bitsBelow}
+use Rattle.eiproto.specs.Bits.{bitsOf, bitsBelow, common}
 use Rattle.touches.specs.Touches.{touchesLimit}
 use Rattle.model.specs.Session.{Interface, Seat, Connection}
 use Rattle.control.specs.Table.{tab}
@@ -58,7 +58,7 @@ queueHead c = getD c 5 0
 abbrev pub queueLength : List ℕ → ℕ
 queueLength c = getD c 6 0
 
--- word f of a device's row: 0 its id, 1 its seat, 2 the capabilities that it was made with, 3 those still linked, 4 how many requests are pending,
+-- word f of a device's row: 0 its id, 1 its seat, 2 the capabilities that it was made with, 3 those whose interface it still lists, 4 how many requests are pending,
 -- 5 how many touches are held, from 6 on the ids of sixteen touches; the words behind them are free
 abbrev pub deviceWord : List ℕ → (k f : ℕ) → ℕ
 deviceWord c k f = getD c (devicePlace k + f) 0
@@ -66,8 +66,9 @@ deviceWord c k f = getD c (devicePlace k + f) 0
 abbrev pub capabilitiesAt : List ℕ → ℕ → ℕ
 capabilitiesAt c k = deviceWord c k 2 % 128
 
-abbrev pub linkedAt : List ℕ → ℕ → ℕ
-linkedAt c k = deviceWord c k 3
+-- a bit of word 3 that is none of word 2 means nothing
+abbrev pub listedAt : List ℕ → ℕ → ℕ
+listedAt c k = common (capabilitiesAt c k) (deviceWord c k 3)
 
 abbrev pub pendingAt : List ℕ → ℕ → ℕ
 pendingAt c k = deviceWord c k 4
@@ -105,14 +106,15 @@ unfoldable pub interfaceId : (device capabilities : ℕ) → ℕ → ℕ
 unfolding bitsBelow
 interfaceId device caps b = (device + 1 + bitsBelow caps b) % 2 ^ 64
 
-unfoldable pub interfaceOn : (device capabilities linked : ℕ) → ℕ → Interface
+-- which an interface keeps, whatever else is still listed
+unfoldable pub interfaceOn : (device capabilities : ℕ) → ℕ → Interface
 unfolding interfaceId
-interfaceOn device caps links b = record { capability = b; id = interfaceId device caps b; linked = bit b links }
+interfaceOn device caps b = record { capability = b; id = interfaceId device caps b }
 
--- the interfaces of a device that was made with these capabilities
-unfoldable pub interfacesOn : (device capabilities linked : ℕ) → List Interface
+-- those that a device still lists of the interfaces that it was made with
+unfoldable pub interfacesOn : (device capabilities listed : ℕ) → List Interface
 unfolding interfaceOn bitsOf
-interfacesOn device caps links = map (interfaceOn device caps links) (bitsOf caps)
+interfacesOn device caps listed = map (interfaceOn device caps) (bitsOf listed)
 
 -- a device without its pending requests
 pub record Core : Type 0 where
@@ -129,7 +131,7 @@ coreAt c k =
     record {
       id = deviceWord c k 0;
       seat = deviceWord c k 1;
-      interfaces = interfacesOn (deviceWord c k 0) (capabilitiesAt c k) (linkedAt c k);
+      interfaces = interfacesOn (deviceWord c k 0) (capabilitiesAt c k) (listedAt c k);
       downTouchIds = take (heldAt c k) (tab touchesLimit (λ j. deviceWord c k (6 + j) % 2 ^ 32));
       pending = pendingAt c k;
     }

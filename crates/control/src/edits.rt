@@ -5,18 +5,19 @@ use crate::layout;
 use touches::DownTouchIds;
 use touches::EIS_MAX_TOUCHES;
 ghost use mathlib.Core.Path.{_≡_};
-ghost use mathlib.Core.List.{[], _∷_, _++_, map};
+ghost use mathlib.Core.List.{[], _∷_, _++_};
 ghost use mathlib.Core.Option.{some};
 ghost use Prim.Native.Nat.{_+_, _%_, _^_, _≤_, _<_};
 ghost use lib.ListN.{length, set};
 ghost use Rattle.control.specs.Control.{seatsLimit, devicesLimit, pendingLimit, queueLimit, controlLength, seatCount, deviceCount, coreAt};
+ghost use Rattle.model.specs.Edit.{interfacesWithout};
 ghost use Rattle.control.specs.Sound.{Sound};
 ghost use Rattle.control.specs.Table.{cutAt};
 ghost use Rattle.touches.specs.Touches.{touchesLimit, held};
 ghost use Rattle.touches.specs.Changes.{Holds};
 ghost use Rattle.control.specs.Shift.{valueAt, Shifted};
 ghost use Rattle.control.specs.Change.{Reconnects, Amends, Appended, Removed, Requeued, Fresh};
-ghost use Rattle.control.specs.Change.{newCore, withPending, withTouches, withInterfaces, unlinkedBit, withSeats, withSerial, withNextId, withVersions};
+ghost use Rattle.control.specs.Change.{newCore, withPending, withTouches, withInterfaces, withSeats, withSerial, withNextId, withVersions};
 
 fn wide(x: u32) -> u64
     ensures { λ r. ⌜ (r ≡ x) × (r < 2 ^ 32) ⌝ }
@@ -69,7 +70,7 @@ pub fn append_device(control: &mut [u64], id: u64, seat: u64, capabilities: u64)
     control[at] = id;
     control[at + layout::SEAT] = seat;
     control[at + layout::CAPABILITIES] = mask;
-    control[at + layout::LINKED] = mask;
+    control[at + layout::LISTED] = mask;
     control[at + layout::PENDING] = 0;
     control[at + layout::HELD] = 0;
     control[layout::DEVICE_COUNT] = n + 1;
@@ -123,15 +124,15 @@ pub fn set_pending(control: &mut [u64], k: usize, pending: usize)
     control[layout::DEVICES + layout::DEVICE_WORDS * k + layout::PENDING] = pending as u64;
 }
 
-// The interface of a bit unlinked.
-pub fn unlink(control: &mut [u64], k: usize, bit: u32)
+// The interface of a bit, which the device in slot k no longer lists.
+pub fn unlist(control: &mut [u64], k: usize, bit: u32)
     requires { ⌜ Sound (now control) × (k < deviceCount (now control)) ⌝ }
-    ensures { λ _. ⌜ Amends (now (control .entry)) (now (control .exit)) k (λ d. withInterfaces (map (unlinkedBit bit) (d .interfaces)) d) ⌝ }
+    ensures { λ _. ⌜ Amends (now (control .entry)) (now (control .exit)) k (λ d. withInterfaces (interfacesWithout bit (d .interfaces)) d) ⌝ }
 {
-    let at = layout::DEVICES + layout::DEVICE_WORDS * k + layout::LINKED;
-    let linked = control[at];
-    if crate::has_bit(linked, bit) {
-        control[at] = linked - (1 << bit);
+    let at = layout::DEVICES + layout::DEVICE_WORDS * k + layout::LISTED;
+    let listed = control[at];
+    if crate::has_bit(listed, bit) {
+        control[at] = listed - (1 << bit);
     }
 }
 

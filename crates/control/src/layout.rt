@@ -34,7 +34,7 @@ pub const SEAT: usize = 1;
 
 pub const CAPABILITIES: usize = 2;
 
-pub const LINKED: usize = 3;
+pub const LISTED: usize = 3;
 
 pub const PENDING: usize = 4;
 

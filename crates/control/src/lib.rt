@@ -13,9 +13,9 @@ ghost use mathlib.Core.Option.{none};
 ghost use lib.ListN.{length, getD};
 ghost use Rattle.eiproto.specs.Bits.{bit};
 ghost use Rattle.touches.specs.Touches.{member};
-ghost use Rattle.model.specs.Decide.{version, versionOr1, linksIn, lists};
+ghost use Rattle.model.specs.Decide.{version, versionOr1, listsAs, lists};
 ghost use Rattle.control.specs.Table.{first};
-ghost use Rattle.control.specs.Control.{seatsLimit, devicesLimit, controlLength, seatCount, deviceCount, queueHead, queueLength, capabilitiesAt, linkedAt};
+ghost use Rattle.control.specs.Control.{seatsLimit, devicesLimit, controlLength, seatCount, deviceCount, queueHead, queueLength, capabilitiesAt, listedAt};
 ghost use Rattle.control.specs.Control.{connectionOf, seatAt, interfaceId, coreAt, touchesAt, coresOf};
 ghost use Rattle.control.specs.Sound.{rowSound, rowsSound, isSound, Sound};
 ghost use Rattle.control.specs.Answer.{slotTold, versionTold};
@@ -250,7 +250,7 @@ pub fn device_seat(control: &[u64], k: usize) -> u64
     control[layout::DEVICES + layout::DEVICE_WORDS * k + layout::SEAT]
 }
 
-// The capabilities that a device was made with: it lists an interface for each.
+// The capabilities that a device was made with: the ids of its interfaces follow from them.
 pub fn device_capabilities(control: &[u64], k: usize) -> u64
     requires { ⌜ (length (now control) ≡ controlLength) × (k < devicesLimit) ⌝ }
     ensures { λ r. ⌜ r ≡ capabilitiesAt (now (control .entry)) k ⌝ }
@@ -258,12 +258,15 @@ pub fn device_capabilities(control: &[u64], k: usize) -> u64
     control[layout::DEVICES + layout::DEVICE_WORDS * k + layout::CAPABILITIES] % 128
 }
 
-// Those of which the interface is still linked.
-pub fn device_linked(control: &[u64], k: usize) -> u64
+// Those whose interface it still lists.
+pub fn device_listed(control: &[u64], k: usize) -> u64
     requires { ⌜ (length (now control) ≡ controlLength) × (k < devicesLimit) ⌝ }
-    ensures { λ r. ⌜ r ≡ linkedAt (now (control .entry)) k ⌝ }
+    ensures { λ r. ⌜ r ≡ listedAt (now (control .entry)) k ⌝ }
 {
-    control[layout::DEVICES + layout::DEVICE_WORDS * k + layout::LINKED]
+    DeviceCapability::common(
+        device_capabilities(control, k),
+        control[layout::DEVICES + layout::DEVICE_WORDS * k + layout::LISTED],
+    )
 }
 
 pub fn pending_count(control: &[u64], k: usize) -> usize
@@ -295,22 +298,18 @@ pub fn has_capability(control: &[u64], k: usize, bit: u32) -> bool
     requires { ⌜ (length (now control) ≡ controlLength) × (k < devicesLimit) ⌝ }
     ensures { λ r. ⌜ r ≡ lists bit (coreAt (now (control .entry)) k .interfaces) ⌝ }
 {
-    has_bit(device_capabilities(control, k), bit)
+    has_bit(device_listed(control, k), bit)
 }
 
-// Whether a device's interface for the bit has the id and is linked.
-pub fn links(control: &[u64], k: usize, bit: u32, id: u64) -> bool
+// Whether a device lists an interface with the id for the bit.
+pub fn lists_interface(control: &[u64], k: usize, bit: u32, id: u64) -> bool
     requires { ⌜ (length (now control) ≡ controlLength) × (k < devicesLimit) ⌝ }
-    ensures { λ r. ⌜ r ≡ linksIn bit id (coreAt (now (control .entry)) k .interfaces) ⌝ }
+    ensures { λ r. ⌜ r ≡ listsAs bit id (coreAt (now (control .entry)) k .interfaces) ⌝ }
 {
-    let capabilities = device_capabilities(control, k);
-    if !has_bit(capabilities, bit) {
+    if !has_bit(device_listed(control, k), bit) {
         return false;
     }
-    if !has_bit(device_linked(control, k), bit) {
-        return false;
-    }
-    interface_id(device_id(control, k), capabilities, bit) == id
+    interface_id(device_id(control, k), device_capabilities(control, k), bit) == id
 }
 
 // The slot of the first device with the id.
@@ -329,15 +328,15 @@ pub fn find_device(control: &[u64], id: u64) -> Slot
     Slot::Unknown
 }
 
-// The slot of the first device that has a linked interface with the id, for the capability of the bit: `device_for_interface`.
+// The slot of the first device that lists an interface with the id for the capability of the bit: `device_for_interface`.
 pub fn find_interface(control: &[u64], bit: u32, id: u64) -> Slot
     requires { ⌜ Sound (now control) ⌝ }
-    ensures { λ r. ⌜ slotTold r ≡ first (λ d. linksIn bit id (d .interfaces)) (coresOf (now (control .entry))) ⌝ }
+    ensures { λ r. ⌜ slotTold r ≡ first (λ d. listsAs bit id (d .interfaces)) (coresOf (now (control .entry))) ⌝ }
 {
     let n = device_count(control);
     let mut slot: usize = 0;
     while slot < n {
-        if links(control, slot, bit, id) {
+        if lists_interface(control, slot, bit, id) {
             return Slot::At(slot);
         }
         slot += 1;

@@ -126,7 +126,7 @@ pub fn frame(control: &mut [u64], device: u64, time: u64, out: &mut [u8]) -> Ans
     notify(control, device, Notice::Frame { time }, out)
 }
 
-// `Device::has_capability`: whether the device lists an interface for it, linked or not.
+// `Device::has_capability`: whether the device lists an interface for it.
 pub fn has_capability(control: &[u64], device: u64, capability: DeviceCapability) -> Answer
     ensures { λ r. ⌜ Reply control (Plain.hasCapability device capability) r ⌝ }
 {

@@ -8,7 +8,7 @@ use mathlib.Core.Logic.{dite}
 use native.Mathlib.Decide.{decLt}
 use native.Mathlib.Omega.{arith}
 use borrow.Author.Tests.{eqb-true, eqb-false, eq-eqb, ne-eqb, lt-ltb}
-use lib.Bits.{bitAnd, and-step, and-shr}
+use lib.Bits.{bitAnd, and-step, and-shr, and-le-l, and-self}
 use lib.Count.{trailingZeros, under, ones, ones-step, trailing-of-zero}
 use lib.Dec.{eqb, ltb}
 use lib.ListN.{length, getD}
@@ -133,6 +133,12 @@ and-from (suc k) a b h =
 pub and-common : (a b : ℕ) → a < 2 ^ 64 → bitAnd a b ≡ common a b
 unfolding common
 and-common a b h = and-from 64 a b h
+
+pub common-le : (a b : ℕ) → a < 2 ^ 64 → common a b ≤ a
+common-le a b h = omega (arith, and-common a b h, and-le-l a b)
+
+pub common-self : (a : ℕ) → a < 2 ^ 64 → common a a ≡ a
+common-self a h = sym (and-common a a h) ∙ and-self a
 
 pub every-append : {A : Type 0} (f : A → Bool) (xs ys : List A) → every f (xs ++ ys) ≡ every f xs && every f ys
 unfolding every

@@ -15,7 +15,7 @@ use Rattle.eiproto.proofs.Bits.{bits-length, bits-none, lowest}
 use Rattle.model.specs.Session.{Seat, Device}
 use Rattle.model.specs.Decide.{objectsOf, devicesObjects, seatObjects, seatsObjects}
 use Rattle.control.specs.Table.{tab}
-use Rattle.control.specs.Control.{seatCount, deviceCount, seatAt, connectionOf, capabilitiesAt, interfaceId, coreAt}
+use Rattle.control.specs.Control.{seatCount, deviceCount, seatAt, connectionOf, capabilitiesAt, listedAt, interfaceId, coreAt}
 use Rattle.control.proofs.Tables.{case-eq}
 use Rattle.control.proofs.Models.{seats-are}
 use Rattle.control.proofs.Interfaces.{core-ids}
@@ -61,13 +61,13 @@ abbrev pub idsOf : (device made m : ℕ) → List ℕ
 idsOf device made m = map (interfaceId device made) (bitsOf m) ++ (device ∷ [])
 
 -- of the id and the capabilities that were read
-pub objects-are : (c : List ℕ) (k : ℕ) {id made : ℕ} → id ≡ coreAt c k .id → made ≡ capabilitiesAt c k
-    → objectsOf (bare (coreAt c k)) ≡ idsOf id made made
+pub objects-are : (c : List ℕ) (k : ℕ) {id made listed : ℕ} → id ≡ coreAt c k .id → made ≡ capabilitiesAt c k → listed ≡ listedAt c k
+    → objectsOf (bare (coreAt c k)) ≡ idsOf id made listed
 unfolding objectsOf bare
-objects-are c k i m = ap (λ (l : List ℕ). l ++ (coreAt c k .id ∷ [])) (core-ids c k) ∙ rw (i, m)
+objects-are c k i m l = ap (λ (is : List ℕ). is ++ (coreAt c k .id ∷ [])) (core-ids c k) ∙ rw (i, m, l)
 
-pub objects-length : (c : List ℕ) (k : ℕ) {made : ℕ} → made ≡ capabilitiesAt c k → length (objectsOf (bare (coreAt c k))) ≡ length (bitsOf made) + 1
-objects-length c k m = ap length (objects-are c k refl m) ∙ simp (length-append, length-map)
+pub objects-length : (c : List ℕ) (k : ℕ) {listed : ℕ} → listed ≡ listedAt c k → length (objectsOf (bare (coreAt c k))) ≡ length (bitsOf listed) + 1
+objects-length c k l = ap length (objects-are c k refl refl l) ∙ simp (length-append, length-map)
 
 -- a mask of capabilities has at most seven
 pub bits-most : (m : ℕ) → m < 128 → length (bitsOf m) ≤ 7

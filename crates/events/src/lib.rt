@@ -62,12 +62,12 @@ pub fn destroy(out: &mut [u8], mark: Mark, object: u64) -> Mark
     Mark { at, serial }
 }
 
-// The objects that go with the device in slot k: an interface for each capability, and itself.
+// The objects that go with the device in slot k: the interfaces that it lists, and itself.
 pub fn device_objects(control: &[u64], k: usize) -> usize
     requires { ⌜ Sound (now control) × (k < 8) ⌝ }
     ensures { λ r. ⌜ (r ≡ length (objectsOf (bare (coreAt (now (control .entry)) k)))) × (r ≤ 8) ⌝ }
 {
-    DeviceCapability::count(control::device_capabilities(control, k)) as usize + 1
+    DeviceCapability::count(control::device_listed(control, k)) as usize + 1
 }
 
 // Those that go with a seat: its devices in the order of the table, and itself.
@@ -103,14 +103,14 @@ pub fn seats_objects(control: &[u64]) -> usize
     total
 }
 
-// Destroyed for each interface of the device in slot k by capability bit, then for the device.
+// Destroyed for each interface that the device in slot k lists, by capability bit, then for the device.
 pub fn destroy_device(control: &[u64], k: usize, out: &mut [u8], mark: Mark) -> Mark
     requires { ⌜ Sound (now control) × ((k < 8) × (mark .at + 14 * length (objectsOf (bare (coreAt (now control) k))) ≤ length (now out))) ⌝ }
     ensures { λ r. ⌜ WritesDestroyed out mark (objectsOf (bare (coreAt (now (control .entry)) k))) r ⌝ }
 {
     let id = control::device_id(control, k);
     let made = control::device_capabilities(control, k);
-    let mut left = made;
+    let mut left = control::device_listed(control, k);
     let mut so_far = mark;
     while left != 0 {
         let bit = DeviceCapability::lowest(left);

@@ -94,7 +94,7 @@ pub fn handle_seat_request(
     ensures { λ r. ⌜ ((clock : ℕ) → HandlesRows control words reals out (seatCall request seat) clock r) ⌝ }
 {
     match request {
-        SeatRequest::Release => untimed::release_seat(control, seat, out),
+        SeatRequest::Release => untimed::release_seat(control, words, reals, seat, out),
         SeatRequest::Bind { capabilities } => {
             let bind = EisRequest::Bind { seat, capabilities };
             untimed::queue_for_seat(control, words, reals, seat, capabilities, bind)

@@ -1,13 +1,16 @@
 // Devices and seats that go: the client is told, and they are taken out of the session in place, where whole rows of control words and of pending
 // requests move down.
+use answers::Answer;
+use answers::Error;
 use control::PENDING_LIMIT;
 use events::Mark;
 use requests::row::ROW_REALS;
 use requests::row::ROW_WORDS;
 ghost use mathlib.Core.List.{[], _∷_};
-ghost use Prim.Native.Nat.{_+_, _*_, _≤_, _<_};
+ghost use Prim.Native.Nat.{ℕ, _+_, _*_, _≤_, _<_};
 ghost use lib.Ieee.{nan};
 ghost use lib.ListN.{length};
+ghost use Rattle.model.specs.Call.{Plain, Call};
 ghost use Rattle.model.specs.Edit.{Edit};
 ghost use Rattle.model.specs.Decide.{objectsOf, seatObjects, removeSeats};
 ghost use Rattle.control.specs.Shift.{valueAt, Shifted};
@@ -15,7 +18,8 @@ ghost use Rattle.control.specs.Control.{deviceCount, connectionOf, coreAt};
 ghost use Rattle.session.specs.View.{Lent};
 ghost use Rattle.session.specs.Enact.{EnactsRows};
 ghost use Rattle.events.specs.Events.{bare, bareDevices};
-ghost use Rattle.removal.specs.Retire.{Retires};
+ghost use Rattle.answers.specs.Promise.{HandlesRows};
+ghost use Rattle.removal.specs.Retire.{Retires, Retirement};
 
 // The words and the reals of a device's pending rows.
 const PENDING_WORDS: usize = ROW_WORDS * PENDING_LIMIT;
@@ -103,7 +107,7 @@ pub fn retire_device(
 }
 
 // A seat: its devices in the order of the table, then itself.
-pub fn retire_seat(
+fn retire_seat(
     control: &mut [u64],
     words: &mut [u64],
     reals: &mut [f32],
@@ -119,4 +123,21 @@ pub fn retire_seat(
     remove_devices_of(control, words, reals, seat);
     session::remove_seat(control, seat);
     last.at
+}
+
+// A seat that stands, with its devices: what the station's removal of it and a client's release of it come to. 19 comes first.
+pub fn remove_seat(
+    control: &mut [u64],
+    words: &mut [u64],
+    reals: &mut [f32],
+    seat: u64,
+    out: &mut [u8],
+) -> Answer
+    requires { ⌜ Lent (now control) (now words) (now reals) ⌝ }
+    ensures { λ r. ⌜ ((call : Plain) (clock : ℕ) → Retirement call clock seat (now (control .entry)) → HandlesRows control words reals out (Call.plain call) clock r) ⌝ }
+{
+    if out.len() < events::DESTROYED_LENGTH * events::seat_objects(control, seat) {
+        return Answer::refused(Error::ShortOut);
+    }
+    Answer::sent(retire_seat(control, words, reals, seat, out))
 }

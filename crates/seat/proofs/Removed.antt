@@ -1,14 +1,12 @@
 -- What the model plans for a seat that goes. Assumes nothing.
 use Prim.Native.Nat.{ℕ}
 use mathlib.Core.Path.{_≡_}
-use mathlib.Core.List.{[], _∷_}
 use mathlib.Core.Option.{none, some}
 use lib.Dec.{eqb}
 use Rattle.model.specs.Call.{Plain}
 use Rattle.model.specs.Session.{view}
-use Rattle.model.specs.Edit.{Edit}
 use Rattle.model.specs.Plan.{answer, refuse, Result}
-use Rattle.model.specs.Decide.{onFound, seatObjects, sendDestroyed, removeSeat, decidePlain}
+use Rattle.model.specs.Decide.{onFound, retireSeat, removeSeat, decidePlain}
 use Rattle.control.specs.Table.{first}
 use Rattle.control.specs.Control.{connectionOf}
 use Rattle.session.specs.View.{Store, session}
@@ -21,7 +19,6 @@ module _ (s : Store) (seat clock : ℕ) where
   seat-unknown e = rw (no-seat s seat e)
 
   pub seat-plan : {k : ℕ} → first (λ t. eqb (t .id) seat) (connectionOf (s .control) .seats) ≡ some k
-      → decidePlain (view (session s)) clock (Plain.removeSeat seat)
-      ≡ sendDestroyed (view (session s)) (seatObjects seat (view (session s) .devices)) (Edit.removeDevicesOf seat ∷ Edit.removeSeat seat ∷ [])
+      → decidePlain (view (session s)) clock (Plain.removeSeat seat) ≡ retireSeat (view (session s)) seat
   unfolding decidePlain removeSeat onFound
   seat-plan e = rw (found-seat s seat e)

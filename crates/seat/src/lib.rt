@@ -103,12 +103,7 @@ pub fn remove_seat(
         return Answer::refused(Error::BadState);
     }
     match control::find_seat(control, seat) {
-        Slot::At(_) => {
-            if out.len() < events::DESTROYED_LENGTH * events::seat_objects(control, seat) {
-                return Answer::refused(Error::ShortOut);
-            }
-            Answer::sent(removal::retire_seat(control, words, reals, seat, out))
-        }
+        Slot::At(_) => removal::remove_seat(control, words, reals, seat, out),
         Slot::Unknown => Answer::refused(Error::UnknownHandle),
     }
 }

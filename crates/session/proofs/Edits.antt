@@ -2,7 +2,7 @@
 use Prim.Native.Nat.{ℕ, suc, _+_, _%_, _≤_, _<_}
 use mathlib.Core.Path.{_≡_, refl, sym, ap, ap₂, subst, _∙_}
 use mathlib.Core.Bool.{Bool, true, false, _||_, cond, false≢true}
-use mathlib.Core.List.{List, [], _∷_, _++_, map}
+use mathlib.Core.List.{List, [], _∷_, _++_}
 use mathlib.Core.Option.{Option, none, some}
 use native.Mathlib.Nat.{mod-eq-of-lt}
 use native.Mathlib.Omega.{arith}
@@ -17,16 +17,15 @@ use Rattle.touches.specs.Touches.{touchesLimit, held, member, without, downRefu
 use Rattle.touches.specs.Changes.{Holds, Inserts, Removes}
 use Rattle.model.specs.Call.{Load}
 use Rattle.model.specs.Session.{Item, Interface, Seat, Device, Connection, Session}
-use Rattle.model.specs.Edit.{Amend, Edit, raised, seatsWithout, connectionWith, newDevice, newInterfaces, deviceWith, amended, at, withConnection, withDevices, enact, enactAll}
-use Rattle.model.specs.Decide.{linksIn}
+use Rattle.model.specs.Edit.{Amend, Edit, raised, interfacesWithout, seatsWithout, connectionWith, newDevice, newInterfaces, deviceWith, amended, at, withConnection, withDevices, enact, enactAll}
 use Rattle.control.specs.Table.{tab, cutAt, mapOption, first}
 use Rattle.control.specs.Control.{deviceCount, connectionOf, Core, coreAt}
 use Rattle.control.specs.Sound.{Sound}
 use Rattle.control.proofs.Tables.{tab-same, tab-push}
 use Rattle.control.proofs.Interfaces.{new-length}
 use Rattle.control.proofs.Models.{seats-without}
-use Rattle.control.specs.Change.{SameQueue, Reconnected, Amended, Appended, newCore, withTouches, withInterfaces, unlinkedBit, withSeats, withSerial, withNextId}
-use Rattle.control.proofs.Lists.{amended-devices, reconnected-twice, new-core, unlinked-core}
+use Rattle.control.specs.Change.{SameQueue, Reconnected, Amended, Appended, newCore, withTouches, withInterfaces, withSeats, withSerial, withNextId}
+use Rattle.control.proofs.Lists.{amended-devices, reconnected-twice, new-core}
 use Rattle.session.specs.View.{lastId, pendingRow, itemAt, deviceIn, queueIn, sessionIn, session}
 use Rattle.session.specs.Enact.{EnactedControl}
 use Rattle.session.proofs.Views.{session-of, device-ext, queue-ext}
@@ -160,12 +159,10 @@ module _ {c e : List ℕ} where
             (λ j b n m q. refl) (same-queue c e rows texts (r .queue));
       }
 
-  pub interface-unlinked : {k id : ℕ} (bit : ℕ) → k < deviceCount c → linksIn bit id (coreAt c k .interfaces) ≡ true
-      → Amended c e k (withInterfaces (map (unlinkedBit bit) (coreAt c k .interfaces)) (coreAt c k)) → EnactedControl c e (Edit.amend k (Amend.unlink id) ∷ [])
+  pub interface-unlisted : {k : ℕ} (bit : ℕ) → k < deviceCount c
+      → Amended c e k (withInterfaces (interfacesWithout bit (coreAt c k .interfaces)) (coreAt c k)) → EnactedControl c e (Edit.amend k (Amend.unlist bit) ∷ [])
   unfolding amended deviceWith
-  interface-unlinked {k} {id} bit l links r =
-      amends (Amend.unlink id) l r refl
-      (λ ps. ap (λ (is : List Interface). deviceOn (withInterfaces is (coreAt c k)) ps) (unlinked-core c k bit id links))
+  interface-unlisted bit l r = amends (Amend.unlist bit) l r refl (λ ps. refl)
 
   touched : {k : ℕ} {f : DownTouchIds} (a : Amend) (ids : List ℕ) → k < deviceCount c → Holds ids f → Amended c e k (withTouches (held f) (coreAt c k))
       → ((ps : List (Item Load)) → deviceOn (withTouches ids (coreAt c k)) ps ≡ amended a (deviceOn (coreAt c k) ps)) → EnactedControl c e (Edit.amend k a ∷ [])

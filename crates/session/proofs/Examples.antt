@@ -7,7 +7,7 @@ use mathlib.Core.Option.{none, some}
 use lib.Ieee.{Float, nan}
 use lib.ListN.{replicate}
 use Rattle.eiproto.specs.declared.eiproto_enum.KeyState.{KeyState}
-use Rattle.eiproto.specs.Bits.{bitsOf, bitsBelow}
+use Rattle.eiproto.specs.Bits.{bitsOf, bitsBelow, common}
 use Rattle.requests.specs.Row.{rowWords, requestOf, entry, rowOf, cellAt, rowAt}
 use Rattle.model.specs.Call.{Kind, Load}
 use Rattle.model.specs.Session.{Untimed, Queued}
@@ -17,7 +17,7 @@ use Rattle.control.specs.Sound.{rowSound, rowsSound, isSound}
 use Rattle.session.specs.View.{queueStart, realsLength, slotLength, textsLength, store, itemOf, requestIn, itemIn, textOf, requestAt, itemAt, deviceIn, queueIn, sessionIn, session, isWhole}
 
 -- Connection 5, last serial 7, next id 100; version 2 of the first interface, no other; seat 8 has all capabilities. Device 20 on it has pointer and
--- keyboard (bits 0 and 2), pointer is unlinked, touch 9 is held, and one request is pending. Two are queued, the oldest at the last place of the ring.
+-- keyboard (bits 0 and 2), pointer is no longer listed, touch 9 is held, and one request is pending. Two are queued, the oldest at the last place of the ring.
 control : List ℕ
 control =
     (5 ∷ 7 ∷ 100 ∷ 1 ∷ 1 ∷ 255 ∷ 2 ∷ 0 ∷ [])
@@ -57,7 +57,7 @@ held : session (store control words reals texts)
           record {
             id = 20;
             seat = 8;
-            interfaces = record { capability = 0; id = 21; linked = false } ∷ record { capability = 2; id = 22; linked = true } ∷ [];
+            interfaces = record { capability = 2; id = 22 } ∷ [];
             downTouchIds = 9 ∷ [];
             pending = itemOf Kind.KeyboardKey 0 (Load.KeyPress 30 KeyState.Press) ∷ [];
           }
@@ -67,5 +67,5 @@ held : session (store control words reals texts)
           ∷ Queued.untimed (Untimed.Ready 20)
           ∷ [];
     }
-unfolding session sessionIn connectionOf versionsOf versionIn seatAt tab deviceIn coreAt interfacesOn interfaceOn interfaceId bitsOf bitsBelow queueIn requestAt requestIn textOf itemAt itemIn rowAt rowOf cellAt requestOf entry control words reals texts
+unfolding session sessionIn connectionOf versionsOf versionIn seatAt tab deviceIn coreAt interfacesOn interfaceOn interfaceId bitsOf bitsBelow common queueIn requestAt requestIn textOf itemAt itemIn rowAt rowOf cellAt requestOf entry control words reals texts
 held = refl

@@ -13,7 +13,7 @@ use Rattle.requests.specs.Row.{Row, rowAt}
 use Rattle.model.specs.Call.{Load}
 use Rattle.model.specs.Session.{Queued, Device, Connection, Session, mapDevice, mapSession, blank, view}
 use Rattle.model.specs.Edit.{Edit, enactAll}
-use Rattle.model.specs.Decide.{find, deviceOf, linksIn, deviceForInterface, seatIn, seatOf}
+use Rattle.model.specs.Decide.{find, deviceOf, listsAs, deviceForInterface, seatIn, seatOf}
 use Rattle.model.specs.Step.{counts}
 use Rattle.control.specs.Table.{tab, mapOption, first}
 use Rattle.control.specs.Control.{pendingLimit, seatCount, deviceCount, queueHead, queueLength, seatAt, connectionOf, Core, coreAt, coresOf}
@@ -197,12 +197,12 @@ module _ (s : Store) where
       ∙ models.devices-find (s .control) (λ d. eqb (d .id) id) (λ d. eqb (d .id) id) (deviceSeen s) (λ j l. ap (λ (i : ℕ). eqb i id) (device-id j))
 
   pub interface-found : (bit id : ℕ)
-      → deviceForInterface bit id (view (session s)) ≡ mapOption (λ k. record { slot = k; device = deviceSeen s k }) (first (λ d. linksIn bit id (d .interfaces)) (coresOf (s .control)))
+      → deviceForInterface bit id (view (session s)) ≡ mapOption (λ k. record { slot = k; device = deviceSeen s k }) (first (λ d. listsAs bit id (d .interfaces)) (coresOf (s .control)))
   unfolding deviceForInterface
   interface-found bit id =
-      ap (find (λ d. linksIn bit id (d .interfaces))) seen-devices
-      ∙ models.devices-find (s .control) (λ d. linksIn bit id (d .interfaces)) (λ d. linksIn bit id (d .interfaces)) (deviceSeen s)
-      (λ j l. ap (linksIn bit id) (device-interfaces j))
+      ap (find (λ d. listsAs bit id (d .interfaces))) seen-devices
+      ∙ models.devices-find (s .control) (λ d. listsAs bit id (d .interfaces)) (λ d. listsAs bit id (d .interfaces)) (deviceSeen s)
+      (λ j l. ap (listsAs bit id) (device-interfaces j))
 
   pub seat-found : (id : ℕ) → seatOf id (view (session s)) ≡ mapOption (seatAt (s .control)) (first (λ t. eqb (t .id) id) (connectionOf (s .control) .seats))
   unfolding seatOf
@@ -237,15 +237,15 @@ module _ (s : Store) where
     no-seat e = seat-found id ∙ ap (mapOption (seatAt (s .control))) e
 
   module _ (bit id : ℕ) where
-    pub found-interface : {k : ℕ} → first (λ d. linksIn bit id (d .interfaces)) (coresOf (s .control)) ≡ some k
+    pub found-interface : {k : ℕ} → first (λ d. listsAs bit id (d .interfaces)) (coresOf (s .control)) ≡ some k
         → deviceForInterface bit id (view (session s)) ≡ some (record { slot = k; device = deviceSeen s k })
     unfolding mapOption
     found-interface e = interface-found bit id ∙ ap (mapOption (λ k. record { slot = k; device = deviceSeen s k })) e
 
-    pub interface-bound : {k : ℕ} → first (λ d. linksIn bit id (d .interfaces)) (coresOf (s .control)) ≡ some k → k < deviceCount (s .control)
-    interface-bound {k} e = models.device-passes (s .control) (λ d. linksIn bit id (d .interfaces)) k e .within
+    pub interface-bound : {k : ℕ} → first (λ d. listsAs bit id (d .interfaces)) (coresOf (s .control)) ≡ some k → k < deviceCount (s .control)
+    interface-bound {k} e = models.device-passes (s .control) (λ d. listsAs bit id (d .interfaces)) k e .within
 
-    pub no-interface : first (λ d. linksIn bit id (d .interfaces)) (coresOf (s .control)) ≡ none → deviceForInterface bit id (view (session s)) ≡ none
+    pub no-interface : first (λ d. listsAs bit id (d .interfaces)) (coresOf (s .control)) ≡ none → deviceForInterface bit id (view (session s)) ≡ none
     unfolding mapOption
     no-interface e = interface-found bit id ∙ ap (mapOption (λ k. record { slot = k; device = deviceSeen s k })) e
 

@@ -8,15 +8,14 @@ use requests::row::ROW_REALS;
 use requests::row::ROW_WORDS;
 use requests::row::TEXTS_LIMIT;
 ghost use mathlib.Core.Path.{_≡_};
-ghost use mathlib.Core.Bool.{true, false};
+ghost use mathlib.Core.Bool.{false};
 ghost use mathlib.Core.List.{[], _∷_};
 ghost use Prim.Native.Nat.{ℕ, _+_, _≤_, _<_};
 ghost use lib.ListN.{length};
 ghost use Rattle.eiproto.specs.Bits.{bitsOf};
 ghost use Rattle.touches.specs.Touches.{touchesLimit, member};
-ghost use Rattle.model.specs.Decide.{linksIn};
 ghost use Rattle.model.specs.Edit.{Amend, Edit, raised};
-ghost use Rattle.control.specs.Control.{seatsLimit, devicesLimit, seatCount, deviceCount, connectionOf, touchesAt, coreAt};
+ghost use Rattle.control.specs.Control.{seatsLimit, devicesLimit, seatCount, deviceCount, connectionOf, touchesAt};
 ghost use Rattle.control.specs.Sound.{Sound};
 ghost use Rattle.session.specs.View.{lastId, isLent, isWhole};
 ghost use Rattle.session.specs.Slices.{before};
@@ -127,10 +126,10 @@ pub fn clear_touches(control: &mut [u64], k: usize)
     control::edits::set_down_touch_ids(control, k, touches::kept::clear(held));
 }
 
-// The interface of a capability's bit, which has the id, unlinked.
-pub fn unlink(control: &mut [u64], k: usize, bit: u32, id: u64)
-    requires { ⌜ Sound (now control) × ((k < deviceCount (now control)) × (linksIn bit id (coreAt (now control) k .interfaces) ≡ true)) ⌝ }
-    ensures { λ _. ⌜ EnactsControl control (Edit.amend k (Amend.unlink id) ∷ []) ⌝ }
+// The interface of a capability's bit, which the device in slot k no longer lists.
+pub fn unlist(control: &mut [u64], k: usize, bit: u32)
+    requires { ⌜ Sound (now control) × (k < deviceCount (now control)) ⌝ }
+    ensures { λ _. ⌜ EnactsControl control (Edit.amend k (Amend.unlist bit) ∷ []) ⌝ }
 {
-    control::edits::unlink(control, k, bit);
+    control::edits::unlist(control, k, bit);
 }

@@ -17,7 +17,7 @@ use mir.Val.{Fits}
 use Rattle.eiproto.specs.Bits.{bit, bitsOf}
 use Rattle.eiproto.proofs.Bits.{bits-length}
 use Rattle.control.proofs.Tables.{case-eq}
-use Rattle.control.proofs.LinkBits.{cleared}
+use Rattle.control.proofs.Unlisted.{cleared}
 use Rattle.texts.specs.declared.LiveTexts.{LiveTexts}
 use Rattle.texts.specs.Texts.{textsAmong, Counted}
 

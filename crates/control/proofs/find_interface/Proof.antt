@@ -4,7 +4,7 @@ use mathlib.Core.Path.{_≡_, sym, _∙_}
 use mathlib.Core.Bool.{false}
 use mathlib.Core.List.{List}
 use borrow.Author.Count.{below-more}
-use Rattle.model.specs.Decide.{linksIn}
+use Rattle.model.specs.Decide.{listsAs}
 use Rattle.control.specs.Control.{deviceCount, coreAt, coresOf}
 use Rattle.control.proofs.Tables.{tab-first, tab-first-none}
 use borrow.Author.Needs.{needs}
@@ -14,7 +14,7 @@ use Rattle.control.proofs.find_interface.Tie as tie
 
 abbrev Inv-loop : tie.InvT-loop
 Inv-loop control bit id n slot₀ slot =
-    (slot ≤ n) × ((j : ℕ) → j < slot → linksIn bit id (coreAt control j .interfaces) ≡ false)
+    (slot ≤ n) × ((j : ℕ) → j < slot → listsAs bit id (coreAt control j .interfaces) ≡ false)
 
 abbrev μ-loop : tie.MeasureT-loop
 μ-loop control bit id n slot₀ slot =
@@ -29,19 +29,19 @@ unfolding coresOf
 returns c =
     let a = c .before .before .before .before .before .before .args in
     let w : List ℕ = a .control .now in
-    sym (tab-first (λ d. linksIn (a .bit) (a .id) (d .interfaces)) (deviceCount w) (c .before .before .before .loop .slot) (coreAt w) (omega arith)
-    (sym (c .before .links .ensures) ∙ c .if1 .taken) (c .before .before .before .loop .inv .1))
+    sym (tab-first (λ d. listsAs (a .bit) (a .id) (d .interfaces)) (deviceCount w) (c .before .before .before .loop .slot) (coreAt w) (omega arith)
+    (sym (c .before .lists-interface .ensures) ∙ c .if1 .taken) (c .before .before .before .loop .inv .1))
 
 loop-again : tie.Need-loop-again Inv-loop μ-loop
 loop-again c =
-    (omega arith, below-more _ _ (c .before .before .before .loop .inv .1) (sym (c .before .links .ensures) ∙ c .if1 .left))
+    (omega arith, below-more _ _ (c .before .before .before .loop .inv .1) (sym (c .before .lists-interface .ensures) ∙ c .if1 .left))
 
 returns-2 : tie.Need-returns-2 Inv-loop μ-loop
 unfolding coresOf
 returns-2 c =
     let a = c .before .before .before .before .args in
     let w : List ℕ = a .control .now in
-    sym (tab-first-none (λ d. linksIn (a .bit) (a .id) (d .interfaces)) (deviceCount w) (coreAt w) (λ j l. c .before .loop .inv .1 j (omega arith)))
+    sym (tab-first-none (λ d. listsAs (a .bit) (a .id) (d .interfaces)) (deviceCount w) (coreAt w) (λ j l. c .before .loop .inv .1 j (omega arith)))
 
 pub find-interface-spec : {M : Type 1} → statement M
 find-interface-spec =

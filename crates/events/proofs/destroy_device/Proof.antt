@@ -6,6 +6,7 @@ use borrow.Author.Needs.{needs}
 use lib.ListN.{length}
 use Rattle.model.specs.Decide.{objectsOf}
 use Rattle.control.specs.Control.{coreAt}
+use Rattle.control.proofs.Interfaces.{listed-small}
 use Rattle.events.specs.Events.{bare}
 use Rattle.events.proofs.Writes.{Going, going-none, going-room, going-more, going-last}
 use Rattle.events.proofs.Objects.{idsOf, ids-more, ids-last, left-less, left-small, objects-are}
@@ -22,9 +23,11 @@ abbrev μ-loop : tie.MeasureT-loop
 
 loop-holds : tie.Need-loop-holds Inv-loop μ-loop
 loop-holds c =
-    let a = c .before .before .before .before .args in
-    let e = objects-are (a .control .now) (a .k) (c .before .device-id .ensures) (c .device-capabilities .ensures) in
-    (omega arith, going-none (a .out .now) (a .mark) e (omega (arith, c .before .before .before .before .pre .1 .1, ap length e)))
+    let start = c .before .before .before .before .before in
+    let a = start .args in
+    let l = c .device-listed .ensures in
+    let e = objects-are (a .control .now) (a .k) (c .before .before .device-id .ensures) (c .before .device-capabilities .ensures) l in
+    (omega (arith, l, listed-small (a .control .now) (a .k)), going-none (a .out .now) (a .mark) e (omega (arith, start .pre .1 .1, ap length e)))
 
 destroy-requires : tie.Need-destroy-requires Inv-loop μ-loop
 destroy-requires c κs =
@@ -68,6 +71,7 @@ destroy-device-spec =
     μ-loop
     (λ c κs. search needs)  -- device-id-requires
     (λ c κs. search needs)  -- device-capabilities-requires
+    (λ c κs. search needs)  -- device-listed-requires
     loop-holds
     (λ c κs. search needs)  -- lowest-requires
     (λ c κs. search needs)  -- interface-id-requires

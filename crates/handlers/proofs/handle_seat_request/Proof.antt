@@ -13,12 +13,12 @@ use Rattle.handlers.proofs.handle_seat_request.Tie as tie
 
 returns : tie.Need-returns
 returns c =
-    let at-release-seat = c .before .before .before .before in
-    let at-enum-told = at-release-seat .before .before .before in
+    let at-release-seat = c .before .before .before .before .before .before .before .before in
+    let at-enum-told = at-release-seat .before .before .before .before .before in
     let at-start = at-enum-told .before .before .before .before .before .before in
     let a = at-start .args in
     λ clock texts whole.
-    for-call clock (ap (λ (x : SeatRequest). seatCall x (a .seat)) (at-enum-told .enum-told .given .1)) (at-release-seat .release-seat .ensures clock (a .words .now) (a .reals .now) texts whole)
+    for-call clock (ap (λ (x : SeatRequest). seatCall x (a .seat)) (at-enum-told .enum-told .given .1)) (at-release-seat .release-seat .ensures clock texts whole)
 
 returns-2 : tie.Need-returns-2
 unfolding mapCall decide decidePlain requestIn
@@ -54,12 +54,14 @@ handle-seat-request-spec =
     (λ c κs. search needs)  -- queue-for-seat-requires-2
     (λ c. search needs)  -- same-length
     (λ c. search needs)  -- same-length-2
-    returns
     (λ c. search needs)  -- same-length-3
     (λ c. search needs)  -- same-length-4
+    returns
     (λ c. search needs)  -- same-length-5
-    returns-2
     (λ c. search needs)  -- same-length-6
     (λ c. search needs)  -- same-length-7
+    returns-2
     (λ c. search needs)  -- same-length-8
+    (λ c. search needs)  -- same-length-9
+    (λ c. search needs)  -- same-length-10
     returns-3)

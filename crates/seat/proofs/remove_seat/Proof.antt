@@ -1,24 +1,18 @@
--- 21, 12 and 19 leave all as it was; else the objects of the seat are destroyed, and it goes. Assumes nothing.
+-- 21 and 12 leave all as it was; else the seat goes as one that stands. Assumes nothing.
 use mathlib.Core.Path.{_≡_, sym, ap, _∙_}
 use mathlib.Core.Bool.{true}
-use mathlib.Core.List.{[], _∷_}
 use mathlib.Core.Option.{some}
-use native.Mathlib.Omega.{arith}
 use borrow.Author.Needs.{needs}
 use lib.Dec.{eqb}
 use Rattle.model.specs.Call.{Plain}
-use Rattle.model.specs.Edit.{Edit}
-use Rattle.model_steps.proofs.Counted.{removes-seat}
 use Rattle.control.specs.Table.{first}
 use Rattle.control.specs.Control.{connectionOf}
 use Rattle.control.specs.Answer.{slotTold}
 use Rattle.session.specs.View.{store, isLent}
 use Rattle.session.proofs.Views.{lent-parts}
-use Rattle.events.proofs.Seen.{seat-objects-seen}
 use Rattle.answers.specs.declared.Error.{Error}
 use Rattle.answers.specs.declared.Outcome.{Outcome}
 use Rattle.answers.proofs.Meetings.{failed, passed, unlent-answered, lent-answered, told-handled}
-use Rattle.removal.proofs.Retiring.{retired-short, retired-handled}
 use Rattle.seat.proofs.Removed.{seat-unknown, seat-plan}
 use Rattle.seat.proofs.remove_seat.Statement.{statement}
 use Rattle.seat.proofs.remove_seat.Tie as tie
@@ -37,42 +31,22 @@ returns c = λ clock. unlent-answered (failed (c .before .before .lent .ensures)
 find-seat-requires : tie.Need-find-seat-requires
 find-seat-requires c κs = lent-parts _ _ _ (lent (c .before)) .sound
 
-seat-objects-requires : tie.Need-seat-objects-requires
-seat-objects-requires c κs = lent-parts _ _ _ (lent (c .before .before .before .before .before)) .sound
+remove-seat-requires : tie.Need-remove-seat-requires
+remove-seat-requires c κs = lent-parts _ _ _ (lent (c .before .before .before .before .before .before .before .before))
 
--- 19
+-- 19, or gone
 returns-2 : tie.Need-returns-2
 returns-2 c =
-    let k = c .before .before .before .before in
+    let at-remove = c .before .before .before .before .before .before .before .before in
+    let k = at-remove .before .before .before .before .before in
     let a = k .before .before .before .before .before .before .before .before .before .before .before .before .before .args in
     λ clock.
     lent-answered (lent (k .before .before .before .before))
-    (λ texts whole.
-    let s = store (a .control .now) (a .words .now) (a .reals .now) texts in
-    retired-short s whole (a .out .now) (Plain.removeSeat (a .seat)) clock (Edit.removeDevicesOf (a .seat) ∷ Edit.removeSeat (a .seat) ∷ [])
-    (seat-plan s (a .seat) clock (found k)) (seat-objects-seen s (a .seat)) (removes-seat _ _) (c .before .before .seat-objects .ensures .0) (omega arith) (c .refused2 .ensures))
-
-retire-seat-requires : tie.Need-retire-seat-requires
-retire-seat-requires c κs = (lent-parts _ _ _ (lent (c .before .before .before .before .before .before .before .before .before .before .before)), omega (arith, c .before .before .before .before .before .seat-objects .ensures .0, c .before .before .before .before .if2 .left))
-
--- gone
-returns-3 : tie.Need-returns-3
-returns-3 c =
-    let at-retire = c .before .before .before .before .before .before .before .before .before in
-    let at-room = at-retire .before .before .before .before .before in
-    let k = at-room .before .before .before in
-    let a = k .before .before .before .before .before .before .before .before .before .before .before .before .before .args in
-    λ clock.
-    lent-answered (lent (k .before .before .before .before))
-    (λ texts whole.
-    let s = store (a .control .now) (a .words .now) (a .reals .now) texts in
-    retired-handled s whole (a .out .now) (Plain.removeSeat (a .seat)) clock (Edit.removeDevicesOf (a .seat) ∷ Edit.removeSeat (a .seat) ∷ [])
-    (seat-plan s (a .seat) clock (found k)) (seat-objects-seen s (a .seat)) (removes-seat _ _) (at-room .before .seat-objects .ensures .0)
-    (omega (arith, at-room .if2 .left)) (at-retire .retire-seat .ensures) (at-retire .retire-seat .kept .1 .0) (at-retire .retire-seat .kept .1 .1 .0) (c .sent .ensures))
+    (at-remove .remove-seat .ensures (Plain.removeSeat (a .seat)) clock (λ w r t. seat-plan (store (a .control .now) w r t) (a .seat) clock (found k)))
 
 -- 12
-returns-4 : tie.Need-returns-4
-returns-4 c =
+returns-3 : tie.Need-returns-3
+returns-3 c =
     let p = c .before .before .before .before .before in
     let a = p .before .before .before .before .before .before .before .before .before .args in
     λ clock.
@@ -80,7 +54,7 @@ returns-4 c =
     (λ texts whole.
     let s = store (a .control .now) (a .words .now) (a .reals .now) texts in
     told-handled s (a .out .now) (Plain.removeSeat (a .seat)) clock (Outcome.Refused Error.UnknownHandle) _ whole
-    (seat-unknown s (a .seat) clock (sym (c .before .before .before .find-seat .ensures) ∙ ap slotTold (c .before .enum-told2 .given .1))) (c .refused3 .ensures))
+    (seat-unknown s (a .seat) clock (sym (c .before .before .before .find-seat .ensures) ∙ ap slotTold (c .before .enum-told2 .given .1))) (c .refused2 .ensures))
 
 pub remove-seat-spec : {M : Type 1} → statement M
 remove-seat-spec =
@@ -94,23 +68,15 @@ remove-seat-spec =
     returns
     find-seat-requires
     (λ c. search needs)  -- enum-told
-    seat-objects-requires
-    (λ c. search needs)  -- mul-if2
+    remove-seat-requires
+    (λ c. search needs)  -- enum-told-2
     (λ c κs. search needs)  -- refused-requires-2
     (λ c. search needs)  -- same-length-4
     (λ c. search needs)  -- same-length-5
     (λ c. search needs)  -- same-length-6
-    returns-2
-    retire-seat-requires
-    (λ c κs. search needs)  -- sent-requires
-    (λ c. search needs)  -- enum-told-2
-    (λ c κs. search needs)  -- refused-requires-3
     (λ c. search needs)  -- same-length-7
+    returns-2
     (λ c. search needs)  -- same-length-8
     (λ c. search needs)  -- same-length-9
     (λ c. search needs)  -- same-length-10
-    returns-3
-    (λ c. search needs)  -- same-length-11
-    (λ c. search needs)  -- same-length-12
-    (λ c. search needs)  -- same-length-13
-    returns-4)
+    returns-3)

@@ -6,7 +6,7 @@ use Rattle.eiproto.specs.declared.event.DeviceCapability.{DeviceCapability}
 use mathlib.Core.Path.{refl}
 use Rattle.model.specs.Call.{Kind}
 use Rattle.model.specs.Decide.{handler}
-use Rattle.client_requests.proofs.Decisions.{linked-within, touch-unknown, down-many, down-twice, down-queued}
+use Rattle.client_requests.proofs.Decisions.{interface-within, touch-unknown, down-many, down-twice, down-queued}
 use borrow.Author.Needs.{needs}
 use Rattle.client_requests.proofs.timed.decide_down.Statement.{statement}
 use Rattle.client_requests.proofs.timed.decide_down.Tie as tie
@@ -17,7 +17,7 @@ touch-count-requires c κs =
     let at-device-for-interface = c .before .before .before in
     let at-start = at-device-for-interface .before .before in
     let k = sym (at-device-for-interface .device-for-interface .ensures) ∙ ap slotTold (c .before .k .given .1) in
-    (at-start .pre, linked-within DeviceCapability.Touch (at-start .args .touchscreen) (at-start .args .control .now) k)
+    (at-start .pre, interface-within DeviceCapability.Touch (at-start .args .touchscreen) (at-start .args .control .now) k)
 
 returns : tie.Need-returns
 returns c =
@@ -33,7 +33,7 @@ is-down-requires c κs =
     let at-device-for-interface = at-k .before .before in
     let at-start = at-device-for-interface .before .before in
     let k = sym (at-device-for-interface .device-for-interface .ensures) ∙ ap slotTold (at-k .k .given .1) in
-    (at-start .pre, linked-within DeviceCapability.Touch (at-start .args .touchscreen) (at-start .args .control .now) k)
+    (at-start .pre, interface-within DeviceCapability.Touch (at-start .args .touchscreen) (at-start .args .control .now) k)
 
 returns-2 : tie.Need-returns-2
 returns-2 c =
@@ -50,7 +50,7 @@ queue-on-requires c κs =
     let at-device-for-interface = at-k .before .before in
     let at-start = at-device-for-interface .before .before in
     let k = sym (at-device-for-interface .device-for-interface .ensures) ∙ ap slotTold (at-k .k .given .1) in
-    (at-start .pre, linked-within DeviceCapability.Touch (at-start .args .touchscreen) (at-start .args .control .now) k)
+    (at-start .pre, interface-within DeviceCapability.Touch (at-start .args .touchscreen) (at-start .args .control .now) k)
 
 returns-3 : tie.Need-returns-3
 returns-3 c =

@@ -3,7 +3,7 @@ use mathlib.Core.Path.{sym, ap, _∙_}
 use Rattle.control.specs.Answer.{slotTold}
 use Rattle.eiproto.specs.declared.event.DeviceCapability.{DeviceCapability}
 use borrow.Author.Tests.{not-true, not-false}
-use Rattle.client_requests.proofs.Decisions.{linked-within, touch-unknown, touch-not-held, touch-held}
+use Rattle.client_requests.proofs.Decisions.{interface-within, touch-unknown, touch-not-held, touch-held}
 use borrow.Author.Needs.{needs}
 use Rattle.client_requests.proofs.timed.decide_held.Statement.{statement}
 use Rattle.client_requests.proofs.timed.decide_held.Tie as tie
@@ -13,7 +13,7 @@ is-down-requires c κs =
     let at-device-for-interface = c .before .before .before in
     let at-start = at-device-for-interface .before .before in
     let k = sym (at-device-for-interface .device-for-interface .ensures) ∙ ap slotTold (c .before .k .given .1) in
-    (at-start .pre .0, linked-within DeviceCapability.Touch (at-start .args .touchscreen) (at-start .args .control .now) k)
+    (at-start .pre .0, interface-within DeviceCapability.Touch (at-start .args .touchscreen) (at-start .args .control .now) k)
 
 returns : tie.Need-returns
 returns c =
@@ -29,7 +29,7 @@ queue-on-requires c κs =
     let at-device-for-interface = at-k .before .before in
     let at-start = at-device-for-interface .before .before in
     let k = sym (at-device-for-interface .device-for-interface .ensures) ∙ ap slotTold (at-k .k .given .1) in
-    (at-start .pre .0, linked-within DeviceCapability.Touch (at-start .args .touchscreen) (at-start .args .control .now) k)
+    (at-start .pre .0, interface-within DeviceCapability.Touch (at-start .args .touchscreen) (at-start .args .control .now) k)
 
 returns-2 : tie.Need-returns-2
 returns-2 c =

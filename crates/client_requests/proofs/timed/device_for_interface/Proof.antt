@@ -3,7 +3,7 @@ use mathlib.Core.Path.{ap, _∙_}
 use Rattle.eiproto.specs.Bits.{lowestBit}
 use Rattle.control.specs.Control.{coresOf}
 use Rattle.control.specs.Table.{first}
-use Rattle.model.specs.Decide.{linksIn}
+use Rattle.model.specs.Decide.{listsAs}
 use Rattle.client_requests.proofs.Decisions.{bit-is}
 use borrow.Author.Needs.{needs}
 use Prim.Native.Nat.{ℕ}
@@ -14,7 +14,7 @@ returns : tie.Need-returns
 returns c =
     let a = c .before .before .before .before .args in
     let bit = c .before .lowest .ensures ∙ ap lowestBit (c .before .before .mask .ensures) ∙ bit-is (a .capability) in
-    c .find-interface .ensures ∙ ap (λ (b : ℕ). first (λ d. linksIn b (a .interface) (d .interfaces)) (coresOf (a .control .now))) bit
+    c .find-interface .ensures ∙ ap (λ (b : ℕ). first (λ d. listsAs b (a .interface) (d .interfaces)) (coresOf (a .control .now))) bit
 
 pub device-for-interface-spec : {M : Type 1} → statement M
 device-for-interface-spec =

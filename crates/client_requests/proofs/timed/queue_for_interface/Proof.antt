@@ -7,7 +7,7 @@ use Rattle.control.specs.Answer.{slotTold}
 use Rattle.control.specs.Control.{deviceCount, coreAt}
 use Rattle.session.specs.View.{store}
 use Rattle.client_requests.specs.declared.timed.TouchChange.{TouchChange}
-use Rattle.client_requests.proofs.Decisions.{linkedSlot, linked-within, queue-full, queue-room, plain-unknown, plain-queued}
+use Rattle.client_requests.proofs.Decisions.{interfaceSlot, interface-within, queue-full, queue-room, plain-unknown, plain-queued}
 use Rattle.client_requests.proofs.Enactings.{met-ignored, met-refused, met-queued}
 use borrow.Author.Needs.{needs}
 use Rattle.client_requests.proofs.timed.queue_for_interface.Statement.{statement}
@@ -15,11 +15,11 @@ use Rattle.client_requests.proofs.timed.queue_for_interface.Tie as tie
 
 -- ---- the device is known
 
-known : (p : tie.After-k) → let a = p .before .before .before .before .before .before .before .args in linkedSlot (a .capability) (a .interface) (a .control .now) ≡ some (p .k .given .0 .0)
+known : (p : tie.After-k) → let a = p .before .before .before .before .before .before .before .args in interfaceSlot (a .capability) (a .interface) (a .control .now) ≡ some (p .k .given .0 .0)
 known p = sym (p .before .before .device-for-interface .ensures) ∙ ap slotTold (p .k .given .1)
 
 within : (p : tie.After-k) → p .k .given .0 .0 < deviceCount (p .before .before .before .before .before .before .before .args .control .now)
-within p = let a = p .before .before .before .before .before .before .before .args in linked-within (a .capability) (a .interface) (a .control .now) (known p)
+within p = let a = p .before .before .before .before .before .before .before .args in interface-within (a .capability) (a .interface) (a .control .now) (known p)
 
 pending-count-requires : tie.Need-pending-count-requires
 pending-count-requires c κs =

@@ -7,7 +7,7 @@ use Rattle.eiproto.specs.declared.event.DeviceCapability.{DeviceCapability}
 use Rattle.control.specs.Answer.{slotTold}
 use Rattle.control.specs.Control.{coreAt}
 use Rattle.session.specs.View.{store}
-use Rattle.client_requests.proofs.Decisions.{linked-within}
+use Rattle.client_requests.proofs.Decisions.{interface-within}
 use Rattle.client_requests.proofs.Enactings.{either, text-unknown, text-length, text-full, text-many, text-queued}
 use borrow.Author.Needs.{needs}
 use Rattle.client_requests.proofs.timed.queue_utf8.Statement.{statement}
@@ -33,7 +33,7 @@ pending-count-requires c κs =
     let p = at-start .pre in
     let s = store (a .control .now) (a .words .now) (a .reals .now) (a .texts .now) in
     let k = sym (at-device-for-interface .device-for-interface .ensures) ∙ ap slotTold (at-k .k .given .1) in
-    (p .0 .sound .long, omega (arith, p .0 .sound .devices, linked-within DeviceCapability.Text (a .interface) (a .control .now) k))
+    (p .0 .sound .long, omega (arith, p .0 .sound .devices, interface-within DeviceCapability.Text (a .interface) (a .control .now) k))
 
 returns-2 : tie.Need-returns-2
 returns-2 c =
@@ -81,7 +81,7 @@ pend-text-requires c κs =
     let slot = c .free-slot .ensures in
     record {
       whole = p .0;
-      device = linked-within DeviceCapability.Text (a .interface) (a .control .now) k;
+      device = interface-within DeviceCapability.Text (a .interface) (a .control .now) k;
       room = omega (arith, at-pending-count .pending-count .ensures, at-if3 .if3 .left);
       short = ltb-false 254 (length (a .text .now)) (at-if2 .if2 .left);
       low = slot .0;
