@@ -59,7 +59,6 @@ noted-silent : {edits : List Edit} → Noted edits → delivers edits ≡ false
 unfolding delivers
 noted-silent Noted.nothing = refl
 noted-silent (Noted.clears k) = refl
-noted-silent (Noted.unlinks k i) = refl
 
 leaf-tells : {v : View} {now : ℕ} {c : Call Sight} {plan : Plan} → Leaf v now c plan → Tells plan
 unfolding answer ignore pendAfter edit send sendNext sendDestroyed delivers
@@ -68,9 +67,10 @@ leaf-tells (Leaf.passed h) = Tells.silent Result.accepted [] [] refl
 leaf-tells (Leaf.pended {x = x} f amends e g t) = Tells.silent Result.accepted [] _ (pend-silent amends f x)
 leaf-tells (Leaf.answered o m) = Tells.silent o [] [] refl
 leaf-tells (Leaf.synced callback) = Tells.silent _ _ _ refl
-leaf-tells (Leaf.noted object event edits h) = Tells.silent _ _ _ (noted-silent h)
+leaf-tells (Leaf.noted object event edits m h) = Tells.silent _ _ _ (noted-silent h)
+leaf-tells (Leaf.released cap id f e) = Tells.silent _ _ _ refl
 leaf-tells (Leaf.deviceGone id f e) = Tells.silent _ _ _ refl
-leaf-tells (Leaf.seatGone id) = Tells.silent _ _ _ refl
+leaf-tells (Leaf.seatGone id x e) = Tells.silent _ _ _ refl
 leaf-tells {v = v} (Leaf.allGone reason explanation) = Tells.silent _ _ _ (removeSeats-silent (v .connection .seats))
 leaf-tells (Leaf.queued u) = Tells.silent _ _ _ refl
 leaf-tells (Leaf.flushed id f u e) = Tells.silent _ _ _ refl

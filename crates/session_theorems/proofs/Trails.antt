@@ -7,7 +7,7 @@ use mathlib.Core.Option.{Option}
 use lib.ListN.{length, take, drop}
 use lib.Seq.{take-append-seam}
 use Rattle.wire.specs.Bits.{splice}
-use Rattle.model.specs.Call.{Input, Load, Plain, Call, split}
+use Rattle.model.specs.Call.{Input, Load, Plain, Call, mapCall, loadOf, split}
 use Rattle.model.specs.Session.{Item, Queued, Session, fresh, view, mapQueued, blank}
 use Rattle.model.specs.Plan.{records, refusal}
 use Rattle.model.specs.Plan as plan
@@ -17,9 +17,12 @@ use Rattle.model.specs.Payload.{Matched-trails}
 use Rattle.model.specs.Refusals.{Own-refusals}
 use Rattle.model.specs.Reachable.{sessionAfter, newIds, idsIn, Ids-ascend}
 use Rattle.model.specs.Kept.{Nothing-lost}
+use Rattle.model.specs.Destroyed.{destroyedOf, destroyedIn, Destroyed-once, Lives-standing, Release-is-removal}
 use Rattle.model.proofs.EqualTrails.{matched-trails}
 use Rattle.model.proofs.Provenance.{in-order, nothing-lost}
 use Rattle.model.proofs.Reachable.{ids-ascend}
+use Rattle.model.proofs.Destroyed.{destroyed-once, lives-standing}
+use Rattle.model.proofs.Released.{release-is-removal}
 use Rattle.model.proofs.Refusals.{own-refusals}
 use Rattle.session.specs.View.{Store, session, isWhole}
 use Rattle.session.proofs.Views.{whole-is}
@@ -30,7 +33,7 @@ use Rattle.answers.specs.declared.Answer.{Answer}
 use Rattle.answers.proofs.Meetings.{answered-handled, error-refuses}
 use Rattle.converter.specs.Next.{nextOutcome, givenIn}
 use Rattle.converter.specs.declared.request.NextRequest.{NextRequest}
-use Rattle.session_theorems.specs.Trail.{Exchange, turnOf, Calls, slicesAfter, serialIn, seen, Seen-is-run, allOfSession, Never-21, FreshCalls, Equal-seen, givenTo, Given-in-order, Seen-nothing-lost, Gave, Seen-ids-ascend}
+use Rattle.session_theorems.specs.Trail.{Exchange, turnOf, Calls, slicesAfter, serialIn, seen, Seen-is-run, allOfSession, Never-21, FreshCalls, Equal-seen, givenTo, Given-in-order, Seen-nothing-lost, Told, Seen-lives, Seen-release-is-removal}
 use Rattle.session_theorems.proofs.Deliveries.{isGiven, step-gave, step-quiet, asked-silent}
 
 -- what the definitions say of calls of the code
@@ -176,7 +179,7 @@ unfolding Nothing-lost
 seen-nothing-lost c n i vs s xs d f stands =
     rw (sym (given-is-trail f d), sym (after-is f)) (nothing-lost c n i vs (map turnOf xs) d (rw (after-is f) stands))
 
--- ---- ids
+-- ---- the life of objects
 
 -- what refuses tells no id
 refused-no-ids : (o : plan.Result) → refuses o ≡ true → newIds o [] ≡ []
@@ -198,18 +201,38 @@ asked-no-ids (NextRequest.Given r) = refl
 asked-no-ids NextRequest.None = refl
 asked-no-ids (NextRequest.Refused e) = refused-no-ids (errorOf e) (error-refuses e)
 
-gave-is : (s : Store) (xs : List Exchange) → isWhole s ≡ true → Calls s xs → Gave xs (idsIn (runOf xs (session s)))
-unfolding idsIn run
-gave-is s [] whole Calls.none = Gave.none
-gave-is s (Exchange.called call other clock out later answer e ∷ xs) whole (Calls.called a rest) =
+told-is : (s : Store) (xs : List Exchange) → isWhole s ≡ true → Calls s xs → Told xs (idsIn (runOf xs (session s))) (destroyedIn (runOf xs (session s)))
+unfolding idsIn destroyedIn destroyedOf run
+told-is s [] whole Calls.none = Told.none
+told-is s (Exchange.called call other clock out later answer e ∷ xs) whole (Calls.called a rest) =
     let m = answered-handled s a whole in
     let to = step (split (turn call clock out)) (session s) in
-    rw (sym (m .outcome), sym (m .view)) (Gave.called (to .events) (bytes-are out m) (gave-is e xs (whole-is e (m .whole)) rest))
-gave-is s (Exchange.asked clock buffer later answer e ∷ xs) whole (Calls.asked a rest) =
+    rw (sym (m .outcome), sym (m .view)) (Told.called (to .events) (bytes-are out m) (told-is e xs (whole-is e (m .whole)) rest))
+told-is s (Exchange.asked clock buffer later answer e ∷ xs) whole (Calls.asked a rest) =
     let m = a .handled clock whole in
-    rw (sym (m .outcome), asked-quiet clock buffer (session s), sym (m .view), asked-no-ids answer) (Gave.asked (gave-is e xs (whole-is e (m .whole)) rest))
+    rw (sym (m .outcome), asked-quiet clock buffer (session s), sym (m .view), asked-no-ids answer) (Told.asked (told-is e xs (whole-is e (m .whole)) rest))
 
-pub seen-ids-ascend : Seen-ids-ascend
-unfolding Ids-ascend trail
-seen-ids-ascend c n i vs s xs f =
-    (idsIn (runOf xs (session s)), (gave-is s xs (f .whole) (f .calls), rw (f .starts) (ids-ascend c n i vs (map turnOf xs))))
+pub seen-lives : Seen-lives
+unfolding Ids-ascend Destroyed-once Lives-standing trail
+seen-lives c n i vs s xs f =
+    record {
+      given = idsIn (runOf xs (session s));
+      gone = destroyedIn (runOf xs (session s));
+      told = told-is s xs (f .whole) (f .calls);
+      ascend = rw (f .starts) (ids-ascend c n i vs (map turnOf xs));
+      once = λ id. rw (f .starts) (destroyed-once c n i vs (map turnOf xs) id);
+      stands = λ id. rw (f .starts, sym (after-is f)) (lives-standing c n i vs (map turnOf xs) id);
+    }
+
+pub seen-release-is-removal : Seen-release-is-removal
+unfolding Release-is-removal split mapCall loadOf
+seen-release-is-removal l l′ s d d′ out later later′ clock seat x r r′ whole e a b =
+    let m = answered-handled s a whole in
+    let k = answered-handled s b whole in
+    let q = release-is-removal Load Load.None clock (length out) seat x (session s) e in
+    record {
+      view = m .view ∙ ap (λ (t : Step Load). t .session) q ∙ sym (k .view);
+      outcome = m .outcome ∙ ap (λ (t : Step Load). t .outcome) q ∙ sym (k .outcome);
+      count = m .count ∙ ap (λ (t : Step Load). length (records (t .events))) q ∙ sym (k .count);
+      bytes = m .bytes ∙ ap (λ (t : Step Load). splice out 0 (records (t .events))) q ∙ sym (k .bytes);
+    }

@@ -1,19 +1,21 @@
 -- Lists of calls of the code, each as its contract has it, and what holds of them. proofs/Trails.antt proves the statements. Assumes nothing.
-use Prim.Native.Nat.{ℕ, _<_}
+use Prim.Native.Nat.{ℕ, _+_, _≤_, _<_}
 use mathlib.Core.Path.{_≡_}
 use mathlib.Core.Bool.{Bool, true, _&&_}
 use mathlib.Core.List.{List, [], _∷_, _++_, map}
-use mathlib.Core.Option.{Option}
+use mathlib.Core.Option.{Option, some}
 use lib.ListN.{take}
 use Rattle.model.specs.Call.{Input, Load, Plain, Call, Turn, split}
-use Rattle.model.specs.Session.{Item, fresh, mapQueued, blank}
+use Rattle.model.specs.Session.{Item, Seat, fresh, mapQueued, blank, view}
 use Rattle.model.specs.Plan.{Sent, records, refusal}
+use Rattle.model.specs.Decide.{seatOf}
 use Rattle.model.specs.Step.{run}
 use Rattle.model.specs.Demand3.{Observed, observed, taken, itemsOf}
 use Rattle.model.specs.Payload.{Matched}
 use Rattle.model.specs.Refusals.{ofSession}
 use Rattle.model.specs.Reachable.{countOf, deviceIds, newIds, ascendsFrom}
 use Rattle.model.specs.Kept.{pendingOf}
+use Rattle.model.specs.Destroyed.{destroyedOf, standing}
 use Rattle.session.specs.View.{Store, session, isWhole, Lending}
 use Rattle.answers.specs.Answer.{outcomeOf}
 use Rattle.answers.specs.Meets.{turn, Answered}
@@ -117,17 +119,43 @@ Seen-nothing-lost =
     0 < countOf d (deviceIds after) →
     taken c n i vs d (map turnOf xs) ≡ givenTo d xs ++ (itemsOf d (after .requests) ++ pendingOf d (after .devices))
 
--- The ids that calls gave: a seat's, a device's and those of its interfaces, told by the answers and by events whose records are the bytes that were written
-pub data Gave : List Exchange → List ℕ → Type 0 where
-  none : Gave [] []
+-- The ids that calls gave, a seat's, a device's and those of its interfaces, and those that they destroyed, told by the answers and by events whose records
+-- are the bytes that were written
+pub data Told : List Exchange → (given gone : List ℕ) → Type 0 where
+  none : Told [] [] []
   called : {call : Call Input} {other : call ≡ Call.plain Plain.nextRequest → ⊥} {clock : ℕ} {out later : List ℕ} {answer : Answer} {e : Store} {xs : List Exchange}
-      {ids : List ℕ} (es : List Sent) → take (answer .count) later ≡ records es → Gave xs ids
-      → Gave (Exchange.called call other clock out later answer e ∷ xs) (newIds (outcomeOf (answer .outcome)) es ++ ids)
-  asked : {clock : ℕ} {buffer later : List ℕ} {answer : NextRequest} {e : Store} {xs : List Exchange} {ids : List ℕ} → Gave xs ids
-      → Gave (Exchange.asked clock buffer later answer e ∷ xs) ids
+      {given gone : List ℕ} (es : List Sent) → take (answer .count) later ≡ records es → Told xs given gone
+      → Told (Exchange.called call other clock out later answer e ∷ xs) (newIds (outcomeOf (answer .outcome)) es ++ given) (destroyedOf es ++ gone)
+  asked : {clock : ℕ} {buffer later : List ℕ} {answer : NextRequest} {e : Store} {xs : List Exchange} {given gone : List ℕ} → Told xs given gone
+      → Told (Exchange.asked clock buffer later answer e ∷ xs) given gone
 
--- "never given twice by one .. session": they ascend from the session's next id on
-abbrev pub Seen-ids-ascend : Type 0
-Seen-ids-ascend =
-    (c n i : ℕ) (vs : List (Option ℕ)) (s : Store) (xs : List Exchange) → FreshCalls c n i vs s xs
-    → (ids : List ℕ) × (Gave xs ids × (ascendsFrom i ids ≡ true))
+-- the life of every object, from the session's next id on
+pub record Lives (i : ℕ) (xs : List Exchange) (after : Store) : Type 0 where
+  pub given : List ℕ
+  pub gone : List ℕ
+  pub told : Told xs given gone
+  -- "never given twice by one .. session"
+  pub ascend : ascendsFrom i given ≡ true
+  -- "The protocol gives an object one.": no id is the object of two destroyed events
+  pub once : (id : ℕ) → countOf id gone ≤ 1
+  -- what was given was destroyed or stands in a table, and never both
+  pub stands : (id : ℕ) → countOf id given ≡ countOf id gone + standing id (session after)
+
+abbrev pub Seen-lives : Type 0
+Seen-lives =
+    (c n i : ℕ) (vs : List (Option ℕ)) (s : Store) (xs : List Exchange) → FreshCalls c n i vs s xs → Lives i xs (slicesAfter s xs)
+
+-- A client's release of a seat that stands, and the station's removal of it, on the same slices with the same clock and `out`: the same session,
+-- outcome, count and bytes, refused or not
+pub record Same (e e′ : Store) (later later′ : List ℕ) (r r′ : Answer) : Type 0 where
+  pub view : session e ≡ session e′
+  pub outcome : outcomeOf (r .outcome) ≡ outcomeOf (r′ .outcome)
+  pub count : r .count ≡ r′ .count
+  pub bytes : later ≡ later′
+
+abbrev pub Seen-release-is-removal : Type 0
+Seen-release-is-removal =
+    (l l′ : Lending) (s e e′ : Store) (out later later′ : List ℕ) (clock seat : ℕ) (x : Seat) (r r′ : Answer)
+    → isWhole s ≡ true → seatOf seat (view (session s)) ≡ some x
+    → Answered l s e out later (Call.plain (Plain.seatRelease seat)) clock r → Answered l′ s e′ out later′ (Call.plain (Plain.removeSeat seat)) clock r′
+    → Same e e′ later later′ r r′
