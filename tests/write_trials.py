@@ -1,17 +1,23 @@
 #!/usr/bin/env python3
-"""Writes the scripts that the gate runs and the trails that are expected of them. The trails are the oracle's: the crate's own Rust makes them.
+"""Writes the scripts that the gate runs and the trails that are expected of them. The trails are the oracle's, which is the crate's own Rust; from the first
+seat or interface release of a session on they are by hand.
 
 usage: write_trials.py [--check] ORACLE [FOLDER]     run at the repository's root
 
 ORACLE is the oracle's folder (cases/ in it; `./build.sh` there builds target/release/oracle, for which Rust is needed, and no network; or the program is that
-of FOLDER). crates/trials gets the trial lines, the five false friends and the oracle's other cases, one session behind the other; crates/replay gets
-examples/token.script. The lines `#= LINE` of the cases, by hand from the scope, stay in the script behind their calls, and the trail is held to them here.
-With --check nothing is written: the files have to be what would be written.
+of FOLDER). crates/trials gets the trial lines, the five false friends, the oracle's other cases and the scripts of tests/released, one session behind the
+other; crates/replay gets examples/token.script. The oracle's cases with a release are left out, and each has to have its like in tests/released. The lines
+`#= LINE`, by hand from the scope, stay in the script behind their calls. Before a release the oracle's trail is held to them here, and behind one every call
+has to have its own (releases.py). With --check nothing is written: the files have to be what would be written.
 """
 import glob
 import os
 import subprocess
 import sys
+
+HERE = os.path.dirname(os.path.abspath(__file__))
+sys.path.insert(0, HERE)
+import releases  # noqa: E402
 
 PARTS = [
     ("Trial lines", lambda n: n < 20),
@@ -36,22 +42,12 @@ def run(oracle, script):
     done = subprocess.run([oracle], input=script.encode(), capture_output=True)
     if done.returncode:
         sys.exit(f"the oracle ended with {done.returncode}: {done.stderr.decode()}")
-    return done.stdout.decode()
+    return done.stdout.decode().splitlines()
 
 
-def hold_to_hand(script, trail):
-    """The lines by hand, each against the answer of the call above it."""
-    place, hand = -1, 0
-    for number, line in enumerate(script.splitlines(), 1):
-        if line.startswith("#= "):
-            hand += 1
-            if trail[place] != line[3:]:
-                sys.exit(f"line {number}: by hand {line[3:]}, the oracle {trail[place]}")
-        elif line and not line.startswith("#") and line.split()[0] not in ("now", "out", "buffer"):
-            place += 1
-    if place + 1 != len(trail):
-        sys.exit(f"{len(trail)} lines for {place + 1} calls")
-    return place + 1, hand
+def read(folder):
+    """The scripts of a folder, by the number that their name begins with."""
+    return {int(os.path.basename(path)[:2]): path for path in glob.glob(f"{folder}/*.script")}
 
 
 def main():
@@ -59,34 +55,39 @@ def main():
     folders = sys.argv[1 + check:]
     if len(folders) not in (1, 2):
         sys.exit(__doc__)
-    cases = {int(os.path.basename(p)[:2]): p for p in glob.glob(f"{folders[0]}/cases/*.script")}
+    cases, own = read(f"{folders[0]}/cases"), read(f"{HERE}/released")
     oracle = f"{folders[-1]}/target/release/oracle"
     scripts = {number: open(path).read().splitlines() for number, path in cases.items()}
+    for number in [number for number, script in scripts.items() if releases.within(script)]:
+        if os.path.basename(own.get(number, "")) != os.path.basename(cases[number]):
+            sys.exit(f"{cases[number]} has a release, and tests/released no script of that name")
+        del scripts[number]
     scripts[24] = held_ids(cases)
-    lines = ["# Written by tests/write_trials.py. A line that begins with #= is what the call above it answers, by hand from the scope; stdout is what the crate's own Rust answers."]
-    for part, chosen in PARTS:
+    parts = [(part, [(number, scripts[number]) for number in sorted(filter(chosen, scripts))]) for part, chosen in PARTS]
+    parts.append(("Releases", [(number, open(own[number]).read().splitlines()) for number in sorted(own)]))
+    lines = ["# Written by tests/write_trials.py. A line that begins with #= is what the call above it answers, by hand from the scope; stdout is what the crate's own "
+             "Rust answers and, from the first seat or interface release of a session on, what these lines say."]
+    one_by_one = []
+    for part, chosen in parts:
         lines += ["", f"# ---- {part}"]
-        for number in sorted(filter(chosen, scripts)):
-            script = scripts[number]
+        for number, script in chosen:
             title = script[0].replace("* ", "").replace("# ", "")
             lines += ["", f"# {number:02}: {title}"] + SETTINGS + script[1:]
+            one_by_one += releases.expected(script, run(oracle, "\n".join(script) + "\n"))[0]
     text = "\n".join(lines) + "\n"
-    trail = run(oracle, text)
-    calls, hand = hold_to_hand(text, trail.splitlines())
-    kept = "".join(open(cases[n][: -len("script")] + "trail").read() if n in cases else run(oracle, "\n".join(scripts[n]) + "\n")
-                   for _, chosen in PARTS for n in sorted(filter(chosen, scripts)))
-    if kept != trail:
-        sys.exit("the trail is not that of the cases one by one")
+    trail, hand = releases.expected(lines, run(oracle, text))
+    if one_by_one != trail:
+        sys.exit("the trail is not that of the scripts one by one")
     token = open("examples/token.script").read()
     for name, script, expected in [("trials", text, trail), ("replay", token, run(oracle, token))]:
-        for kind, content in [("stdin", script), ("stdout", expected)]:
+        for kind, content in [("stdin", script), ("stdout", "".join(line + "\n" for line in expected))]:
             path = f"crates/{name}/{kind}"
             if check and open(path).read() != content:
                 sys.exit(f"{path} is not what would be written")
             if not check:
                 with open(path, "w") as f:
                     f.write(content)
-    print(f"{len(scripts)} scripts, {calls} calls, {hand} lines by hand")
+    print(f"{len(scripts) + len(own)} scripts, {len(trail)} calls, {hand} lines by hand")
 
 
 main()

@@ -1,0 +1,57 @@
+"""Seat and interface releases: what is compared with the crate where they are, and what judges them.
+
+In a running session the crate answers a seat's or an interface's release in another way than the scope now has it (docs/DIFFERENCES.md), and what follows
+it too. So no session with one is compared with the crate. Of a random script the releases are taken out before it is played (`without`): it stays a
+script, and all the rest of it is compared, where whole sessions would be lost otherwise. Those of the oracle's cases that have one (`within`) give way to
+the scripts of tests/released: up to the first release of a session their trail is the oracle's, from there on every line is by hand (`expected`). A
+release during the handshake is refused there, like any other request, and stays. So does a device's release, which only tells the station.
+"""
+import sys
+
+RELEASES = {f"{name}.release" for name in ("seat", "pointer", "pointer_absolute", "scroll", "button", "keyboard", "touchscreen", "text")}
+SETTINGS = ("now", "out", "buffer")
+
+
+def is_call(line):
+    return line and not line.startswith("#") and line.split()[0] not in SETTINGS
+
+
+def is_release(line):
+    return line.split(" ")[0] in RELEASES
+
+
+def marked(lines):
+    """Each line, and whether its session has a release in it or above it. Behind a Finish a session is taken to run, though that Finish may be refused."""
+    running = released = False
+    for line in lines:
+        if line.startswith("start "):
+            running = released = False
+        running = running or line == "handshake.finish"
+        released = released or running and is_release(line)
+        yield line, released
+
+
+def within(lines):
+    return any(released for _, released in marked(lines))
+
+
+def without(script):
+    return "".join(line + "\n" for line, released in marked(script.splitlines()) if not (released and is_release(line)))
+
+
+def expected(lines, trail):
+    """The trail that a script has to have, of the oracle's and the script's lines by hand; and how many these are."""
+    calls, hand = [], {}
+    for line, released in marked(lines):
+        if line.startswith("#= "):
+            hand[len(calls) - 1] = line[3:]
+        elif is_call(line):
+            calls.append((line, released))
+    if len(calls) != len(trail):
+        sys.exit(f"{len(trail)} lines for {len(calls)} calls")
+    for place, (call, released) in enumerate(calls):
+        if released and place not in hand:
+            sys.exit(f"call {place + 1}, {call}: no line by hand, though a release is above")
+        if not released and hand.get(place, trail[place]) != trail[place]:
+            sys.exit(f"call {place + 1}, {call}: by hand {hand[place]}, the oracle {trail[place]}")
+    return [hand[place] if released else trail[place] for place, (_, released) in enumerate(calls)], len(hand)
