@@ -4,12 +4,15 @@
 usage: equations.py SCRIPT TRAIL > NAME.antt
 
 TRAIL is what the oracle writes of SCRIPT (target/release/oracle in its folder, which `./build.sh` there builds; Rust is needed, and no network).
-A session begins with each accepted handshake.finish; the handshake itself is no part of the definitions, and what it settled (connection,
-serial, versions) is read off the trail. An equation says that the trail of the session's calls, as the definitions compute it, is the given
-one: each call's answer, its event records as one number (0x1 and then the bytes, so that none is lost) and what next_request gave. antt
-checks it by computation, with the trail as a literal on the right.
+From the first seat or interface release of a session on, the lines by hand of SCRIPT are taken in its stead (releases.py). A session begins with
+each accepted handshake.finish; the handshake itself is no part of the definitions, and what it settled (connection, serial, versions) is read
+off the trail. An equation says that the trail of the session's calls, as the definitions compute it, is the given one: each call's answer, its
+event records as one number (0x1 and then the bytes, so that none is lost) and what next_request gave. antt checks it by computation, with the
+trail as a literal on the right.
 """
 import sys
+
+import releases
 
 INTERFACES = ["connection", "callback", "pingpong", "seat", "device", "pointer", "pointer_absolute", "scroll", "button", "keyboard",
               "touchscreen", "text"]
@@ -223,7 +226,7 @@ def sessions(script, trail):
 
 
 USES = """-- {title}
--- Made by tests/equations.py from a call script and the oracle's trail of it. Assumes nothing.
+-- Made by tests/equations.py from a call script and {source}. Assumes nothing.
 use mathlib.Core.Path.{{_≡_, refl}}
 use mathlib.Core.Bool.{{true, false}}
 use mathlib.Core.List.{{List, [], _∷_}}
@@ -243,7 +246,8 @@ use Rattle.model_cases.specs.Line.{{Line, line, f32, an, turn, computed}
 
 
 def module(title, script, trail):
-    parts = [USES.format(title=title)]
+    source = "its trail: the oracle's, and by hand from the first release of a session on" if releases.within(script) else "the oracle's trail of it"
+    parts = [USES.format(title=title, source=source)]
     for k, s in enumerate(sessions(script, trail), 1):
         connection, serial, following, versions = s["start"]
         turns = " ∷\n    ".join(f"turn ({c}) {now} {room}" for c, now, room in s["turns"])
@@ -262,7 +266,7 @@ def main():
     with open(sys.argv[1]) as f:
         script = f.read().split("\n")
     with open(sys.argv[2]) as f:
-        trail = f.read().split("\n")
+        trail, _ = releases.expected(script, f.read().splitlines())
     title = script[0][2:] if script[0].startswith("# ") else "A random script."
     print(module(title, script, trail), end="")
 

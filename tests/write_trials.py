@@ -15,10 +15,9 @@ import os
 import subprocess
 import sys
 
-HERE = os.path.dirname(os.path.abspath(__file__))
-sys.path.insert(0, HERE)
-import releases  # noqa: E402
+import releases
 
+HERE = os.path.dirname(os.path.abspath(__file__))
 PARTS = [
     ("Trial lines", lambda n: n < 20),
     ("False friends", lambda n: 20 <= n < 30),

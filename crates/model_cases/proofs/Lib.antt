@@ -12,3 +12,11 @@ pub mod NotNegotiated
 pub mod Fields
 pub mod PausedRemoved
 pub mod CancelVersion
+pub mod ReleasedInterface
+pub mod ReleasedSeat
+pub mod UnknownSeat
+pub mod ReleasedPending
+pub mod ReleaseRoom
+pub mod ReleasedPlaces
+pub mod ReleasedTouch
+pub mod ReleaseSerials

@@ -1,5 +1,5 @@
--- Interface Release unlinks, the device still lists it; a released seat stays in the table.
--- Made by tests/equations.py from a call script and the oracle's trail of it. Assumes nothing.
+-- A released interface leaves its device's list, a released seat the table with its devices; a second release is ignored.
+-- Made by tests/equations.py from a call script and its trail: the oracle's, and by hand from the first release of a session on. Assumes nothing.
 use mathlib.Core.Path.{_≡_, refl}
 use mathlib.Core.Bool.{true, false}
 use mathlib.Core.List.{List, [], _∷_}
@@ -36,7 +36,10 @@ calls1 =
     turn (plain (Plain.addDevice 0xff00000000000001 none DeviceType.Physical 4)) 0 4096 ∷
     turn (plain (Plain.removeDevice 0xff00000000000002)) 0 4096 ∷
     turn (plain (Plain.hasCapability 0xff00000000000002 DeviceCapability.Keyboard)) 0 4096 ∷
-    turn (plain (Plain.removeSeat 0xff00000000000001)) 0 4096 ∷ []
+    turn (plain (Plain.removeSeat 0xff00000000000001)) 0 4096 ∷
+    turn (plain (Plain.nextRequest)) 0 254 ∷
+    turn (plain (Plain.nextRequest)) 0 254 ∷
+    turn (plain (Plain.lastSerial)) 0 4096 ∷ []
 
 abbrev trail1 : List Line
 trail1 =
@@ -46,19 +49,22 @@ trail1 =
     line (accepted) 0x1280eff0000000000000500000008 [] ∷
     line (accepted) 0x1 [] ∷
     line (accepted) 0x1 [] ∷
-    line (truth true) 0x1 [] ∷
+    line (truth false) 0x1 [] ∷
     line (accepted) 0x1 [] ∷
     line (accepted) 0x1 [] ∷
     line (Result.given) 0x1 (Queued.timed 0xff00000000000002 3 (an Kind.KeyboardKey 0 0 (Load.KeyPress 30 KeyState.Press)) ∷ []) ∷
-    line (accepted) 0x1280eff0000000000000100000009 [] ∷
-    line (accepted) 0x1280eff000000000000010000000a [] ∷
-    line (accepted) 0x1280e00000000000000050000000b [] ∷
-    line (accepted) 0x1280eff000000000000020000000c [] ∷
+    line (accepted) 0x1280eff0000000000000300000009280eff000000000000040000000a280eff000000000000060000000b280eff000000000000070000000c280eff000000000000080000000d280eff000000000000090000000e280eff000000000000020000000f280eff0000000000000100000010 [] ∷
     line (accepted) 0x1 [] ∷
-    line (Result.device 0xff0000000000000a) 0x13016ff00000000000001ff0000000000000a00000003380eff0000000000000a000000024017ff0000000000000aff0000000000000b0a00000001200aff0000000000000a [] ∷
-    line (accepted) 0x1280eff000000000000030000000d280eff000000000000040000000e280eff000000000000050000000f280eff0000000000000600000010280eff0000000000000700000011280eff0000000000000800000012280eff0000000000000900000013280eff0000000000000200000014 [] ∷
+    line (accepted) 0x1 [] ∷
+    line (accepted) 0x1 [] ∷
+    line (accepted) 0x1 [] ∷
     line (refused 12) 0x1 [] ∷
-    line (accepted) 0x1280eff0000000000000b00000015280eff0000000000000a00000016280eff0000000000000100000017 [] ∷ []
+    line (refused 12) 0x1 [] ∷
+    line (refused 12) 0x1 [] ∷
+    line (refused 12) 0x1 [] ∷
+    line (Result.given) 0x1 (Queued.untimed (Untimed.Frame 0xff00000000000002 8 3) ∷ []) ∷
+    line (Result.none) 0x1 [] ∷
+    line (value 16) 0x1 [] ∷ []
 
 pub agrees1 : computed 0xff00000000000000 7 0xff00000000000001 ((some 1) ∷ (some 1) ∷ (some 1) ∷ (some 2) ∷ (some 3) ∷ (some 1) ∷ (some 1) ∷ (some 1) ∷ (some 1) ∷ (some 1) ∷ (some 2) ∷ (some 1) ∷ []) calls1 ≡ trail1
 unfolding computed

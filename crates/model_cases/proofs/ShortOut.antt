@@ -1,5 +1,5 @@
--- 19, at one byte less and at what is needed; nothing changes when refused.
--- Made by tests/equations.py from a call script and the oracle's trail of it. Assumes nothing.
+-- 19, at one byte less and at what is needed; nothing changes when refused, and an unknown seat's release needs no byte.
+-- Made by tests/equations.py from a call script and its trail: the oracle's, and by hand from the first release of a session on. Assumes nothing.
 use mathlib.Core.Path.{_≡_, refl}
 use mathlib.Core.Bool.{true, false}
 use mathlib.Core.List.{List, [], _∷_}
@@ -34,12 +34,14 @@ calls1 =
     turn (plain (Plain.frame 0xff00000000000002 1)) 0 21 ∷
     turn (plain (Plain.removeDevice 0xff00000000000002)) 0 27 ∷
     turn (plain (Plain.removeSeat 0xff00000000000001)) 0 41 ∷
+    turn (plain (Plain.seatRelease 0xff00000000000001)) 0 41 ∷
     turn (plain (Plain.disconnected DisconnectReason.Error (some (0x61 ∷ 0x61 ∷ [])))) 0 62 ∷
     turn (plain (Plain.lastSerial)) 0 62 ∷
     turn (timed 0xff00000000000003 1 (Input.MotionRelative (f32 0x3f800000) (f32 0x3f800000))) 0 0 ∷
     turn (plain (Plain.deviceReady 0xff00000000000002)) 0 0 ∷
     turn (timed 0xff00000000000003 1 (Input.MotionRelative nan (f32 0x80000000))) 0 0 ∷
     turn (plain (Plain.pingpongDone)) 0 0 ∷
+    turn (plain (Plain.seatRelease 0xff00000000000002)) 0 0 ∷
     turn (plain (Plain.disconnected DisconnectReason.Error (some (0x61 ∷ 0x61 ∷ [])))) 0 63 ∷
     turn (plain (Plain.nextRequest)) 0 254 ∷
     turn (plain (Plain.nextRequest)) 0 254 ∷
@@ -57,7 +59,7 @@ trail1 =
     line (refused 19) 0x1 [] ∷
     line (refused 19) 0x1 [] ∷
     line (refused 19) 0x1 [] ∷
-    line (refused 19) 0x1 [] ∷
+    line (accepted) 0x1 [] ∷
     line (value 7) 0x1 [] ∷
     line (refused 19) 0x1 [] ∷
     line (refused 19) 0x1 [] ∷
@@ -65,7 +67,9 @@ trail1 =
     line (refused 19) 0x1 [] ∷
     line (refused 19) 0x1 [] ∷
     line (refused 19) 0x1 [] ∷
+    line (refused 19) 0x1 [] ∷
     line (value 7) 0x1 [] ∷
+    line (accepted) 0x1 [] ∷
     line (accepted) 0x1 [] ∷
     line (accepted) 0x1 [] ∷
     line (accepted) 0x1 [] ∷
