@@ -73,7 +73,7 @@ enum bozterrun_answer {
     BOZTERRUN_NAME_LONG = 11, /* a name or an explanation of more than 254 bytes */
 
     /* What the station can cause. */
-    BOZTERRUN_UNKNOWN_HANDLE = 12,   /* a seat or a device that does not stand: removed, or never added */
+    BOZTERRUN_UNKNOWN_HANDLE = 12,   /* no such seat or device stands: removed, gone with its seat, or never added */
     BOZTERRUN_BAD_CAPABILITIES = 13, /* a bit above bit 6 in the mask of an added seat or device */
 
     /* Limits. Nothing is lost: make room, then make the same call again. */
@@ -788,11 +788,14 @@ static inline uint32_t bz_seat_request_device(bozterrun_session *session, uint64
 }
 
 /*
- * The client releases a seat. Writes destroyed, 14 bytes, for any id; a seat that stands goes on standing.
+ * The client releases a seat. A seat that stands goes with its devices, as at bz_remove_seat: what they have pending is
+ * dropped, what is queued stays. Writes destroyed, 14 bytes, for each object, 910 bytes at most: device by device its
+ * interfaces that are not yet released and the device, then the seat. One that is not known writes nothing.
  * Refuses BOZTERRUN_SHORT_OUT.
  */
-uint32_t bozterrun_seat_release(uint64_t *control, size_t control_length, uint64_t seat, uint8_t *out,
-                                size_t out_length, size_t *count);
+uint32_t bozterrun_seat_release(uint64_t *control, size_t control_length, uint64_t *words, size_t words_length,
+                                float *reals, size_t reals_length, uint64_t seat, uint8_t *out, size_t out_length,
+                                size_t *count);
 
 static inline uint32_t bz_seat_release(bozterrun_session *session, uint64_t seat, uint8_t *out, size_t out_length,
                                        size_t *count)
@@ -801,12 +804,13 @@ static inline uint32_t bz_seat_release(bozterrun_session *session, uint64_t seat
     if (session == NULL) {
         return bz_no_session(count, NULL);
     }
-    return bozterrun_seat_release(BZ_CONTROL(session), seat, BZ_OUT(out, out_length), BZ_OR(count, &spare));
+    return bozterrun_seat_release(BZ_ROWS(session), seat, BZ_OUT(out, out_length), BZ_OR(count, &spare));
 }
 
 /*
  * The client releases a device's interface, the one for this capability (BOZTERRUN_CAPABILITY_..). Writes destroyed,
- * 14 bytes, and requests on the interface then do nothing. One that is not known, or released, writes nothing.
+ * 14 bytes. The device lists it no longer: requests on it do nothing, and it is not destroyed again with the device.
+ * What is pending stays, and so does the device. One that is not known, or released, writes nothing.
  * Answers BOZTERRUN_BAD_ARGUMENT where the capability is not one of the seven. Refuses BOZTERRUN_SHORT_OUT.
  */
 uint32_t bozterrun_interface_release(uint64_t *control, size_t control_length, uint64_t capability,
@@ -980,7 +984,8 @@ static inline uint32_t bz_add_device(bozterrun_session *session, uint64_t seat, 
 
 /*
  * Removes a seat with its devices, or a device. What a removed device has pending is dropped, what is queued stays.
- * Writes destroyed for each object: 910 bytes at most for a seat, 112 for a device.
+ * Writes destroyed for each object but the interfaces that were released: 910 bytes at most for a seat, 112 for a
+ * device.
  * Each refuses BOZTERRUN_UNKNOWN_HANDLE; BOZTERRUN_SHORT_OUT.
  */
 uint32_t bozterrun_remove_seat(uint64_t *control, size_t control_length, uint64_t *words, size_t words_length,
@@ -1152,7 +1157,8 @@ static inline uint32_t bz_interface_version(const bozterrun_session *session, co
 }
 
 /*
- * Whether the device lists an interface for this capability (BOZTERRUN_CAPABILITY_..), released or not: 1 or 0.
+ * Whether the device lists an interface for this capability (BOZTERRUN_CAPABILITY_..): 1, or 0 for none and for one
+ * that the client has released.
  * Answers BOZTERRUN_BAD_ARGUMENT where the capability is not one of the seven. Refuses BOZTERRUN_UNKNOWN_HANDLE.
  */
 uint32_t bozterrun_has_capability(const uint64_t *control, size_t control_length, uint64_t device,

@@ -6,9 +6,10 @@ usage: write_trials.py [--check] ORACLE [FOLDER]     run at the repository's roo
 
 ORACLE is the oracle's folder (cases/ in it; `./build.sh` there builds target/release/oracle, for which Rust is needed, and no network; or the program is that
 of FOLDER). crates/trials gets the trial lines, the five false friends, the oracle's other cases and the scripts of tests/released, one session behind the
-other; crates/replay gets examples/token.script. The oracle's cases with a release are left out, and each has to have its like in tests/released. The lines
-`#= LINE`, by hand from the scope, stay in the script behind their calls. Before a release the oracle's trail is held to them here, and behind one every call
-has to have its own (releases.py). With --check nothing is written: the files have to be what would be written.
+other; crates/replay gets examples/token.script. Of that script and of rust/tests/every.script, the Rust crate's tests get the trails. The oracle's cases with
+a release are left out, and each has to have its like in tests/released. The lines `#= LINE`, by hand from the scope, stay in the script behind their calls.
+Before a release the oracle's trail is held to them here, and behind one every call has to have its own (releases.py). With --check nothing is written: the
+files have to be what would be written.
 """
 import glob
 import os
@@ -77,15 +78,17 @@ def main():
     trail, hand = releases.expected(lines, run(oracle, text))
     if one_by_one != trail:
         sys.exit("the trail is not that of the scripts one by one")
-    token = open("examples/token.script").read()
-    for name, script, expected in [("trials", text, trail), ("replay", token, run(oracle, token))]:
-        for kind, content in [("stdin", script), ("stdout", "".join(line + "\n" for line in expected))]:
-            path = f"crates/{name}/{kind}"
-            if check and open(path).read() != content:
-                sys.exit(f"{path} is not what would be written")
-            if not check:
-                with open(path, "w") as f:
-                    f.write(content)
+    token, every = open("examples/token.script").read(), open("rust/tests/every.script").read()
+    files = {"crates/trials/stdin": lines, "crates/trials/stdout": trail, "crates/replay/stdin": token.splitlines()}
+    files["crates/replay/stdout"] = files["rust/tests/token.trail"] = run(oracle, token)
+    files["rust/tests/every.trail"] = releases.expected(every.splitlines(), run(oracle, every))[0]
+    for path, content in files.items():
+        content = "".join(line + "\n" for line in content)
+        if check and open(path).read() != content:
+            sys.exit(f"{path} is not what would be written")
+        if not check:
+            with open(path, "w") as f:
+                f.write(content)
     print(f"{len(scripts) + len(own)} scripts, {len(trail)} calls, {hand} lines by hand")
 
 

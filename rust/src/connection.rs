@@ -457,7 +457,7 @@ impl Connection {
         answer(status, out, count)
     }
 
-    /// Whether the device has an interface for the capability, released or not.
+    /// Whether the device has an interface for the capability that the client has not released.
     ///
     /// # Errors
     ///
@@ -481,9 +481,10 @@ impl Connection {
         }
     }
 
-    /// The device's interface for the capability, if it has one, released or not.
+    /// The device's interface for the capability, if it has one that the client has not released.
     ///
-    /// The ids of a device's interfaces follow its own, in the order of the capabilities' bits.
+    /// The ids of a device's interfaces follow its own, in the order of the capabilities' bits. They stay as they are
+    /// when another one is released.
     ///
     /// ```
     /// # include!(concat!(env!("CARGO_MANIFEST_DIR"), "/tests/begin/mod.rs"));
@@ -509,12 +510,8 @@ impl Connection {
         if !self.has_capability(device, capability)? {
             return Ok(None);
         }
-        let mut id = device.id().wrapping_add(1);
-        for lower in DeviceCapability::ALL {
-            if lower.bits() < capability.bits() && self.has_capability(device, lower)? {
-                id = id.wrapping_add(1);
-            }
-        }
+        let lower = self.session.made_with(device) & (capability.bits() - 1);
+        let id = device.id().wrapping_add(1 + u64::from(lower.count_ones()));
         // An interface with no negotiated version gets version 1.
         let version = self.interface_version(capability.interface().name().as_bytes())?;
         Ok(Some(Object::new(id, version.unwrap_or(1))))

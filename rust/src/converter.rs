@@ -119,8 +119,8 @@ impl EisRequestConverter {
     /// Handles a client's request. `now` is the clock: the time of a frame that the client has left open when it
     /// sends Ready, StartEmulating, StopEmulating or the Release of a device.
     ///
-    /// A request on an object that is not known is accepted and does nothing. At most 18 bytes are written, and only
-    /// for a Sync and for the Release of a seat or of an interface.
+    /// A request on an object that is not known is accepted and does nothing. Events are written for a Sync (18
+    /// bytes), for the Release of an interface (14) and for that of a seat, which goes with its devices (910 at most).
     ///
     /// ```
     /// # include!(concat!(env!("CARGO_MANIFEST_DIR"), "/tests/begin/mod.rs"));
@@ -289,13 +289,19 @@ impl EisRequestConverter {
     }
 
     fn release_seat<'o>(&mut self, seat: Seat, out: &'o mut [u8]) -> Result<Events<'o>, Refusal> {
-        let control = &mut self.session().control;
+        let Session {
+            control, words, reals, ..
+        } = self.session();
         let mut count = 0;
-        // SAFETY: the control words, `out` and the number are borrowed mutably for the call.
+        // SAFETY: the three slices, `out` and the number are borrowed mutably for the call.
         let status = unsafe {
             sys::bozterrun_seat_release(
                 control.as_mut_ptr(),
                 control.len(),
+                words.as_mut_ptr(),
+                words.len(),
+                reals.as_mut_ptr(),
+                reals.len(),
                 seat.id(),
                 out.as_mut_ptr(),
                 out.len(),

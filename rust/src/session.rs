@@ -1,5 +1,6 @@
 //! The memory of a session: the four slices that the library is lent, in one allocation.
 
+use crate::Device;
 use std::alloc::{alloc_zeroed, handle_alloc_error, Layout};
 
 pub(crate) const HANDSHAKE_LENGTH: usize = 17;
@@ -14,8 +15,8 @@ pub const TEXTS_LENGTH: usize = 8192;
 /// What the library answers where there is nothing to give, which is no refusal.
 pub(crate) const NONE: u32 = 64;
 
-/// The four slices of a session. What they hold is the library's: nothing here reads them, and no bytes in them make
-/// a call unsound.
+/// The four slices of a session. What they hold is the library's: `made_with` alone reads them, and no bytes in them
+/// make a call unsound.
 #[doc(hidden)]
 #[repr(C)]
 pub struct Session {
@@ -37,6 +38,17 @@ impl Session {
         // SAFETY: the allocator gave the pointer for this very layout, it is not null and nobody else has it; and
         // all bits zero are a value of every field, which are arrays of numbers.
         unsafe { Box::from_raw(session) }
+    }
+
+    /// The capabilities that a device was made with, released ones among them: no call of the library tells them. The
+    /// rows of the devices are crates/control/src/layout.rt's.
+    pub(crate) fn made_with(&self, device: Device) -> u64 {
+        const DEVICES: usize = 32;
+        const DEVICE_WORDS: usize = 24;
+        const CAPABILITIES: usize = 2;
+        let mut rows = self.control[DEVICES..].chunks_exact(DEVICE_WORDS);
+        rows.find(|row| row[0] == device.id())
+            .map_or(0, |row| row[CAPABILITIES])
     }
 }
 

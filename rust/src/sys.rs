@@ -298,6 +298,10 @@ extern "C" {
     pub fn bozterrun_seat_release(
         control: *mut u64,
         control_length: usize,
+        words: *mut u64,
+        words_length: usize,
+        reals: *mut f32,
+        reals_length: usize,
         seat: u64,
         out: *mut u8,
         out_length: usize,

@@ -3,8 +3,10 @@
 mod begin;
 
 use begin::begin;
-use bozterrun::eis::Object;
-use bozterrun::{Device, DeviceCapability, DeviceType, DisconnectReason, Event, EventKind, Events, Interface, Seat};
+use bozterrun::eis::{seat, touchscreen, Object, Request};
+use bozterrun::{
+    Device, DeviceCapability, DeviceType, DisconnectReason, Event, EventKind, Events, Interface, Refusal, Seat,
+};
 use std::io::{self, Write};
 use std::{env, fs, path::PathBuf};
 
@@ -324,9 +326,9 @@ fn the_iterator_stops_at_what_is_no_record() {
     assert_eq!(events.as_bytes(), &two[10..]);
 }
 
-/// What a seat and a device are announced with, in the words of docs/API.md.
+/// What a seat and a device are announced with, in the words of docs/API.md, and what their releases write.
 #[test]
-fn a_seat_and_a_device_are_announced() {
+fn a_seat_and_a_device_are_announced_and_released() {
     let mut converter = begin(7);
     let mut out = [0; bozterrun::OUT_LENGTH];
     let both = DeviceCapability::Touch | DeviceCapability::Text;
@@ -387,6 +389,27 @@ fn a_seat_and_a_device_are_announced() {
     assert_eq!(told, wanted);
     assert_eq!(converter.handle().interface(device, touch), Ok(Some(first)));
     assert_eq!(converter.handle().interface(device, text), Ok(Some(second)));
+
+    // What is released is destroyed once and listed no longer; the other interface keeps its id.
+    let destroyed = |object, serial| Event {
+        object,
+        kind: EventKind::Destroyed { serial },
+    };
+    let released = Request::Touchscreen(first, touchscreen::Request::Release);
+    let events = converter.handle_request(released, 0, &mut out).expect("it fits");
+    assert_eq!(events.collect::<Vec<_>>(), [destroyed(first.id, 8)]);
+    assert_eq!(converter.handle().interface(device, touch), Ok(None));
+    assert_eq!(converter.handle().interface(device, text), Ok(Some(second)));
+    let released = Request::Seat(seat, seat::Request::Release);
+    let events = converter.handle_request(released, 0, &mut out).expect("it fits");
+    let wanted = [
+        destroyed(second.id, 9),
+        destroyed(device.id(), 10),
+        destroyed(seat.id(), 11),
+    ];
+    assert_eq!(events.collect::<Vec<_>>(), wanted);
+    let unknown = Err(Refusal::UnknownHandle);
+    assert_eq!(converter.handle().interface(device, text), unknown);
 }
 
 /// Every record of the oracle's trails decodes, and by the table its event has these very bytes.

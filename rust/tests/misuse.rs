@@ -402,7 +402,7 @@ fn handles_that_do_not_stand_are_refused() {
     });
 }
 
-/// A client's request on an object that is not known is accepted and does nothing, but for the Release of a seat.
+/// A client's request on an object that is not known is accepted and does nothing.
 #[test]
 fn requests_on_unknown_objects_do_nothing() {
     let mut converter = with_device();
@@ -452,6 +452,10 @@ fn requests_on_unknown_objects_do_nothing() {
         &mut converter,
         Request::Seat(Seat(5), seat::Request::Bind { capabilities: u64::MAX }),
     );
+    // Neither a device nor an interface is a seat.
+    for id in [0, 5, u64::MAX, DEVICE.id(), interface(2).id] {
+        accept(&mut converter, Request::Seat(Seat(id), seat::Request::Release));
+    }
     // A keyboard is no pointer.
     let motion = pointer::Request::MotionRelative { x: 1.0, y: 1.0 };
     accept(&mut converter, Request::Pointer(interface(2), motion));
@@ -623,7 +627,8 @@ fn buffers_that_are_too_short_are_refused_and_are_left() {
     let named = DeviceCapability::Keyboard | DeviceCapability::Text;
     let calls: Vec<(usize, Call)> = vec![
         (18, sent(Request::Connection(connection::Request::Sync { callback }))),
-        (14, sent(Request::Seat(SEAT, seat::Request::Release))),
+        // Seven interfaces, the device and the seat.
+        (9 * 14, sent(Request::Seat(SEAT, seat::Request::Release))),
         (14, sent(Request::Keyboard(interface(2), keyboard::Request::Release))),
         (14, sent(Request::Text(interface(6), text::Request::Release))),
         // A seat, its name, two capabilities, done.

@@ -1,4 +1,5 @@
-//! Call scripts: the crate answers as the oracle does, which is the original's own Rust.
+//! Call scripts: the crate answers as the oracle does, which is the original's own Rust, and as by hand where the scope
+//! has other answers.
 //!
 //! Most need the oracle, a program that is no part of the repository. With its folder in BOZTERRUN_ORACLE they run;
 //! without it they say that they were left out.
@@ -71,9 +72,9 @@ fn output_of(command: &mut Command, input: Vec<u8>) -> Vec<u8> {
     output.stdout
 }
 
-/// The oracle's trails of these two are checked in: this test needs no oracle.
+/// The trails of these two are checked in: this test needs no oracle, of which they are, and by hand behind a release.
 #[test]
-fn scripts_with_a_trail_are_answered_as_the_oracle_does() {
+fn scripts_with_a_trail_are_answered_by_it() {
     let token = (include_str!("../../examples/token.script"), include_str!("token.trail"));
     let every = (include_str!("every.script"), include_str!("every.trail"));
     for (name, (script, wanted)) in [("token", token), ("every", every)] {
@@ -81,6 +82,42 @@ fn scripts_with_a_trail_are_answered_as_the_oracle_does() {
         assert_eq!(stopped, None, "{name}");
         compare(name, &trail, wanted);
     }
+}
+
+/// The scripts with releases say themselves what is answered: their lines `#=` are by hand, each behind its call.
+#[test]
+fn releases_are_answered_as_by_hand() {
+    let mut told = 0;
+    for entry in fs::read_dir("../tests/released").expect("the folder is there") {
+        let path = entry.expect("the folder can be read").path();
+        let script = fs::read_to_string(&path).expect("a script can be read");
+        let (trail, stopped) = trail_of(script.as_bytes());
+        assert_eq!(stopped, None, "{}", path.display());
+        let mut answers = trail.lines();
+        let mut answer = None;
+        for line in script.lines() {
+            if let Some(wanted) = line.strip_prefix("#= ") {
+                assert_eq!(answer, Some(wanted), "{}", path.display());
+                told += 1;
+            } else if !["", "#", "now", "out", "buffer"].contains(&line.split(' ').next().unwrap_or("")) {
+                answer = answers.next();
+            }
+        }
+        assert_eq!(answers.next(), None, "{}", path.display());
+    }
+    assert!(told > 0, "lines by hand");
+}
+
+/// A script without the releases of seats and interfaces in its sessions: tests/releases.py says why these are not
+/// compared.
+fn without_releases(script: &str) -> String {
+    let mut running = false;
+    let kept = script.lines().filter(|line| {
+        running = (running || *line == "handshake.finish") && !line.starts_with("start ");
+        let verb = line.split(' ').next().unwrap_or("");
+        !(running && verb.ends_with(".release") && verb != "device.release")
+    });
+    kept.fold(String::new(), |script, line| script + line + "\n")
 }
 
 #[test]
@@ -92,9 +129,12 @@ fn the_cases_are_answered_as_the_oracle_does() {
     for entry in fs::read_dir(oracle.join("cases")).expect("the oracle has cases") {
         let path = entry.expect("the folder can be read").path();
         if path.extension().is_some_and(|extension| extension == "script") {
-            let script = fs::read(&path).expect("a script can be read");
+            let script = fs::read_to_string(&path).expect("a script can be read");
+            if without_releases(&script) != script {
+                continue;
+            }
             let wanted = fs::read_to_string(path.with_extension("trail")).expect("a case has a trail");
-            let (trail, stopped) = trail_of(&script);
+            let (trail, stopped) = trail_of(script.as_bytes());
             assert_eq!(stopped, None, "{}", path.display());
             compare(&path.display().to_string(), &trail, &wanted);
             cases += 1;
@@ -116,10 +156,11 @@ fn random_scripts_are_answered_as_the_oracle_does() {
                 .args([&seed.to_string(), "400", "--profile", profile])
                 .env("PYTHONHASHSEED", "0");
             let script = output_of(&mut generator, Vec::new());
+            let script = without_releases(&String::from_utf8(script).expect("a script is ASCII"));
             let mut program = Command::new(oracle.join("target/release/oracle"));
-            let wanted = output_of(&mut program, script.clone());
+            let wanted = output_of(&mut program, script.clone().into_bytes());
             let wanted = String::from_utf8(wanted).expect("a trail is ASCII");
-            let (trail, stopped) = trail_of(&script);
+            let (trail, stopped) = trail_of(script.as_bytes());
             assert_eq!(stopped, None, "seed {seed}, {profile}");
             compare(&format!("seed {seed}, {profile}"), &trail, &wanted);
             answers += wanted.lines().count();

@@ -218,7 +218,7 @@ CALL(device_ready, L_ROWS, with.device, 503)
 CALL(device_frame, L_ROWS, with.device, 7, 504)
 CALL(seat_bind, L_ROWS, with.seat, 127)
 CALL(seat_request_device, L_ROWS, with.seat, 4)
-CALL(seat_release, L_CONTROL, with.seat, L_OUT)
+CALL(seat_release, L_ROWS, with.seat, L_OUT)
 CALL(interface_release, L_CONTROL, with.capability, interface_of(2), L_OUT)
 CALL(connection_sync, L_CONTROL, 9, with.version - 1, L_OUT, PLACE_OF(uint32_t, FIRST), PLACE_OF(uint32_t, SECOND))
 CALL(connection_disconnect, L_ROWS)
@@ -296,7 +296,7 @@ static const call calls[] = {
     ROW(device_frame, M_ROWS, 0, 0, 0),
     ROW(seat_bind, M_ROWS, 0, 0, 0),
     ROW(seat_request_device, M_ROWS, 0, 0, 0),
-    ROW(seat_release, M_CONTROL, 0, 14, TELLS_COUNT),
+    ROW(seat_release, M_ROWS, 0, 9 * 14, TELLS_COUNT),
     ROW(interface_release, M_CONTROL, 0, 14, TELLS_COUNT),
     ROW(connection_sync, M_CONTROL, 0, 18, TELLS_COUNT | TELLS_TWO),
     ROW(connection_disconnect, M_ROWS, 0, 0, 0),
