@@ -3,21 +3,19 @@
 
 usage: compare_sessions.py ORACLE FIRST LAST [CALLS [REPLAY]]     run at the repository's root, after `rt check replay`
 
-ORACLE is the oracle's folder (gen.py in it; `./build.sh` there builds target/release/oracle; Rust is needed, and no network). For each seed from FIRST to LAST, one script of about CALLS calls (400) for each of
-gen.py's six profiles. Trails are compared line by line; the first line that differs of each script is printed with its call. What the answers were is
-counted, so that it can be seen what the scripts reached. gen.py goes through sets, so its scripts are the same at each run only with PYTHONHASHSEED=0, which
-is set here.
+ORACLE is the oracle's folder (gen.py in it; `./build.sh` there builds target/release/oracle; Rust is needed, and no network). For each seed from FIRST to
+LAST, one script of about CALLS calls (400) for each of gen.py's six profiles, without its seat and interface releases (releases.py). Trails are compared line
+by line; the first line that differs of each script is printed with its call. What the answers were is counted, so that it can be seen what the scripts reached.
+gen.py goes through sets, so its scripts are the same at each run only with PYTHONHASHSEED=0, which is set here.
 """
 import collections
 import os
 import subprocess
 import sys
 
+import releases
+
 PROFILES = ["mixed", "limits", "touch", "text", "removal", "frames"]
-
-
-def calls_of(script):
-    return [line for line in script.splitlines() if line and not line.startswith("#") and line.split()[0] not in ("now", "out", "buffer")]
 
 
 def main():
@@ -32,8 +30,9 @@ def main():
     for seed in range(first, last + 1):
         for profile in PROFILES:
             made = subprocess.run([f"{oracle}/gen.py", str(seed), count, "--profile", profile], env=env, capture_output=True, check=True)
-            theirs = subprocess.run([f"{oracle}/target/release/oracle"], input=made.stdout, capture_output=True)
-            ours = subprocess.run([replay], input=made.stdout, capture_output=True)
+            script = releases.without(made.stdout.decode())
+            theirs = subprocess.run([f"{oracle}/target/release/oracle"], input=script.encode(), capture_output=True)
+            ours = subprocess.run([replay], input=script.encode(), capture_output=True)
             if theirs.returncode:
                 sys.exit(f"seed {seed} {profile}: the oracle ended with {theirs.returncode}")
             a, b = theirs.stdout.decode().splitlines(), ours.stdout.decode().splitlines()
@@ -45,7 +44,7 @@ def main():
             if a != b:
                 different += 1
                 place = next((i for i, pair in enumerate(zip(a, b)) if pair[0] != pair[1]), min(len(a), len(b)))
-                print(f"seed {seed} {profile}, call {place + 1}: {calls_of(made.stdout.decode())[place]}")
+                print(f"seed {seed} {profile}, call {place + 1}: {list(filter(releases.is_call, script.splitlines()))[place]}")
                 print(f"  oracle: {a[place] if place < len(a) else '(nothing)'}\n  replay: {b[place] if place < len(b) else '(nothing)'}")
     print(f"{scripts} scripts, {calls} calls, {different} scripts that differ")
     for answer, n in sorted(answers.items()):

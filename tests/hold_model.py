@@ -1,15 +1,15 @@
 #!/usr/bin/env python3
-"""Holds the definitions of the crate `model` to the oracle, on random call scripts or on the oracle's own cases.
+"""Holds the definitions of the crate `model` to the oracle, on random call scripts or on the oracle's own cases and those of tests/released.
 
 usage: hold_model.py ORACLE FIRST LAST [N]     run at the repository's root
        hold_model.py ORACLE cases
 
 ORACLE is the oracle's folder (gen.py and cases/ in it; `./build.sh` there builds target/release/oracle; Rust is needed, and no network). For the seeds
 FIRST to LAST and every profile of gen.py a script of about N calls (300) is made, or each script of cases/ is taken, and run through the oracle; equations.py
-turns script and trail into closed equations, and antt checks these in a copy of the crates. It prints what was compared, and stops with 1 at the first
-batch that does not agree.
+turns script and trail into closed equations, and antt checks these in a copy of the crates. Seat and interface releases are taken out of the random scripts;
+the cases with one are left out, and those of tests/released are taken, with what they have by hand (releases.py). It prints what was compared, and stops
+with 1 at the first batch that does not agree.
 """
-import glob
 import os
 import shutil
 import subprocess
@@ -19,6 +19,7 @@ import tempfile
 HERE = os.path.dirname(os.path.abspath(__file__))
 sys.path.insert(0, HERE)
 import equations  # noqa: E402
+import releases  # noqa: E402
 
 PROFILES = ["mixed", "limits", "touch", "text", "removal", "frames"]
 BATCH = 30
@@ -27,15 +28,16 @@ BATCH = 30
 def made(oracle, seed, profile, calls):
     # gen.py goes through sets of words, whose order hangs on the hash seed: with it fixed, a seed gives the same script at each run.
     fixed = {**os.environ, "PYTHONHASHSEED": "0"}
-    return subprocess.run([os.path.join(oracle, "gen.py"), str(seed), str(calls), "--profile", profile], capture_output=True, text=True, check=True, env=fixed).stdout
+    done = subprocess.run([os.path.join(oracle, "gen.py"), str(seed), str(calls), "--profile", profile], capture_output=True, text=True, check=True, env=fixed)
+    return releases.without(done.stdout)
 
 
 def scripts_of(oracle, words):
     """What is to be compared: for each script the name of its module, its title, and how to get it."""
     if words == ["cases"]:
-        for path in sorted(glob.glob(os.path.join(oracle, "cases/*.script"))):
+        for path, lines in releases.cases(oracle):
             number, _, name = os.path.basename(path)[:-len(".script")].partition("-")
-            yield f"Case{number}", f"Case {number}, {name}.", lambda path=path: open(path).read()
+            yield f"Case{number}", f"Case {number}, {name}.", lambda lines=lines: "\n".join(lines) + "\n"
         return
     calls = words[2] if len(words) == 3 else "300"
     for seed in range(int(words[0]), int(words[1]) + 1):
@@ -63,7 +65,8 @@ def main():
             for module, title, get in work[at:at + BATCH]:
                 text = get()
                 ran = subprocess.run([os.path.join(oracle, "target/release/oracle")], input=text, capture_output=True, text=True, check=True)
-                script, trail = text.split("\n"), ran.stdout.split("\n")
+                script = text.split("\n")
+                trail, _ = releases.expected(script, ran.stdout.splitlines())
                 found = equations.sessions(script, trail)
                 scripts, sessions, turns = scripts + 1, sessions + len(found), turns + sum(len(s["turns"]) for s in found)
                 modules.append(module)

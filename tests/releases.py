@@ -6,8 +6,11 @@ script, and all the rest of it is compared, where whole sessions would be lost o
 the scripts of tests/released: up to the first release of a session their trail is the oracle's, from there on every line is by hand (`expected`). A
 release during the handshake is refused there, like any other request, and stays. So does a device's release, which only tells the station.
 """
+import glob
+import os
 import sys
 
+HERE = os.path.dirname(os.path.abspath(__file__))
 RELEASES = {f"{name}.release" for name in ("seat", "pointer", "pointer_absolute", "scroll", "button", "keyboard", "touchscreen", "text")}
 SETTINGS = ("now", "out", "buffer")
 
@@ -33,6 +36,14 @@ def marked(lines):
 
 def within(lines):
     return any(released for _, released in marked(lines))
+
+
+def cases(oracle):
+    """The oracle's cases that have no release, then the scripts of tests/released: the path of each, and its lines."""
+    for path in sorted(glob.glob(os.path.join(oracle, "cases/*.script"))) + sorted(glob.glob(os.path.join(HERE, "released/*.script"))):
+        lines = open(path).read().splitlines()
+        if path.startswith(HERE) or not within(lines):
+            yield path, lines
 
 
 def without(script):
