@@ -13,8 +13,9 @@ docs/CALL-SCRIPTS.md:
   #~ ANSWER   what the crate answers to it, where that is something else
 
 Every script has to be named in docs/DIFFERENCES.md or docs/DECISIONS.md, and every script that is named there has to exist. With ORACLE, the oracle's folder
-(`./build.sh` in it builds target/release/oracle; Rust is needed, and no network), the oracle has to give the same answers, and with `--source-only`
-the answers `#~`; and each quotation of DIFFERENCES.md has to stand in the crate's files (ORACLE/../docs/src/src) from the line that it is given with.
+(`./build.sh` in it builds target/release/oracle; Rust is needed, and no network), the oracle has to give the same answers, and with `--source-only` the
+answers `#~`, which it has to give without that too where a script has a seat or interface release (releases.py); and each quotation of DIFFERENCES.md has to
+stand in the crate's files (ORACLE/../docs/src/src) from the line that it is given with.
 """
 import os
 import re
@@ -22,11 +23,12 @@ import shlex
 import subprocess
 import sys
 
+import releases
+
 HERE = os.path.dirname(os.path.abspath(__file__))
 SCRIPTS = os.path.join(HERE, "differences")
 PAGE = os.path.join(HERE, "../docs/DIFFERENCES.md")
 READINGS = os.path.join(HERE, "../docs/DECISIONS.md")
-SETTINGS = ("now", "out", "buffer")
 FILES = {"protocol": "eiproto_eis.rs", "eiproto_eis.rs": "eiproto_eis.rs", "eiproto_enum.rs": "eiproto_enum.rs", "request.rs": "request.rs",
          "handshake.rs": "handshake.rs", "backend.rs": "wire/backend.rs"}
 
@@ -43,10 +45,6 @@ def lines_of(path):
             yield line
 
 
-def is_call(line):
-    return line and not line.startswith("#") and line.split()[0] not in SETTINGS
-
-
 def play(command, lines):
     done = subprocess.run(command, input=("\n".join(lines) + "\n").encode(), capture_output=True)
     return done.stdout.decode().splitlines()
@@ -56,7 +54,7 @@ def differing(lines, trail, marks):
     """What a trail has where the script says otherwise: for each call the last of `marks` that stands behind it."""
     place, told, found = -1, {}, []
     for line in lines:
-        if is_call(line):
+        if releases.is_call(line):
             place += 1
         elif line[:2] in marks and line[2:3] == " ":
             told.setdefault(place, {})[line[:2]] = line[3:]
@@ -117,7 +115,7 @@ def main():
         runs = [("replay", replay, ["#="])]
         if oracle:
             binary = os.path.join(oracle, "target/release/oracle")
-            runs.append(("the oracle", [binary], ["#="]))
+            runs.append(("the oracle", [binary], ["#=", "#~"] if releases.within(lines) else ["#="]))
             if any(line.startswith("#~ ") for line in lines):
                 runs.append(("the crate alone", [binary, "--source-only"], ["#=", "#~"]))
         for who, command, marks in runs:
