@@ -59,10 +59,10 @@ def expected(lines, trail):
         elif is_call(line):
             calls.append((line, released))
     if len(calls) != len(trail):
-        sys.exit(f"{len(trail)} lines for {len(calls)} calls")
+        sys.exit(f"{lines[0]}\n{len(trail)} lines for {len(calls)} calls")
     for place, (call, released) in enumerate(calls):
         if released and place not in hand:
-            sys.exit(f"call {place + 1}, {call}: no line by hand, though a release is above")
+            sys.exit(f"{lines[0]}\ncall {place + 1}, {call}: no line by hand, though a release is above")
         if not released and hand.get(place, trail[place]) != trail[place]:
-            sys.exit(f"call {place + 1}, {call}: by hand {hand[place]}, the oracle {trail[place]}")
+            sys.exit(f"{lines[0]}\ncall {place + 1}, {call}: by hand {hand[place]}, the oracle {trail[place]}")
     return [hand[place] if released else trail[place] for place, (_, released) in enumerate(calls)], len(hand)
