@@ -10,7 +10,7 @@
  *     every lent buffer are as they were, byte for byte (of the bits of a NaN that is tested, not proved). Two calls
  *     say where they part from that: bz_handshake_new, bz_handshake_finish. 64 and 65 are no refusals of the protocol:
  *     BOZTERRUN_NONE, BOZTERRUN_BAD_ARGUMENT. They too leave everything as it was.
- *   - A client's request on an object that is not known is accepted and does nothing, as in the crate reis.
+ *   - A client's request on an object that is not known is accepted and does nothing.
  *   - Any thread may make a call, one at a time on one session. Calls on different sessions share nothing.
  *   - Nothing that a caller hands in makes the library read or write outside what it was lent. That is proved of the
  *     library; it is up to the caller that each pointer is valid for its length, that uint64_t and float are aligned,
