@@ -146,7 +146,7 @@ module _ (x : ℕ) where
       countOf x (idsOf is) ≡ countOf x (id ∷ []) + countOf x (idsOf (interfacesWithout cap is))
   unfolding listsAs interfacesWithout countOf
   unlisted-ids cap id [] b e = absurd (false≢true e)
-  unlisted-ids cap id (i ∷ is) (next {high = high} l b) e = go (eqb (i .capability) cap) refl e (λ q. unlisted-ids cap id is b q)
+  unlisted-ids cap id (i ∷ is) (next l b) e = go (eqb (i .capability) cap) refl e (λ q. unlisted-ids cap id is b q)
     where
       go : (t : Bool) → eqb (i .capability) cap ≡ t → (t && eqb (i .id) id) || listsAs cap id is ≡ true →
           (listsAs cap id is ≡ true → countOf x (idsOf is) ≡ countOf x (id ∷ []) + countOf x (idsOf (interfacesWithout cap is))) →
