@@ -5,7 +5,7 @@ usage: bench.py ORACLE [ROUNDS]     run at the repository's root
 
 ORACLE is the oracle's folder (its ./build.sh builds target/release/oracle; Rust is needed, and no network). What is not there yet is built: the oracle, the
 program bench (`rt check bench`), the library (`rt staticlib bozterrun`), and the programs tests/c/bench.c and rust/examples/bench.rs, anew each time. Each of the
-oracle's five workloads is run ROUNDS times (7) by turns, ours and the crate's: for all a turn is the same calls, and making the requests is counted in. The
+oracle's five workloads is run ROUNDS times (81, a minute and a half) by turns, ours and the crate's: for all a turn is the same calls, and making the requests is counted in. The
 time of ours is that of the program less that of its start, divided by the calls. Medians are printed, and how many times faster ours is. Where valgrind is at
 hand, the instructions of a call follow, from the difference of two runs.
 
@@ -64,7 +64,7 @@ def instructions(commands, calls):
 def main():
     if len(sys.argv) not in (2, 3):
         sys.exit(__doc__)
-    oracle, rounds = sys.argv[1], int(sys.argv[2]) if len(sys.argv) > 2 else 7
+    oracle, rounds = sys.argv[1], int(sys.argv[2]) if len(sys.argv) > 2 else 81
     build(oracle)
     names = [*PROGRAMS, "crate"]
     print("| workload | " + " | ".join(f"{name} ns" for name in names) + " | " + " | ".join(f"{name}, times faster" for name in PROGRAMS) + " |", flush=True)
