@@ -315,7 +315,7 @@ unfoldable pub removeDevice : View → ℕ → Plan
 unfolding onFound deviceOf refuse sendDestroyed objectsOf
 removeDevice v id = onFound (deviceOf id v) (refuse 12) λ f. sendDestroyed v (objectsOf (f .device)) (Edit.removeDevice (f .slot) ∷ [])
 
--- a seat goes, and its devices with it
+-- a seat goes, and its devices before it
 abbrev pub retireSeat : View → (seat : ℕ) → Plan
 retireSeat v id = sendDestroyed v (seatObjects id (v .devices)) (Edit.removeDevicesOf id ∷ Edit.removeSeat id ∷ [])
 

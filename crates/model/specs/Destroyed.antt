@@ -1,4 +1,4 @@
--- "Released is released": what becomes of an object. proofs/Destroyed.antt has the theorems. Assumes nothing.
+-- "Released is released": what becomes of an object. The theorems are in proofs/Destroyed.antt and proofs/Released.antt. Assumes nothing.
 use Prim.Native.Nat.{ℕ, _+_, _≤_}
 use mathlib.Core.Path.{_≡_}
 use mathlib.Core.Bool.{false, cond}
@@ -45,7 +45,7 @@ Lives-standing =
     countOf id (idsIn (trail c s n vs ts))
     ≡ countOf id (destroyedIn (trail c s n vs ts)) + standing id (sessionAfter (map split ts) (fresh {P = Load} c s n vs))
 
--- a call without payload, with the payload that is carried for it
+-- a call that has no payload of its own
 abbrev pub plainly : {P : Type 0} → (load : P) (now room : ℕ) → Plain → Split P
 plainly load now room c = record { call = Call.plain c; load = load; now = now; room = room }
 
