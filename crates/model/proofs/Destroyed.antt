@@ -1,7 +1,7 @@
 -- At every call the ids that are given and those that stood before are those that are destroyed and those that stand after it. So an id, which is given
 -- once, is destroyed at most once, and stands until then. By the plans that there are (Walk), then by induction on the calls. Assumes nothing.
 use Prim.Native.Nat.{ℕ, zero, suc, _+_, _^_, _<_}
-use mathlib.Core.Path.{_≡_, refl, ap, sym, subst, _∙_}
+use mathlib.Core.Path.{_≡_, refl, ap, sym, _∙_}
 use mathlib.Core.Bool.{Bool, true, false, _&&_, _||_, cond, false≢true}
 use mathlib.Core.List.{List, [], _∷_, _++_, map, map-append, append-assoc, append-nil}
 use mathlib.Core.Option.{Option, none, some}
@@ -24,10 +24,12 @@ use Rattle.model.specs.Step.{carriedOut, source, unchanged, step, run}
 use Rattle.model.specs.Demand3.{trail}
 use Rattle.model.specs.Reachable.{countOf, seatIds, deviceIds, interfaceIdsIn, sessionAfter, newIds, idsIn}
 use Rattle.model.specs.Destroyed.{destroyedOf, destroyedIn, Destroyed-once, standing, Lives-standing}
-use Rattle.model.proofs.All.{All, none, more}
+use Rattle.model.proofs.All.{All, more}
+use Rattle.model.proofs.Finding.{found-holds}
 use Rattle.model.proofs.Ascending.{Between, next, once}
-use Rattle.model.proofs.ReachableOrder.{idsOf, objectIds}
+use Rattle.model.proofs.ReachableOrder.{idsOf, objectIds, objects-new}
 use Rattle.model.proofs.ReachableBits.{bitsIn, ByBit}
+use Rattle.model.proofs.ReachableHeld.{both}
 use Rattle.model.proofs.ReachablePlans.{device-ids, modest-ids}
 use Rattle.model.proofs.Reachable.{refusal-ids, Sound, step-sound, run-ids, fresh-sound}
 use Rattle.model.proofs.Walk.{Noted, Touched, Leaf, walk}
@@ -107,10 +109,6 @@ unfoldable allStill : List Edit → Bool
 unfolding still
 allStill [] = true
 allStill (e ∷ es) = still e && allStill es
-
-both : (a b : Bool) → a && b ≡ true → (a ≡ true) × (b ≡ true)
-both true b h = (refl, h)
-both false b h = absurd (false≢true h)
 
 -- interfaces of higher capabilities
 none-without : {low high : ℕ} (cap : ℕ) (is : List Interface) → cap < low → Between low (bitsIn is) high → interfacesWithout cap is ≡ is
@@ -204,30 +202,16 @@ module _ {P : Type 0} (x : ℕ) where
   -- ---- what goes
 
   -- the device that a search found, with its interfaces
-  abbrev Taken : List (Device P) → Option Found → Type 0
-  Taken ds none = Unit {0}
-  Taken ds (some f) = countOf x (objectIds ds) ≡ countOf x (objectsOf (f .device)) + countOf x (objectIds (withoutSlot (f .slot) ds))
-
-  later-taken : (d : Device P) (ds : List (Device P)) (o : Option Found) → Taken ds o → Taken (d ∷ ds) (later o)
-  unfolding later withoutSlot objectIds
-  later-taken d ds none h = tt
-  later-taken d ds (some f) h =
+  found-taken : (test : Device (Unit {0}) → Bool) (ds : List (Device P)) (f : Found) → find test (map (mapDevice blank) ds) ≡ some f →
+      countOf x (objectIds ds) ≡ countOf x (objectsOf (f .device)) + countOf x (objectIds (withoutSlot (f .slot) ds))
+  unfolding mapDevice objectsOf withoutSlot objectIds
+  found-taken test ds f e =
+      found-holds test (λ es g. countOf x (objectIds es) ≡ countOf x (objectsOf (g .device)) + countOf x (objectIds (withoutSlot (g .slot) es)))
+      (λ d es t. let own = idsOf (d .interfaces) in omega (arith, count-append x (d .id ∷ own) (objectIds es), count-last x own (d .id)))
+      (λ d es g h.
       let own = d .id ∷ idsOf (d .interfaces) in
-      omega (arith, count-append x own (objectIds ds), count-append x own (objectIds (withoutSlot (f .slot) ds)))
-
-  cond-taken : (b : Bool) (ds : List (Device P)) (v w : Option Found) → Taken ds v → Taken ds w → Taken ds (cond b v w)
-  cond-taken true ds v w h k = h
-  cond-taken false ds v w h k = k
-
-  find-taken : (test : Device (Unit {0}) → Bool) (ds : List (Device P)) → Taken ds (find test (map (mapDevice blank) ds))
-  unfolding find mapDevice objectsOf withoutSlot objectIds
-  find-taken test [] = tt
-  find-taken test (d ∷ ds) =
-      let o = find test (map (mapDevice blank) ds) in
-      let own = idsOf (d .interfaces) in
-      cond-taken (test (mapDevice blank d)) (d ∷ ds) (some (record { slot = zero; device = mapDevice blank d })) (later o)
-      (omega (arith, count-append x (d .id ∷ own) (objectIds ds), count-last x own (d .id)))
-      (later-taken d ds o (find-taken test ds))
+      omega (arith, h, count-append x own (objectIds es), count-append x own (objectIds (withoutSlot (g .slot) es))))
+      ds f e
 
   -- the devices of a seat
   seat-taken : (seat : ℕ) (ds : List (Device P)) →
@@ -297,44 +281,30 @@ module _ {P : Type 0} (x : ℕ) where
       )
 
   -- the interface that a search found
-  abbrev Unlisted : (cap id : ℕ) → List (Device P) → Option Found → Type 0
-  Unlisted cap id ds none = Unit {0}
-  Unlisted cap id ds (some f) = countOf x (objectIds ds) ≡ countOf x (id ∷ []) + countOf x (objectIds (at (amended (Amend.unlist cap)) (f .slot) ds))
+  found-unlisted : (cap id : ℕ) (ds : List (Device P)) (f : Found) → All ByBit ds → find (λ d. listsAs cap id (d .interfaces)) (map (mapDevice blank) ds) ≡ some f →
+      countOf x (objectIds ds) ≡ countOf x (id ∷ []) + countOf x (objectIds (at (amended (Amend.unlist cap)) (f .slot) ds))
+  unfolding mapDevice amended at objectIds countOf
+  found-unlisted cap id ds f a e =
+      found-holds (λ d. listsAs cap id (d .interfaces))
+      (λ es g. All ByBit es → countOf x (objectIds es) ≡ countOf x (id ∷ []) + countOf x (objectIds (at (amended (Amend.unlist cap)) (g .slot) es)))
+      here past ds f e a
+    where
+      here : (d : Device P) (es : List (Device P)) → listsAs cap id (d .interfaces) ≡ true → All ByBit (d ∷ es) →
+          countOf x (objectIds (d ∷ es)) ≡ countOf x (id ∷ []) + countOf x (objectIds (amended (Amend.unlist cap) d ∷ es))
+      here d es t (more b a) =
+          omega (
+            arith,
+            unlisted-ids x cap id (d .interfaces) b t,
+            count-append x (idsOf (d .interfaces)) (objectIds es),
+            count-append x (idsOf (interfacesWithout cap (d .interfaces))) (objectIds es),
+          )
 
-  later-unlisted : (cap id : ℕ) (d : Device P) (ds : List (Device P)) (o : Option Found) → Unlisted cap id ds o → Unlisted cap id (d ∷ ds) (later o)
-  unfolding later at objectIds
-  later-unlisted cap id d ds none h = tt
-  later-unlisted cap id d ds (some f) h =
-      let own = d .id ∷ idsOf (d .interfaces) in
-      omega (arith, count-append x own (objectIds ds), count-append x own (objectIds (at (amended (Amend.unlist cap)) (f .slot) ds)))
-
-  cond-unlisted : (b : Bool) (cap id : ℕ) (ds : List (Device P)) (v w : Option Found) → (b ≡ true → Unlisted cap id ds v) → Unlisted cap id ds w → Unlisted cap id ds (cond b v w)
-  cond-unlisted true cap id ds v w h k = h refl
-  cond-unlisted false cap id ds v w h k = k
-
-  find-unlisted : (cap id : ℕ) {ds : List (Device P)} → All ByBit ds → Unlisted cap id ds (find (λ d. listsAs cap id (d .interfaces)) (map (mapDevice blank) ds))
-  unfolding find mapDevice amended at objectIds countOf
-  find-unlisted cap id none = tt
-  find-unlisted cap id (more {x = d} {xs = ds} b a) =
-      let o = find (λ d. listsAs cap id (d .interfaces)) (map (mapDevice blank) ds) in
-      cond-unlisted (listsAs cap id (d .interfaces)) cap id (d ∷ ds) (some (record { slot = zero; device = mapDevice blank d })) (later o)
-      (λ e.
-      omega (
-        arith,
-        unlisted-ids x cap id (d .interfaces) b e,
-        count-append x (idsOf (d .interfaces)) (objectIds ds),
-        count-append x (idsOf (interfacesWithout cap (d .interfaces))) (objectIds ds),
-      ))
-      (later-unlisted cap id d ds o (find-unlisted cap id a))
-
-  -- ---- what comes
-
-  objects-added : (ds : List (Device P)) (d : Device P) → countOf x (objectIds (ds ++ (d ∷ []))) ≡ countOf x (objectIds ds) + countOf x (d .id ∷ idsOf (d .interfaces))
-  unfolding objectIds countOf
-  objects-added [] d = omega (arith, ap (countOf x) (append-nil (d .id ∷ idsOf (d .interfaces))))
-  objects-added (e ∷ ds) d =
-      let own = e .id ∷ idsOf (e .interfaces) in
-      omega (arith, count-append x own (objectIds (ds ++ (d ∷ []))), count-append x own (objectIds ds), objects-added ds d)
+      past : (d : Device P) (es : List (Device P)) (g : Found) →
+          (All ByBit es → countOf x (objectIds es) ≡ countOf x (id ∷ []) + countOf x (objectIds (at (amended (Amend.unlist cap)) (g .slot) es))) →
+          All ByBit (d ∷ es) → countOf x (objectIds (d ∷ es)) ≡ countOf x (id ∷ []) + countOf x (objectIds (d ∷ at (amended (Amend.unlist cap)) (g .slot) es))
+      past d es g h (more b a) =
+          let own = d .id ∷ idsOf (d .interfaces) in
+          omega (arith, h a, count-append x own (objectIds es), count-append x own (objectIds (at (amended (Amend.unlist cap)) (g .slot) es)))
 
 -- ---- the plans
 
@@ -377,7 +347,7 @@ module _ {P : Type 0} (x : ℕ) where
         let ver = versionOr1 (version c eiDevice) in
         let is = newInterfaces id caps in
         record {
-          sum = rw (device-ids id seat ver type name c is, device-mild id seat ver type name c is) (omega (arith, objects-added x (s .devices) (newDevice id seat caps)));
+          sum = rw (device-ids id seat ver type name c is, device-mild id seat ver type name c is) (omega (arith, ap (countOf x) (objects-new (s .devices) (newDevice id seat caps)), count-append x (objectIds (s .devices)) (id ∷ idsOf is)));
         }
 
     leaf-adds : {now : ℕ} {c : Call Sight} {plan : Plan} → Leaf (view s) now c plan → AddsUp plan
@@ -389,10 +359,10 @@ module _ {P : Type 0} (x : ℕ) where
     leaf-adds (Leaf.synced callback) = calm _ refl refl refl
     leaf-adds (Leaf.noted object event edits m h) = calm _ refl (rw (m _)) (noted-still h)
     leaf-adds (Leaf.released cap id f e) =
-        record { sum = omega (arith, subst (Unlisted x cap id (s .devices)) e (find-unlisted x cap id (ok .bits))) }
+        record { sum = omega (arith, found-unlisted x cap id (s .devices) f (ok .bits) e) }
     leaf-adds (Leaf.deviceGone id f e) =
         gone (objectsOf (f .device)) (Edit.removeDevice (f .slot) ∷ [])
-        (omega (arith, subst (Taken x (s .devices)) e (find-taken x (λ d. eqb (d .id) id) (s .devices))))
+        (omega (arith, found-taken x (λ d. eqb (d .id) id) (s .devices) f e))
     leaf-adds (Leaf.seatGone id y e) =
         let ds = map (mapDevice blank) (s .devices) in
         gone (devicesObjects id ds ++ (id ∷ [])) (Edit.removeDevicesOf id ∷ Edit.removeSeat id ∷ [])

@@ -10,6 +10,7 @@ pub mod Lists
 pub mod OneDevice
 pub mod Order
 pub mod All
+pub mod Finding
 pub mod Owners
 pub mod Taken
 pub mod Provenance

@@ -35,7 +35,7 @@ unfolding quiet
 allQuiet [] = true
 allQuiet (e ∷ es) = quiet e && allQuiet es
 
-both : (a b : Bool) → (a && b) ≡ true → (a ≡ true) × (b ≡ true)
+pub both : (a b : Bool) → (a && b) ≡ true → (a ≡ true) × (b ≡ true)
 both true b e = (refl, e)
 both false b e = absurd (false≢true e)
 

@@ -47,7 +47,7 @@ module _ {P : Type 0} where
 
   -- ---- how the objects' ids follow the devices
 
-  objects-new : (ds : List (Device P)) (d : Device P) → objectIds (ds ++ (d ∷ [])) ≡ objectIds ds ++ objectsOf d
+  pub objects-new : (ds : List (Device P)) (d : Device P) → objectIds (ds ++ (d ∷ [])) ≡ objectIds ds ++ objectsOf d
   unfolding objectIds
   objects-new [] d = append-nil (objectsOf d)
   objects-new (x ∷ ds) d = rw (objects-new ds d) (sym (append-assoc (objectsOf x) (objectIds ds) (objectsOf d)))

@@ -1,8 +1,8 @@
 -- Every plan of `decide` fits: carried out, it keeps the held touches within 16, and the ids that its answer tells ascend from the session's next id up
 -- to the one after. By the plans that there are (Walk). Assumes nothing.
-use Prim.Native.Nat.{ℕ, zero, _+_, _<_}
-use mathlib.Core.Path.{_≡_, refl, ap, subst}
-use mathlib.Core.Bool.{Bool, true, false, cond, false≢true}
+use Prim.Native.Nat.{ℕ, _+_, _<_}
+use mathlib.Core.Path.{_≡_, refl, ap}
+use mathlib.Core.Bool.{true, false, false≢true}
 use mathlib.Core.List.{List, [], _∷_, _++_, map, append-nil}
 use mathlib.Core.Option.{Option, none, some}
 use native.Mathlib.Nat.{le-refl}
@@ -11,12 +11,13 @@ use Rattle.eiproto.specs.Capability.{capabilityIndex}
 use Rattle.eiproto.specs.Interface.{eiDevice}
 use Rattle.wire.specs.declared.event.Event.{Event}
 use Rattle.model.specs.Call.{Sight, Call}
-use Rattle.model.specs.Session.{Interface, Seat, Device, Connection, Session, mapDevice, blank, view}
+use Rattle.model.specs.Session.{Interface, Seat, Device, Connection, Session, mapDevice, view}
 use Rattle.model.specs.Edit.{Amend, Edit, newInterfaces, enact, enactAll}
 use Rattle.model.specs.Plan.{Sent, on, Result, Plan, answer, ignore, edit, send}
-use Rattle.model.specs.Decide.{Found, version, versionOr1, later, find, listsAs, pendAfter, handler, deviceForInterface, nameEvents, interfaceEvents, removeSeats, sendNext, sendDestroyed, decide}
+use Rattle.model.specs.Decide.{Found, version, versionOr1, listsAs, pendAfter, handler, deviceForInterface, nameEvents, interfaceEvents, removeSeats, sendNext, sendDestroyed, decide}
 use Rattle.model.specs.Demand3.{madeOn}
 use Rattle.model.specs.Reachable.{newIds}
+use Rattle.model.proofs.Finding.{found-holds}
 use Rattle.model.proofs.Ascending.{Between, end, next}
 use Rattle.model.proofs.ReachableOrder.{idsOf, new-between, edits-nextId}
 use Rattle.model.proofs.ReachableHeld.{allQuiet, Held, touchesAt, edits-held, down-held}
@@ -71,29 +72,7 @@ modest-ids (Result.truth b) h = refl
 modest-ids Result.none h = refl
 modest-ids Result.given h = refl
 
--- ---- the device that a search finds holds what the device in its slot does
-
-module _ {P : Type 0} where
-  abbrev Stands : List (Device P) → Option Found → Type 0
-  Stands ds none = Unit {0}
-  Stands ds (some f) = touchesAt (f .slot) ds ≡ f .device .downTouchIds
-
-  later-stands : (d : Device P) (ds : List (Device P)) (o : Option Found) → Stands ds o → Stands (d ∷ ds) (later o)
-  unfolding later touchesAt
-  later-stands d ds none h = tt
-  later-stands d ds (some f) h = h
-
-  cond-stands : (b : Bool) (ds : List (Device P)) (x y : Option Found) → Stands ds x → Stands ds y → Stands ds (cond b x y)
-  cond-stands true ds x y h k = h
-  cond-stands false ds x y h k = k
-
-  find-stands : (test : Device (Unit {0}) → Bool) (ds : List (Device P)) → Stands ds (find test (map (mapDevice blank) ds))
-  unfolding find touchesAt mapDevice
-  find-stands test [] = tt
-  find-stands test (d ∷ ds) =
-      let o = find test (map (mapDevice blank) ds) in
-      let first : Option Found = some (record { slot = zero; device = mapDevice blank d }) in
-      cond-stands (test (mapDevice blank d)) (d ∷ ds) first (later o) refl (later-stands d ds o (find-stands test ds))
+-- ---- the plans
 
 module _ {P : Type 0} (s : Session P) (p : P) where
   pub record Fits (plan : Plan) : Type 0 where
@@ -105,7 +84,7 @@ module _ {P : Type 0} (s : Session P) (p : P) where
   fits-quiet plan e q = record { held = edits-held (plan .edits) p s q; ids = rw e (end (edits-nextId (plan .edits) p s)) }
 
   -- a touch down, where fewer than 16 are held
-  down-fits : (f : Found) (x : Sight) (t : ℕ) → Stands (s .devices) (some f) → length (f .device .downTouchIds) < 16 → Fits (pendAfter (Amend.touchDown t ∷ []) f x)
+  down-fits : (f : Found) (x : Sight) (t : ℕ) → touchesAt (f .slot) (s .devices) ≡ f .device .downTouchIds → length (f .device .downTouchIds) < 16 → Fits (pendAfter (Amend.touchDown t ∷ []) f x)
   unfolding pendAfter edit newIds enactAll enact allQuiet
   down-fits f x t e few =
       let k = f .slot in
@@ -114,7 +93,7 @@ module _ {P : Type 0} (s : Session P) (p : P) where
         ids = end (edits-nextId (Edit.amend k (Amend.touchDown t) ∷ Edit.pend k x ∷ []) p s);
       }
 
-  pend-fits : (f : Found) (x : Sight) {amends : List Amend} → Stands (s .devices) (some f) → Touched (f .device .downTouchIds) (x .touch) amends → Fits (pendAfter amends f x)
+  pend-fits : (f : Found) (x : Sight) {amends : List Amend} → touchesAt (f .slot) (s .devices) ≡ f .device .downTouchIds → Touched (f .device .downTouchIds) (x .touch) amends → Fits (pendAfter amends f x)
   unfolding pendAfter edit newIds allQuiet
   pend-fits f x e Touched.same = fits-quiet _ refl refl
   pend-fits f x e (Touched.down few) = down-fits f x (x .touch) e few
@@ -124,15 +103,17 @@ module _ {P : Type 0} (s : Session P) (p : P) where
   unfolding answer allQuiet
   answer-fits o h = fits-quiet (answer o) (modest-ids o h) refl
 
-  found-stands : (cap i : ℕ) (f : Found) → deviceForInterface cap i (view s) ≡ some f → Stands (s .devices) (some f)
-  unfolding deviceForInterface view
-  found-stands cap i f e = subst (Stands (s .devices)) e (find-stands (λ d. listsAs cap i (d .interfaces)) (s .devices))
+  -- the device that is found holds what the one in its slot does
+  found-touches : (cap i : ℕ) (f : Found) → deviceForInterface cap i (view s) ≡ some f → touchesAt (f .slot) (s .devices) ≡ f .device .downTouchIds
+  unfolding deviceForInterface view touchesAt mapDevice
+  found-touches cap i f e =
+      found-holds (λ d. listsAs cap i (d .interfaces)) (λ ds g. touchesAt (g .slot) ds ≡ g .device .downTouchIds) (λ d ds t. refl) (λ d ds g h. h) (s .devices) f e
 
   leaf-fits : {now : ℕ} {c : Call Sight} {plan : Plan} → Leaf (view s) now c plan → Fits plan
   unfolding ignore modest edit send sendNext sendDestroyed newIds allQuiet enactAll enact view
   leaf-fits (Leaf.turned o h m) = answer-fits o m
   leaf-fits (Leaf.passed h) = answer-fits Result.accepted refl
-  leaf-fits (Leaf.pended {i = i} {x = x} f amends e g t) = pend-fits f x (found-stands (capabilityIndex (handler (x .kind) .capability)) i f e) t
+  leaf-fits (Leaf.pended {i = i} {x = x} f amends e g t) = pend-fits f x (found-touches (capabilityIndex (handler (x .kind) .capability)) i f e) t
   leaf-fits (Leaf.answered o m) = answer-fits o m
   leaf-fits (Leaf.synced callback) = fits-quiet _ refl refl
   leaf-fits (Leaf.noted object event edits m h) = fits-quiet _ refl (noted-quiet h)

@@ -1,9 +1,9 @@
 -- A client's release of a seat that stands is the station's removal of it; a device whose interface was released has the capability no more. Assumes nothing.
 use Prim.Native.Nat.{ℕ, zero, suc, _+_, _≤_}
-use mathlib.Core.Path.{_≡_, refl, sym, subst, _∙_}
+use mathlib.Core.Path.{_≡_, refl, sym, _∙_}
 use mathlib.Core.Bool.{Bool, true, false, cond, true≢false}
 use mathlib.Core.List.{List, [], _∷_, _++_, map}
-use mathlib.Core.Option.{Option, none, some}
+use mathlib.Core.Option.{some}
 use native.Mathlib.Omega.{arith}
 use lib.Dec.{eqb}
 use borrow.Author.Tests.{eq-eqb, ne-eqb}
@@ -16,6 +16,7 @@ use Rattle.model.specs.Decide.{Found, later, find, deviceOf, listsAs, li
 use Rattle.model.specs.Step.{Step, refuses, carriedOut, source, unchanged, step}
 use Rattle.model.specs.Reachable.{sessionAfter}
 use Rattle.model.specs.Destroyed.{plainly, Release-is-removal, Released-unlisted}
+use Rattle.model.proofs.Finding.{found-holds}
 use Rattle.model.proofs.Ascending.{Between, next, left-out}
 use Rattle.model.proofs.ReachableOrder.{deviceIds-sub}
 use Rattle.model.proofs.Reachable.{Sound, after-sound, fresh-sound}
@@ -42,35 +43,31 @@ module _ {P : Type 0} (cap : ℕ) where
     found : find (λ d. eqb (d .id) (f .device .id)) (map (mapDevice blank) (at (amended (Amend.unlist cap)) (f .slot) ds)) ≡ some again
     unlisted : lists cap (again .device .interfaces) ≡ false
 
-  abbrev IfFound : (low : ℕ) → List (Device P) → Option Found → Type 0
-  IfFound low ds none = Unit {0}
-  IfFound low ds (some f) = Again low ds f
-
-  later-again : {low : ℕ} (d : Device P) (ds : List (Device P)) (o : Option Found) → low ≤ d .id → IfFound (d .id + 1) ds o → IfFound low (d ∷ ds) (later o)
-  unfolding later find at mapDevice
-  later-again d ds none l h = tt
-  later-again {low} d ds (some f) l h =
-      record {
-        above = omega (arith, h .above);
-        again = record { slot = suc (h .again .slot); device = h .again .device };
-        found = rw (ne-eqb (d .id) (f .device .id) (λ e. omega (arith, h .above)), h .found);
-        unlisted = h .unlisted;
-      }
-
-  cond-again : (low : ℕ) (b : Bool) (ds : List (Device P)) (v w : Option Found) → IfFound low ds v → IfFound low ds w → IfFound low ds (cond b v w)
-  cond-again low true ds v w h k = h
-  cond-again low false ds v w h k = k
-
-  find-again : {low high : ℕ} (test : Device (Unit {0}) → Bool) (ds : List (Device P)) → Between low (map (λ d. d .id) ds) high → IfFound low ds (find test (map (mapDevice blank) ds))
+  found-again : {low high : ℕ} (test : Device (Unit {0}) → Bool) (ds : List (Device P)) (f : Found) → Between low (map (λ d. d .id) ds) high →
+      find test (map (mapDevice blank) ds) ≡ some f → Again low ds f
   unfolding find at amended mapDevice
-  find-again test [] b = tt
-  find-again {low} test (d ∷ ds) (next l b) =
-      let o = find test (map (mapDevice blank) ds) in
-      let f : Found = record { slot = zero; device = mapDevice blank d } in
-      let g : Found = record { slot = zero; device = mapDevice blank (amended (Amend.unlist cap) d) } in
-      cond-again low (test (mapDevice blank d)) (d ∷ ds) (some f) (later o)
-      (record { above = l; again = g; found = rw (eq-eqb (d .id) (d .id) refl); unlisted = lists-without cap (d .interfaces) })
-      (later-again d ds o l (find-again test ds b))
+  found-again test ds f b e = found-holds test (λ es g. (low high : ℕ) → Between low (map (λ d. d .id) es) high → Again low es g) here past ds f e _ _ b
+    where
+      here : (d : Device P) (es : List (Device P)) → test (mapDevice blank d) ≡ true → (low high : ℕ) → Between low (d .id ∷ map (λ y. y .id) es) high →
+          Again low (d ∷ es) (record { slot = zero; device = mapDevice blank d })
+      here d es t low high (next l b) =
+          record {
+            above = l;
+            again = record { slot = zero; device = mapDevice blank (amended (Amend.unlist cap) d) };
+            found = rw (eq-eqb (d .id) (d .id) refl);
+            unlisted = lists-without cap (d .interfaces);
+          }
+
+      past : (d : Device P) (es : List (Device P)) (g : Found) → ((low high : ℕ) → Between low (map (λ y. y .id) es) high → Again low es g) →
+          (low high : ℕ) → Between low (d .id ∷ map (λ y. y .id) es) high → Again low (d ∷ es) (record { slot = suc (g .slot); device = g .device })
+      past d es g h low high (next l b) =
+          let r = h (d .id + 1) high b in
+          record {
+            above = omega (arith, r .above);
+            again = record { slot = suc (r .again .slot); device = r .again .device };
+            found = rw (ne-eqb (d .id) (g .device .id) (λ q. omega (arith, r .above)), r .found);
+            unlisted = r .unlisted;
+          }
 
 pub released-unlisted : Released-unlisted
 unfolding Released-unlisted source carriedOut unchanged decide decidePlain handleRelease sendNext send onFound enactAll enact deviceForInterface deviceOf view
@@ -88,5 +85,5 @@ released-unlisted c s n vs ts cap id now room later f e =
     ok = after-sound (map split ts) (fresh c s n vs) (fresh-sound c s n vs)
 
     a : Again (capabilityIndex cap) 0 (before .devices) f
-    a = subst (IfFound (capabilityIndex cap) 0 (before .devices)) e
-        (find-again (capabilityIndex cap) (λ d. listsAs (capabilityIndex cap) id (d .interfaces)) (before .devices) (left-out (deviceIds-sub (before .devices)) (ok .ordered .objects)))
+    a = found-again (capabilityIndex cap) (λ d. listsAs (capabilityIndex cap) id (d .interfaces)) (before .devices) f
+        (left-out (deviceIds-sub (before .devices)) (ok .ordered .objects)) e

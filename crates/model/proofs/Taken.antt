@@ -1,11 +1,11 @@
 -- What a plan takes is what the scope calls taken: a timed request that is neither refused nor ignored, on the device that was told of its interface;
 -- any other call takes nothing. Assumes nothing.
 use Prim.Native.Nat.{ℕ, zero, suc}
-use mathlib.Core.Path.{_≡_, refl, ap, sym, subst, _∙_}
+use mathlib.Core.Path.{_≡_, refl, ap, sym, _∙_}
 use mathlib.Core.Logic.{_⊎_, inl, inr}
 use mathlib.Core.Bool.{Bool, true, false, _&&_, _||_, not, cond, false≢true}
 use mathlib.Core.List.{List, [], _∷_, _++_, map, append-nil}
-use mathlib.Core.Option.{Option, none, some}
+use mathlib.Core.Option.{none, some}
 use lib.Dec.{eqb}
 use borrow.Author.Tests.{eqb-true}
 use Rattle.eiproto.specs.Capability.{capabilityIndex}
@@ -13,12 +13,13 @@ use Rattle.model.specs.Call.{Sight, Input, Load, Call, sight, load, mapC
 use Rattle.model.specs.Session.{Item, Interface, Device, Session, view, mapDevice, blank}
 use Rattle.model.specs.Edit.{Amend, Edit, amended, item, at, enact}
 use Rattle.model.specs.Plan.{Plan, answer, ignore, edit}
-use Rattle.model.specs.Decide.{Found, later, find, listsAs, deviceForInterface, handler, pendAfter, decide}
+use Rattle.model.specs.Decide.{Found, find, listsAs, deviceForInterface, handler, pendAfter, decide}
 use Rattle.model.specs.Step.{refuses}
 use Rattle.model.specs.Demand3.{MadeInterface, madeFor, ignored, takenOf}
 use Rattle.model.proofs.Plans.{allows, allowsAll, allows-cons, Formed, answers, acts, adds, decide-formed}
 use Rattle.model.proofs.OneDevice.{takenAt, took, tookAll, amended-keeps}
 use Rattle.model.proofs.All.{All}
+use Rattle.model.proofs.Finding.{found-holds}
 use Rattle.model.proofs.Owners.{Told, Stands, Owned}
 use Rattle.model.proofs.Walk.{Leaf, walk, isTimed}
 
@@ -74,25 +75,20 @@ module _ {P : Type 0} (d : ℕ) where
   -- ---- the device found for an interface is the one that it was told for
 
   module _ (ms : List MadeInterface) (next cap object : ℕ) (i : Item P) where
-    abbrev Takes : List (Device P) → Option Found → Type 0
-    Takes ds none = Unit {0}
-    Takes ds (some f) = takenAt d i (f .slot) ds ≡ cond (madeFor object d ms) (i ∷ []) []
+    found-takes : (ds : List (Device P)) (f : Found) → All (Stands d next ms) ds → find (λ x. listsAs cap object (x .interfaces)) (map (mapDevice blank) ds) ≡ some f →
+        takenAt d i (f .slot) ds ≡ cond (madeFor object d ms) (i ∷ []) []
+    unfolding takenAt mapDevice
+    found-takes ds f a e =
+        found-holds (λ x. listsAs cap object (x .interfaces)) (λ xs g. All (Stands d next ms) xs → takenAt d i (g .slot) xs ≡ cond (madeFor object d ms) (i ∷ []) [])
+        here past ds f e a
+      where
+        here : (x : Device P) (xs : List (Device P)) → listsAs cap object (x .interfaces) ≡ true → All (Stands d next ms) (x ∷ xs) →
+            cond (eqb (x .id) d) (i ∷ []) [] ≡ cond (madeFor object d ms) (i ∷ []) []
+        here x xs t (All.more w a) = ap (λ b. cond b (i ∷ []) []) (sym (lists-owner d ms next cap object (x .id) w t))
 
-    later-takes : (x : Device P) (ds : List (Device P)) (w : Option Found) → Takes ds w → Takes (x ∷ ds) (later w)
-    unfolding later takenAt
-    later-takes x ds none h = tt
-    later-takes x ds (some f) h = h
-
-    cond-takes : (b : Bool) (ds : List (Device P)) (v w : Option Found) → (b ≡ true → Takes ds v) → Takes ds w → Takes ds (cond b v w)
-    cond-takes true ds v w h k = h refl
-    cond-takes false ds v w h k = k
-
-    find-takes : (ds : List (Device P)) → All (Stands d next ms) ds → Takes ds (find (λ x. listsAs cap object (x .interfaces)) (map (mapDevice blank) ds))
-    unfolding find takenAt mapDevice
-    find-takes [] All.none = tt
-    find-takes (x ∷ ds) (All.more w a) =
-        cond-takes (listsAs cap object (x .interfaces)) (x ∷ ds) _ _ (λ h. ap (λ b. cond b (i ∷ []) []) (sym (lists-owner d ms next cap object (x .id) w h)))
-        (later-takes x ds (find (λ x. listsAs cap object (x .interfaces)) (map (mapDevice blank) ds)) (find-takes ds a))
+        past : (x : Device P) (xs : List (Device P)) (g : Found) → (All (Stands d next ms) xs → takenAt d i (g .slot) xs ≡ cond (madeFor object d ms) (i ∷ []) []) →
+            All (Stands d next ms) (x ∷ xs) → takenAt d i (g .slot) xs ≡ cond (madeFor object d ms) (i ∷ []) []
+        past x xs g h (All.more w a) = h a
 
   -- ---- a timed request
 
@@ -118,7 +114,7 @@ module _ {P : Type 0} (d : ℕ) where
   leaf-took p s ms o (Leaf.passed h) = rw h
   leaf-took p s ms o (Leaf.pended {i = i} {x = x} f amends e g t) =
       let cap = capabilityIndex (handler (x .kind) .capability) in
-      rw g (pend-took (f .slot) x p amends s ∙ subst (Takes ms (s .connection .nextId) cap i (item x p) (s .devices)) e (find-takes ms (s .connection .nextId) cap i (item x p) (s .devices) (o .told)))
+      rw g (pend-took (f .slot) x p amends s ∙ found-takes ms (s .connection .nextId) cap i (item x p) (s .devices) f (o .told) e)
 
 -- ---- every call
 

@@ -20,7 +20,7 @@ use Rattle.model.specs.Kept.{Nothing-lost}
 use Rattle.model.specs.Destroyed.{destroyedOf, destroyedIn, Destroyed-once, Lives-standing, Release-is-removal}
 use Rattle.model.proofs.EqualTrails.{matched-trails}
 use Rattle.model.proofs.Provenance.{in-order, nothing-lost}
-use Rattle.model.proofs.Reachable.{ids-ascend}
+use Rattle.model.proofs.Reachable.{refusal-ids, ids-ascend}
 use Rattle.model.proofs.Destroyed.{destroyed-once, lives-standing}
 use Rattle.model.proofs.Released.{release-is-removal}
 use Rattle.model.proofs.Refusals.{own-refusals}
@@ -181,25 +181,12 @@ seen-nothing-lost c n i vs s xs d f stands =
 
 -- ---- the life of objects
 
--- what refuses tells no id
-refused-no-ids : (o : plan.Result) → refuses o ≡ true → newIds o [] ≡ []
-unfolding refuses refusal newIds
-refused-no-ids plan.Result.accepted h = refl
-refused-no-ids (plan.Result.refused n) h = refl
-refused-no-ids (plan.Result.refusedVersion i v) h = refl
-refused-no-ids (plan.Result.seat id) h = absurd (false≢true h)
-refused-no-ids (plan.Result.device id) h = absurd (false≢true h)
-refused-no-ids (plan.Result.value n) h = refl
-refused-no-ids (plan.Result.truth b) h = refl
-refused-no-ids plan.Result.none h = refl
-refused-no-ids plan.Result.given h = refl
-
--- nor does `next_request`
+-- `next_request` tells no id
 asked-no-ids : (r : NextRequest) → newIds (nextOutcome r) [] ≡ []
 unfolding newIds
 asked-no-ids (NextRequest.Given r) = refl
 asked-no-ids NextRequest.None = refl
-asked-no-ids (NextRequest.Refused e) = refused-no-ids (errorOf e) (error-refuses e)
+asked-no-ids (NextRequest.Refused e) = refusal-ids (errorOf e) (error-refuses e)
 
 told-is : (s : Store) (xs : List Exchange) → isWhole s ≡ true → Calls s xs → Told xs (idsIn (runOf xs (session s))) (destroyedIn (runOf xs (session s)))
 unfolding idsIn destroyedIn destroyedOf run
