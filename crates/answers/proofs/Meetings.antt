@@ -142,3 +142,4 @@ error-refuses Error.FullTexts = refl
 error-refuses Error.ShortOut = refl
 error-refuses Error.IdsSpent = refl
 error-refuses Error.BadState = refl
+error-refuses Error.BadPart = refl

@@ -24,6 +24,7 @@ errorOf Error.FullTexts = plan.Result.refused 18
 errorOf Error.ShortOut = plan.Result.refused 19
 errorOf Error.IdsSpent = plan.Result.refused 20
 errorOf Error.BadState = plan.Result.refused 21
+errorOf Error.BadPart = plan.Result.refused 22
 
 -- the number of a refusal
 unfoldable pub numberOf : Error → ℕ

@@ -27,6 +27,7 @@ pub enum Error {
     ShortOut,
     IdsSpent,
     BadState,
+    BadPart,
 }
 
 // How a call ends.
@@ -75,6 +76,7 @@ impl Error {
             Error::ShortOut => 19,
             Error::IdsSpent => 20,
             Error::BadState => 21,
+            Error::BadPart => 22,
         }
     }
 }
