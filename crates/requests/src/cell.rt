@@ -44,7 +44,7 @@ fn bit(b: bool) -> u64
 }
 
 // The bits of a signed amount, in two's complement.
-fn amount_bits(x: i32) -> u64
+pub fn amount_bits(x: i32) -> u64
     ensures { λ r. ⌜ amountOf r ≡ x ⌝ }
 {
     if x < 0 {

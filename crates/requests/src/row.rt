@@ -20,13 +20,13 @@ pub const TEXTS_LIMIT: usize = 32;
 pub const NO_SLOT: usize = TEXTS_LIMIT;
 
 // The low 32 bits.
-fn low(n: u64) -> u32
+pub fn low(n: u64) -> u32
     ensures { λ r. ⌜ r ≡ low n ⌝ }
 {
     (n % 4294967296) as u32
 }
 
-fn button_state(n: u64) -> ButtonState
+pub fn button_state(n: u64) -> ButtonState
     ensures { λ r. ⌜ r ≡ buttonState n ⌝ }
 {
     if n == 1 {
@@ -36,7 +36,7 @@ fn button_state(n: u64) -> ButtonState
     }
 }
 
-fn key_state(n: u64) -> KeyState
+pub fn key_state(n: u64) -> KeyState
     ensures { λ r. ⌜ r ≡ keyState n ⌝ }
 {
     if n == 1 {
@@ -46,7 +46,8 @@ fn key_state(n: u64) -> KeyState
     }
 }
 
-fn amount(n: u64) -> i32
+// A signed amount from its bits, in two's complement.
+pub fn amount(n: u64) -> i32
     ensures { λ r. ⌜ r ≡ amountOf n ⌝ }
 {
     let m = n % 4294967296;
