@@ -1,0 +1,2 @@
+pub mod EqualReads
+pub mod Trials
