@@ -19,7 +19,7 @@ use Rattle.events.specs.Events.{Sends, Destroys}
 
 -- ---- any events
 
-records-append : (xs ys : List Sent) → records (xs ++ ys) ≡ records xs ++ records ys
+pub records-append : (xs ys : List Sent) → records (xs ++ ys) ≡ records xs ++ records ys
 unfolding records
 records-append [] ys = refl
 records-append (e ∷ xs) ys =

@@ -1,0 +1,6 @@
+pub mod Parts
+pub mod Records
+pub mod Laws
+pub mod Lending
+pub mod Calls
+pub mod Agreed
