@@ -1,4 +1,6 @@
 pub mod Deliveries
 pub mod Trails
 pub mod Extending
+pub mod Others
+pub mod Making
 pub mod Serving

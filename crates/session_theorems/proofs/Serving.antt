@@ -16,7 +16,7 @@ use Rattle.model.specs.Call.{Load}
 use Rattle.model.specs.Session.{Session, fresh}
 use Rattle.session.proofs.Views.{whole-is}
 use Rattle.session_theorems.specs.Served.{Served, shaken, Serves, From-finish, SameHandshake, handshakeSeen, Equal-sessions, Equal-served}
-use Rattle.session_theorems.proofs.Trails.{equal-seen}
+use Rattle.session_theorems.proofs.Making.{equal-seen}
 
 -- the last call is made on a handshake that is not damaged
 pub record LastOn (x : HandshakeExchange) : Type 0 where

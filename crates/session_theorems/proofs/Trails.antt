@@ -13,12 +13,10 @@ use Rattle.model.specs.Plan.{records, refusal}
 use Rattle.model.specs.Plan as plan
 use Rattle.model.specs.Step.{Step, refuses, run, step}
 use Rattle.model.specs.Demand3.{Observed, observed, trail, itemsOf, given, In-order}
-use Rattle.model.specs.Payload.{Matched-trails}
 use Rattle.model.specs.Refusals.{Own-refusals}
 use Rattle.model.specs.Reachable.{sessionAfter, newIds, idsIn, Ids-ascend}
 use Rattle.model.specs.Kept.{Nothing-lost}
 use Rattle.model.specs.Destroyed.{destroyedOf, destroyedIn, Destroyed-once, Lives-standing, Release-is-removal}
-use Rattle.model.proofs.EqualTrails.{matched-trails}
 use Rattle.model.proofs.Provenance.{in-order, nothing-lost}
 use Rattle.model.proofs.Reachable.{refusal-ids, ids-ascend}
 use Rattle.model.proofs.Destroyed.{destroyed-once, lives-standing}
@@ -33,7 +31,7 @@ use Rattle.answers.specs.declared.Answer.{Answer}
 use Rattle.answers.proofs.Meetings.{answered-handled, error-refuses}
 use Rattle.converter.specs.Next.{nextOutcome, givenIn}
 use Rattle.converter.specs.declared.request.NextRequest.{NextRequest}
-use Rattle.session_theorems.specs.Trail.{Exchange, turnOf, Calls, slicesAfter, serialIn, seen, Seen-is-run, allOfSession, Never-21, FreshCalls, Equal-seen, givenTo, Given-in-order, Seen-nothing-lost, Told, Seen-lives, Seen-release-is-removal}
+use Rattle.session_theorems.specs.Trail.{Exchange, turnOf, Calls, slicesAfter, serialIn, seen, Seen-is-run, allOfSession, Never-21, FreshCalls, givenTo, Given-in-order, Seen-nothing-lost, Told, Seen-lives, Seen-release-is-removal}
 use Rattle.session_theorems.proofs.Deliveries.{isGiven, step-gave, step-quiet, asked-silent}
 
 -- what the definitions say of calls of the code
@@ -112,14 +110,14 @@ seen-is-run s (Exchange.asked clock buffer later answer e ∷ xs) whole (Calls.a
     (seen-is-run e xs (whole-is e (m .whole)) rest ∙ ap (λ (t : Session Load). map observed (runOf xs t)) (m .view))
 
 -- the slices after the calls are not damaged, and hold the session after the steps
-stays-whole : (s : Store) (xs : List Exchange) → isWhole s ≡ true → Calls s xs → isWhole (slicesAfter s xs) ≡ true
+pub stays-whole : (s : Store) (xs : List Exchange) → isWhole s ≡ true → Calls s xs → isWhole (slicesAfter s xs) ≡ true
 unfolding slicesAfter
 stays-whole s [] whole Calls.none = whole
 stays-whole s (Exchange.called call other clock out later answer e ∷ xs) whole (Calls.called a rest) =
     stays-whole e xs (whole-is e (answered-handled s a whole .whole)) rest
 stays-whole s (Exchange.asked clock buffer later answer e ∷ xs) whole (Calls.asked a rest) = stays-whole e xs (whole-is e (a .handled clock whole .whole)) rest
 
-session-after : (s : Store) (xs : List Exchange) → isWhole s ≡ true → Calls s xs
+pub session-after : (s : Store) (xs : List Exchange) → isWhole s ≡ true → Calls s xs
     → session (slicesAfter s xs) ≡ sessionAfter (map split (map turnOf xs)) (session s)
 unfolding slicesAfter sessionAfter
 session-after s [] whole Calls.none = refl
@@ -137,15 +135,6 @@ run-of-session (x ∷ xs) t =
 
 pub never-21 : Never-21
 never-21 s xs whole calls = (ap allOfSession (seen-is-run s xs whole calls) ∙ run-of-session xs (session s), stays-whole s xs whole calls)
-
-module _ {c n i : ℕ} {vs : List (Option ℕ)} {s : Store} {xs : List Exchange} (f : FreshCalls c n i vs s xs) where
-  seen-is-trail : map seen xs ≡ map observed (trail c n i vs (map turnOf xs))
-  unfolding trail
-  seen-is-trail = seen-is-run s xs (f .whole) (f .calls) ∙ ap (λ (t : Session Load). map observed (runOf xs t)) (f .starts)
-
-pub equal-seen : Equal-seen
-unfolding Matched-trails
-equal-seen c n i vs s s′ xs xs′ f f′ matched = seen-is-trail f ∙ matched-trails c n i vs (map turnOf xs) (map turnOf xs′) matched ∙ sym (seen-is-trail f′)
 
 -- ---- what is given for a device
 

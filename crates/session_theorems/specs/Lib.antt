@@ -1,3 +1,4 @@
 pub mod Trail
 pub mod Extends
+pub mod Made
 pub mod Served

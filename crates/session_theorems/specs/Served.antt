@@ -9,12 +9,12 @@ use Rattle.handshake.specs.View.{isFinished, versionsOf, Meets}
 use Rattle.handshake.specs.Run as handshake
 use Rattle.handshake.specs.Run.{HandshakeExchange, HandshakeCalls, callOf, seenIn}
 use Rattle.handshake.specs.declared.handshake.HandshakeAnswer.{HandshakeAnswer}
-use Rattle.model.specs.Payload.{Matched}
+use Rattle.model_reads.specs.Acts.{MatchedActs}
 use Rattle.control.specs.Control.{controlLength}
 use Rattle.session.specs.View.{Store, session, wordsLength, realsLength, textsLength}
 use Rattle.answers.specs.declared.Answer.{Answer}
 use Rattle.converter.specs.Next.{Begins}
-use Rattle.session_theorems.specs.Trail.{Exchange, turnOf, Calls, seen, FreshCalls}
+use Rattle.session_theorems.specs.Made.{Made, actOf, MadeCalls, seenOf, FreshMade}
 
 -- what was called, and what it answered
 pub record Served : Type 0 where
@@ -30,8 +30,8 @@ pub record Served : Type 0 where
   pub control : List ℕ
   pub slices : Store
   pub begun : Answer
-  -- the session's calls
-  pub calls : List Exchange
+  -- the session's calls, whole reads among them
+  pub calls : List Made
 
 abbrev pub shaken : Served → List HandshakeExchange
 shaken x = x .requests ++ (x .finish ∷ [])
@@ -46,7 +46,7 @@ pub record Serves (x : Served) : Type 0 where
   pub words-long : length (x .slices .words) ≡ wordsLength
   pub reals-long : length (x .slices .reals) ≡ realsLength
   pub texts-long : length (x .slices .texts) ≡ textsLength
-  pub calls : Calls (x .slices) (x .calls)
+  pub calls : MadeCalls (x .slices) (x .calls)
 
 -- FROM FINISH TO THE FRESH SESSION. The slices hold a whole session: the connection's id, the serial and the versions are what the Finish settled, and the ids
 -- go on after the connection's
@@ -54,7 +54,7 @@ abbrev pub From-finish : Type 0
 From-finish =
     (x : Served) → Serves x →
     let settled = x .finish .answer .response in
-    FreshCalls (settled .connection) (settled .serial) (settled .connection + 1) (versionsOf (settled .interfaces)) (x .slices) (x .calls)
+    FreshMade (settled .connection) (settled .serial) (settled .connection + 1) (versionsOf (settled .interfaces)) (x .slices) (x .calls)
 
 -- "Two handshakes that get equal calls", in buffers of equal lengths
 pub record SameHandshake (x y : Served) : Type 0 where
@@ -74,5 +74,5 @@ Equal-sessions =
 -- DEMAND 3, FIRST HALF, FROM THE HANDSHAKE'S FIRST CALL ON
 abbrev pub Equal-served : Type 0
 Equal-served =
-    (x y : Served) → Serves x → Serves y → SameHandshake x y → Matched (map turnOf (x .calls)) (map turnOf (y .calls))
-    → (handshakeSeen x ≡ handshakeSeen y) × (map seen (x .calls) ≡ map seen (y .calls))
+    (x y : Served) → Serves x → Serves y → SameHandshake x y → MatchedActs (map actOf (x .calls)) (map actOf (y .calls))
+    → (handshakeSeen x ≡ handshakeSeen y) × (map seenOf (x .calls) ≡ map seenOf (y .calls))

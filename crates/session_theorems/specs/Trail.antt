@@ -1,4 +1,5 @@
--- Lists of calls of the code, each as its contract has it, and what holds of them. proofs/Trails.antt proves the statements. Assumes nothing.
+-- Lists of calls of the code, each as its contract has it, and what holds of them. Made.antt has the lists in which whole reads stand among them.
+-- proofs/Trails.antt proves the statements. Assumes nothing.
 use Prim.Native.Nat.{ℕ, _+_, _≤_, _<_}
 use mathlib.Core.Path.{_≡_}
 use mathlib.Core.Bool.{Bool, true, _&&_}
@@ -11,7 +12,6 @@ use Rattle.model.specs.Plan.{Sent, records, refusal}
 use Rattle.model.specs.Decide.{seatOf}
 use Rattle.model.specs.Step.{run}
 use Rattle.model.specs.Demand3.{Observed, observed, taken, itemsOf}
-use Rattle.model.specs.Payload.{Matched}
 use Rattle.model.specs.Refusals.{ofSession}
 use Rattle.model.specs.Reachable.{countOf, deviceIds, newIds, ascendsFrom}
 use Rattle.model.specs.Kept.{pendingOf}
@@ -90,12 +90,6 @@ pub record FreshCalls (c n i : ℕ) (vs : List (Option ℕ)) (s : Store) (xs : L
   pub whole : isWhole s ≡ true
   pub starts : session s ≡ fresh c n i vs
   pub calls : Calls s xs
-
--- DEMAND 3, FIRST HALF, OF THE CODE. Equally placed calls are the same in all but payload (`Matched`): then everything that is seen but payload is equal
-abbrev pub Equal-seen : Type 0
-Equal-seen =
-    (c n i : ℕ) (vs : List (Option ℕ)) (s s′ : Store) (xs xs′ : List Exchange) → FreshCalls c n i vs s xs → FreshCalls c n i vs s′ xs′
-    → Matched (map turnOf xs) (map turnOf xs′) → map seen xs ≡ map seen xs′
 
 -- the timed requests that `next_request` gave for a device, in order, as its answers and the text buffers tell them
 unfoldable pub givenTo : (device : ℕ) → List Exchange → List (Item Load)

@@ -1,0 +1,157 @@
+-- Reads among the other calls: each is its single calls, one after another, and what is seen of them all is what the definitions say. Assumes nothing.
+use Prim.Native.Nat.{ℕ, _+_}
+use mathlib.Core.Path.{_≡_, refl, sym, ap, ap₂, _∙_}
+use mathlib.Core.Bool.{true}
+use mathlib.Core.List.{List, [], _∷_, _++_, map, append-assoc}
+use mathlib.Core.Option.{Option}
+use lib.ListN.{length, take, drop}
+use lib.Seq.{take-append-seam}
+use Rattle.wire.specs.Bits.{splice}
+use Rattle.model.specs.Call.{Input, Load, Call, split}
+use Rattle.model.specs.Session.{Item, Session}
+use Rattle.model.specs.Plan.{records}
+use Rattle.model.specs.Step.{run, step}
+use Rattle.model.specs.Demand3.{Observed, observed, itemsOf}
+use Rattle.model.specs.Reachable.{sessionAfter}
+use Rattle.model_reads.specs.Read.{Entry, loaded, Read}
+use Rattle.model_reads.specs.Acts.{mapAct, ObservedAct, observedRead, observedAct, afterAct, observedActs, seenFrom, Equal-reads}
+use Rattle.model_reads.proofs.EqualReads.{equal-reads}
+use Rattle.session.specs.View.{Store, session, isWhole}
+use Rattle.session.proofs.Views.{whole-is}
+use Rattle.converter.specs.Next.{givenIn as nextGiven}
+use Rattle.reads.specs.declared.ReadAnswer.{ReadAnswer}
+use Rattle.reads.specs.declared.record.RequestRecord.{RequestRecord}
+use Rattle.reads.specs.Handed.{Singly}
+use Rattle.reads.specs.Agrees.{Agrees}
+use Rattle.reads.proofs.Agreed.{handed-is-read}
+use Rattle.session_theorems.specs.Trail.{Exchange, turnOf, Calls, slicesAfter, serialIn, seen, FreshCalls, givenTo}
+use Rattle.session_theorems.specs.Made.{Made, entriesOf, actOf, afterMade, MadeCalls, seenOf, Made-is-acts, FreshMade, Equal-seen, InTurn, Singles, givenIn, Reads-are-singles, Made-in-order}
+use Rattle.session_theorems.proofs.Others.{Others, others}
+use Rattle.session_theorems.proofs.Trails.{seen-is-run, stays-whole, session-after, given-in-order}
+
+-- ---- calls one after another
+
+calls-append : {s : Store} (zs : List Exchange) {ys : List Exchange} → Calls s zs → Calls (slicesAfter s zs) ys → Calls s (zs ++ ys)
+unfolding slicesAfter
+calls-append [] Calls.none c = c
+calls-append (Exchange.called call other clock out later answer e ∷ zs) (Calls.called a rest) c = Calls.called a (calls-append zs rest c)
+calls-append (Exchange.asked clock buffer later answer e ∷ zs) (Calls.asked a rest) c = Calls.asked a (calls-append zs rest c)
+
+after-append : (s : Store) (zs ys : List Exchange) → slicesAfter s (zs ++ ys) ≡ slicesAfter (slicesAfter s zs) ys
+unfolding slicesAfter
+after-append s [] ys = refl
+after-append s (Exchange.called call other clock out later answer e ∷ zs) ys = after-append e zs ys
+after-append s (Exchange.asked clock buffer later answer e ∷ zs) ys = after-append e zs ys
+
+given-append : (d : ℕ) (zs ys : List Exchange) → givenTo d (zs ++ ys) ≡ givenTo d zs ++ givenTo d ys
+unfolding givenTo itemsOf
+given-append d [] ys = refl
+given-append d (Exchange.called call other clock out later answer e ∷ zs) ys = given-append d zs ys
+given-append d (Exchange.asked clock buffer later answer e ∷ zs) ys =
+    let is = itemsOf d (nextGiven answer later) in ap (λ (js : List (Item Load)). is ++ js) (given-append d zs ys) ∙ sym (append-assoc is (givenTo d zs) (givenTo d ys))
+
+-- ---- a read is its single calls
+
+record Turns (clock : ℕ) (s e : Store) (out later : List ℕ) (es : List (Entry (Call Input))) (r : ReadAnswer) : Type 0 where
+  singles : List Exchange
+  in-turn : InTurn clock out later es r singles
+  calls : Calls s singles
+  after : slicesAfter s singles ≡ e
+  given : (d : ℕ) → givenTo d singles ≡ []
+
+turns : {clock : ℕ} {s e : Store} {out later : List ℕ} {es : List (Entry (Call Input))} {r : ReadAnswer} → Others es → Singly clock s e out later es r
+    → Turns clock s e out later es r
+unfolding slicesAfter givenTo
+turns Others.none Singly.none = record { singles = []; in-turn = InTurn.none; calls = Calls.none; after = refl; given = λ d. refl }
+turns (Others.badPart os) Singly.badPart = record { singles = []; in-turn = InTurn.badPart; calls = Calls.none; after = refl; given = λ d. refl }
+turns {clock} {e = e} {out = out} {later = later} (Others.request {call = call} other os) (Singly.refused {answer = answer} a o) =
+    record {
+      singles = Exchange.called call other clock out later answer e ∷ [];
+      in-turn = InTurn.refused o;
+      calls = Calls.called a Calls.none;
+      after = refl;
+      given = λ d. refl;
+    }
+turns {clock} {out = out} (Others.request {call = call} other os) (Singly.accepted {m = m} {mid = mid} {answer = answer} a o rest) =
+    let t = turns os rest in
+    record {
+      singles = Exchange.called call other clock out mid answer m ∷ t .singles;
+      in-turn = InTurn.accepted o (t .in-turn);
+      calls = Calls.called a (t .calls);
+      after = t .after;
+      given = t .given;
+    }
+
+pub reads-are-singles : Reads-are-singles
+unfolding afterMade givenIn slicesAfter givenTo
+reads-are-singles s [] whole MadeCalls.none =
+    record { singles = []; are = Singles.none; calls = Calls.none; after = refl; given = λ d. refl }
+reads-are-singles s (Made.one x ∷ xs) whole (MadeCalls.one c rest) =
+    let r = reads-are-singles (slicesAfter s (x ∷ [])) xs (stays-whole s (x ∷ []) whole c) rest in
+    record {
+      singles = x ∷ r .singles;
+      are = Singles.one (r .are);
+      calls = calls-append (x ∷ []) c (r .calls);
+      after = after-append s (x ∷ []) (r .singles) ∙ r .after;
+      given = λ d. given-append d (x ∷ []) (r .singles) ∙ ap (λ (is : List (Item Load)). givenTo d (x ∷ []) ++ is) (r .given d);
+    }
+reads-are-singles s (Made.read rs lent clock out later answer e ∷ xs) whole (MadeCalls.read h rest) =
+    let t = turns (others lent rs) (h .handled whole) in
+    let w : isWhole e ≡ true = whole-is e (handed-is-read s e out later (entriesOf rs lent) clock answer whole h .whole) in
+    let r = reads-are-singles e xs w rest in
+    record {
+      singles = t .singles ++ r .singles;
+      are = Singles.read (t .in-turn) (r .are);
+      calls = calls-append (t .singles) (t .calls) (rw (t .after) (r .calls));
+      after = after-append s (t .singles) (r .singles) ∙ ap (λ (m : Store). slicesAfter m (r .singles)) (t .after) ∙ r .after;
+      given = λ d. given-append d (t .singles) (r .singles) ∙ ap₂ _++_ (t .given d) (r .given d);
+    }
+
+pub made-in-order : Made-in-order
+made-in-order c n i vs s xs d f =
+    let r = reads-are-singles s xs (f .whole) (f .calls) in
+    let g : FreshCalls c n i vs s (r .singles) = record { whole = f .whole; starts = f .starts; calls = r .calls } in
+    let k = given-in-order c n i vs s (r .singles) d g in
+    record { replaced = r; fresh-calls = g; left = k .0; in-order = k .1 ∙ ap (λ (is : List (Item Load)). is ++ k .0) (r .given d) }
+
+-- ---- what is seen
+
+firstOr : Observed → List Observed → Observed
+firstOr d [] = d
+firstOr d (o ∷ os) = o
+
+-- of one call
+one-seen : (s : Store) (x : Exchange) → isWhole s ≡ true → Calls s (x ∷ []) → seen x ≡ observed (step (split (turnOf x)) (session s))
+unfolding run firstOr
+one-seen s x whole c = ap (firstOr (seen x)) (seen-is-run s (x ∷ []) whole c)
+
+one-after : (s : Store) (x : Exchange) → isWhole s ≡ true → Calls s (x ∷ []) → session (slicesAfter s (x ∷ [])) ≡ step (split (turnOf x)) (session s) .session
+unfolding sessionAfter
+one-after s x whole c = session-after s (x ∷ []) whole c
+
+-- of a read
+read-seen : {s e : Store} (rs : List RequestRecord) (lent : List ℕ) (clock : ℕ) (out : List ℕ) {later : List ℕ} {to : Read Load} {r : ReadAnswer}
+    → Agrees s e out later to r → seenOf (Made.read rs lent clock out later r e) ≡ observedRead to
+unfolding observedRead splice
+read-seen {e = e} rs lent clock out {later} {to} {r} a =
+    let wrote : take (r .count) later ≡ records (to .events) = rw (a .count, a .bytes) (take-append-seam (records (to .events)) (drop (0 + length (records (to .events))) out)) in
+    let serial : serialIn e ≡ to .session .connection .lastSerial = ap (λ (x : Session Load). x .connection .lastSerial) (a .view) in
+    λ i. ObservedAct.read (a .accepted i) (record { outcome = a .outcome i; count = a .count i; bytes = wrote i; lastSerial = serial i; given = [] })
+
+pub made-is-acts : Made-is-acts
+unfolding observedActs observedAct afterAct mapAct split loaded
+made-is-acts s [] whole MadeCalls.none = refl
+made-is-acts s (Made.one x ∷ xs) whole (MadeCalls.one c rest) =
+    ap₂ (λ (o : ObservedAct) (os : List ObservedAct). o ∷ os) (ap ObservedAct.one (one-seen s x whole c)) (made-is-acts (slicesAfter s (x ∷ [])) xs (stays-whole s (x ∷ []) whole c) rest ∙ ap (observedActs (map (mapAct loaded) (map actOf xs))) (one-after s x whole c))
+made-is-acts s (Made.read rs lent clock out later answer e ∷ xs) whole (MadeCalls.read h rest) =
+    let a = handed-is-read s e out later (entriesOf rs lent) clock answer whole h in
+    ap₂ (λ (o : ObservedAct) (os : List ObservedAct). o ∷ os) (read-seen rs lent clock out a) (made-is-acts e xs (whole-is e (a .whole)) rest ∙ ap (observedActs (map (mapAct loaded) (map actOf xs))) (a .view))
+
+module _ {c n i : ℕ} {vs : List (Option ℕ)} {s : Store} {xs : List Made} (f : FreshMade c n i vs s xs) where
+  seen-from : map seenOf xs ≡ seenFrom c n i vs (map actOf xs)
+  unfolding seenFrom
+  seen-from = made-is-acts s xs (f .whole) (f .calls) ∙ ap (observedActs (map (mapAct loaded) (map actOf xs))) (f .starts)
+
+pub equal-seen : Equal-seen
+unfolding Equal-reads
+equal-seen c n i vs s s′ xs xs′ f f′ matched = seen-from f ∙ equal-reads c n i vs (map actOf xs) (map actOf xs′) matched ∙ sym (seen-from f′)

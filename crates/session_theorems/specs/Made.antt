@@ -1,0 +1,140 @@
+-- Lists of calls of the code in which whole reads stand among the others, each as its contract has it, and what holds of them: demand 3 over them, and that a
+-- read is its requests handed in singly, so that all that Trail.antt says of single calls is said of it. proofs/Making.antt proves the statements.
+-- "Every session call that these requests add joins those of demand 3." Assumes nothing.
+use Prim.Native.Nat.{ℕ, suc, _+_}
+use mathlib.Core.Path.{_≡_}
+use mathlib.Core.Bool.{true}
+use mathlib.Core.List.{List, [], _∷_, _++_, map}
+use mathlib.Core.Option.{Option}
+use lib.ListN.{length, take, drop}
+use Rattle.model.specs.Call.{Input, Load, Plain, Call}
+use Rattle.model.specs.Session.{Item, fresh}
+use Rattle.model.specs.Demand3.{taken}
+use Rattle.model_reads.specs.Read.{Entry, loaded}
+use Rattle.model_reads.specs.Acts.{Act, mapAct, ObservedAct, observedActs, MatchedActs}
+use Rattle.session.specs.View.{Store, session, isWhole}
+use Rattle.answers.specs.declared.Error.{Error}
+use Rattle.answers.specs.declared.Outcome.{Outcome}
+use Rattle.answers.specs.declared.Answer.{Answer}
+use Rattle.reads.specs.declared.First.{First}
+use Rattle.reads.specs.declared.ReadAnswer.{ReadAnswer}
+use Rattle.reads.specs.declared.record.RequestRecord.{RequestRecord}
+use Rattle.reads.specs.Record.{entryOf}
+use Rattle.reads.specs.Handed.{opened, Handed}
+use Rattle.reads.specs.Agrees.{firstOf}
+use Rattle.session_theorems.specs.Trail.{Exchange, turnOf, Calls, slicesAfter, serialIn, seen, FreshCalls, givenTo}
+
+-- a call, or a whole read: its records with the texts lent beside them, the clock, its buffer before and after it, what it answered, and the slices after it
+pub data Made : Type 0 where
+  one : Exchange → Made
+  read : (records : List RequestRecord) (lent : List ℕ) (clock : ℕ) (out later : List ℕ) (answer : ReadAnswer) (after : Store) → Made
+
+-- the records as the model has them
+abbrev pub entriesOf : (records : List RequestRecord) (lent : List ℕ) → List (Entry (Call Input))
+entriesOf records lent = map (entryOf lent) records
+
+abbrev pub actOf : Made → Act (Call Input)
+actOf (Made.one x) = Act.one (turnOf x .call) (turnOf x .now) (turnOf x .room)
+actOf (Made.read records lent clock out later answer e) = Act.read (entriesOf records lent) clock (length out)
+
+-- the slices after it, which were s before
+abbrev pub afterOne : Store → Made → Store
+afterOne s (Made.one x) = slicesAfter s (x ∷ [])
+afterOne s (Made.read records lent clock out later answer e) = e
+
+unfoldable pub afterMade : Store → List Made → Store
+afterMade s [] = s
+afterMade s (x ∷ xs) = afterMade (afterOne s x) xs
+
+-- "each call gets the session the one before returned, and nobody else changes it"
+pub data MadeCalls : Store → List Made → Type 0 where
+  none : {s : Store} → MadeCalls s []
+  one : {s : Store} {x : Exchange} {xs : List Made} → Calls s (x ∷ []) → MadeCalls (slicesAfter s (x ∷ [])) xs → MadeCalls s (Made.one x ∷ xs)
+  read : {s e : Store} {records : List RequestRecord} {lent : List ℕ} {clock : ℕ} {out later : List ℕ} {answer : ReadAnswer} {xs : List Made}
+      → Handed s e out later (entriesOf records lent) clock answer → MadeCalls e xs → MadeCalls s (Made.read records lent clock out later answer e ∷ xs)
+
+-- what is seen, payload aside; of a read "the number accepted ..., the number of event bytes these wrote, and the first refusal", the bytes and the last serial
+abbrev pub seenOf : Made → ObservedAct
+seenOf (Made.one x) = ObservedAct.one (seen x)
+seenOf (Made.read records lent clock out later answer e) =
+    ObservedAct.read (answer .accepted)
+    (record {
+      outcome = firstOf (answer .refusal);
+      count = answer .count;
+      bytes = take (answer .count) later;
+      lastSerial = serialIn e;
+      given = [];
+    })
+
+-- what is seen of calls and reads on a session that is not damaged is what the definitions say of them, and nothing else has a part in it
+abbrev pub Made-is-acts : Type 0
+Made-is-acts =
+    (s : Store) (xs : List Made) → isWhole s ≡ true → MadeCalls s xs → map seenOf xs ≡ observedActs (map (mapAct loaded) (map actOf xs)) (session s)
+
+-- "Both lists start from the same session, as a successful Finish leaves it"
+pub record FreshMade (c n i : ℕ) (vs : List (Option ℕ)) (s : Store) (xs : List Made) : Type 0 where
+  pub whole : isWhole s ≡ true
+  pub starts : session s ≡ fresh c n i vs
+  pub calls : MadeCalls s xs
+
+-- DEMAND 3, FIRST HALF, OF THE CODE. Equally placed calls, and equally placed records of reads, are the same in all but payload (`MatchedActs`): then
+-- everything that is seen but payload is equal
+abbrev pub Equal-seen : Type 0
+Equal-seen =
+    (c n i : ℕ) (vs : List (Option ℕ)) (s s′ : Store) (xs xs′ : List Made) → FreshMade c n i vs s xs → FreshMade c n i vs s′ xs′
+    → MatchedActs (map actOf xs) (map actOf xs′) → map seenOf xs ≡ map seenOf xs′
+
+-- ---- a read is its requests handed in singly
+
+-- the single calls of a read with this answer: "the requests tried ..., each with what is left of `out`"
+pub data InTurn (clock : ℕ) : (out later : List ℕ) → List (Entry (Call Input)) → ReadAnswer → List Exchange → Type 0 where
+  none : {out : List ℕ} → InTurn clock out out [] (opened true) []
+  badPart : {out : List ℕ} {es : List (Entry (Call Input))}
+      → InTurn clock out out (Entry.badPart ∷ es) (record { accepted = 0; count = 0; refusal = First.Refused Error.BadPart }) []
+  refused : {out later : List ℕ} {call : Call Input} {other : call ≡ Call.plain Plain.nextRequest → ⊥} {es : List (Entry (Call Input))} {answer : Answer} {error : Error}
+      {e : Store} → answer .outcome ≡ Outcome.Refused error
+      → InTurn clock out later (Entry.request call ∷ es) (record { accepted = 0; count = answer .count; refusal = First.Refused error })
+      (Exchange.called call other clock out later answer e ∷ [])
+  accepted : {out mid later : List ℕ} {call : Call Input} {other : call ≡ Call.plain Plain.nextRequest → ⊥} {es : List (Entry (Call Input))} {answer : Answer}
+      {others : ReadAnswer} {e : Store} {zs : List Exchange} → ((error : Error) → answer .outcome ≡ Outcome.Refused error → ⊥)
+      → InTurn clock (drop (answer .count) mid) later es others zs
+      → InTurn clock out (take (answer .count) mid ++ later) (Entry.request call ∷ es)
+      (record { accepted = suc (others .accepted); count = answer .count + others .count; refusal = others .refusal })
+      (Exchange.called call other clock out mid answer e ∷ zs)
+
+-- calls and reads, each read replaced by its single calls
+pub data Singles : List Made → List Exchange → Type 0 where
+  none : Singles [] []
+  one : {x : Exchange} {xs : List Made} {ys : List Exchange} → Singles xs ys → Singles (Made.one x ∷ xs) (x ∷ ys)
+  read : {records : List RequestRecord} {lent : List ℕ} {clock : ℕ} {out later : List ℕ} {answer : ReadAnswer} {e : Store} {xs : List Made} {zs ys : List Exchange}
+      → InTurn clock out later (entriesOf records lent) answer zs → Singles xs ys → Singles (Made.read records lent clock out later answer e ∷ xs) (zs ++ ys)
+
+-- the timed requests that `next_request` gave for a device; a read gives none
+unfoldable pub givenIn : (device : ℕ) → List Made → List (Item Load)
+unfolding givenTo
+givenIn d [] = []
+givenIn d (Made.one x ∷ xs) = givenTo d (x ∷ []) ++ givenIn d xs
+givenIn d (Made.read records lent clock out later answer e ∷ xs) = givenIn d xs
+
+-- "Session, bytes and outcomes equal those of the requests tried, handed in singly": there are single calls, each as its contract has it, on the same slices
+-- and to the same slices, that give the same
+pub record Replaced (s : Store) (xs : List Made) : Type 0 where
+  pub singles : List Exchange
+  pub are : Singles xs singles
+  pub calls : Calls s singles
+  pub after : slicesAfter s singles ≡ afterMade s xs
+  pub given : (d : ℕ) → givenTo d singles ≡ givenIn d xs
+
+abbrev pub Reads-are-singles : Type 0
+Reads-are-singles = (s : Store) (xs : List Made) → isWhole s ≡ true → MadeCalls s xs → Replaced s xs
+
+-- DEMAND 3, SECOND HALF, OF THE CODE, over lists with reads: what is given for a device is what was taken on it, in order, a request of a read being taken as
+-- one that is handed in singly
+pub record GivenInOrder (c n i : ℕ) (vs : List (Option ℕ)) (s : Store) (xs : List Made) (d : ℕ) : Type 0 where
+  pub replaced : Replaced s xs
+  pub fresh-calls : FreshCalls c n i vs s (replaced .singles)
+  pub left : List (Item Load)
+  pub in-order : taken c n i vs d (map turnOf (replaced .singles)) ≡ givenIn d xs ++ left
+
+abbrev pub Made-in-order : Type 0
+Made-in-order = (c n i : ℕ) (vs : List (Option ℕ)) (s : Store) (xs : List Made) (d : ℕ) → FreshMade c n i vs s xs → GivenInOrder c n i vs s xs d
