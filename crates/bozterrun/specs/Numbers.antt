@@ -18,6 +18,7 @@ use Rattle.eiproto.specs.declared.eiproto_enum.DisconnectReasonOf.{DisconnectRe
 use Rattle.requests.specs.declared.eis.HandshakeRequest.{HandshakeRequest}
 use Rattle.handshake.specs.View.{number}
 use Rattle.handshake.specs.declared.handshake.HandshakeError.{HandshakeError}
+use Rattle.lent_read.specs.Numbers.{recordWords, recordReals}
 use Rattle.answers.specs.Answer.{numberOf}
 use Rattle.answers.specs.declared.Error.{Error}
 use Rattle.bozterrun.specs.Reply.{noneNumber, badArgument}
@@ -62,11 +63,17 @@ refusals =
     ∷ Error.InvalidTextLength ∷ [])
     ++ map number (HandshakeError.NonHandshakeEvent ∷ HandshakeError.DuplicateEvent ∷ HandshakeError.MissingInterface ∷ [])
     ++ map numberOf (Error.BadUtf8 ∷ Error.NameLong ∷ Error.UnknownHandle ∷ Error.BadCapabilities ∷ Error.FullSeats ∷ Error.FullDevices ∷ Error.FullPending
-    ∷ Error.FullQueue ∷ Error.FullTexts ∷ Error.ShortOut ∷ Error.IdsSpent ∷ Error.BadState ∷ [])
+    ∷ Error.FullQueue ∷ Error.FullTexts ∷ Error.ShortOut ∷ Error.IdsSpent ∷ Error.BadState ∷ Error.BadPart ∷ [])
 
 -- the kinds of delivered requests are the places of `meanings` in requests/specs/Row
 abbrev kinds : List ℕ
 kinds = 0 ∷ 1 ∷ 2 ∷ 3 ∷ 4 ∷ 5 ∷ 6 ∷ 7 ∷ 8 ∷ 9 ∷ 10 ∷ 11 ∷ 12 ∷ 13 ∷ 14 ∷ 15 ∷ 16 ∷ 17 ∷ 18 ∷ 19 ∷ 20 ∷ 21 ∷ []
+
+-- the numbers of a read's requests are the places of `meanings` in lent_read/specs/Numbers
+abbrev requests : List ℕ
+requests =
+    0 ∷ 1 ∷ 2 ∷ 3 ∷ 4 ∷ 5 ∷ 6 ∷ 7 ∷ 8 ∷ 9 ∷ 10 ∷ 11 ∷ 12 ∷ 13 ∷ 14 ∷ 15 ∷ 16 ∷ 17 ∷ 18 ∷ 19 ∷ 20 ∷ 21 ∷ 22 ∷ 23 ∷ 24 ∷ 25 ∷ 26 ∷ 27 ∷ 28 ∷ 29 ∷ 30 ∷ 31 ∷ 32
+    ∷ 33 ∷ 34 ∷ 35 ∷ []
 
 abbrev interfaces : List ℕ
 interfaces =
@@ -77,4 +84,4 @@ unfoldable pub numbers : List ℕ
 unfolding numberOf
 numbers =
     refusals ++ (noneNumber ∷ badArgument ∷ []) ++ kinds ++ interfaces ++ map capabilityMask capabilities ++ map contextTypeNumber contextTypes
-    ++ map deviceTypeNumber deviceTypes ++ map disconnectReasonNumber disconnectReasons
+    ++ map deviceTypeNumber deviceTypes ++ map disconnectReasonNumber disconnectReasons ++ requests ++ (recordWords ∷ recordReals ∷ [])

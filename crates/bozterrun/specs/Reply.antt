@@ -8,12 +8,14 @@ use denote.Ref.{RefT}
 use denote.Triple.Both.{Both}
 use lib.Dec.{eqb}
 use Rattle.model.specs.Call.{Input, Call}
-use Rattle.session.specs.Slices.{Numbers, Reals, rowsBefore, rowsAfter, text}
+use Rattle.session.specs.Slices.{Numbers, Reals, before, after, rowsBefore, rowsAfter, text}
 use Rattle.model.specs.Plan as plan
 use Rattle.answers.specs.Answer.{numberOf, outcomeOf}
 use Rattle.answers.specs.declared.Outcome.{Outcome}
 use Rattle.answers.specs.declared.Answer.{Answer}
 use Rattle.client_calls.specs.Request.{AsksRows}
+use Rattle.reads.specs.declared.First.{First}
+use Rattle.reads.specs.declared.ReadAnswer.{ReadAnswer}
 use Rattle.bozterrun.specs.declared.answer.RefusedVersion.{RefusedVersion}
 
 -- ---- numbers
@@ -45,6 +47,11 @@ valueOf (Outcome.Device id) = id
 valueOf (Outcome.Value n) = n
 valueOf (Outcome.Truth b) = cond b 1 0
 valueOf Outcome.None = 0
+
+-- a read is answered as a call is, by its first refusal
+abbrev pub firstOutcome : First → Outcome
+firstOutcome First.None = Outcome.Accepted
+firstOutcome (First.Refused e) = Outcome.Refused e
 
 abbrev pub noVersion : RefusedVersion
 noVersion = record { interface = 0; version = 0 }
@@ -99,6 +106,16 @@ abbrev pub Detailed : (interface version : Number) → Answer → Type 0
 Detailed interface version a =
     (interface .exit .now ≡ versionIn (outcomeOf (a .outcome)) .interface) × (version .exit .now ≡ versionIn (outcomeOf (a .outcome)) .version)
 
+-- the answer of a whole read, with the details of refusal 2
+pub record ToldRead (Promised : ReadAnswer → Type 0) (status : ℕ) (accepted count interface version : Number) : Type 0 where
+  pub answer : ReadAnswer
+  pub promised : Promised answer
+  pub status-is : status ≡ statusOf (firstOutcome (answer .refusal))
+  pub accepted-is : accepted .exit .now ≡ answer .accepted
+  pub count-is : count .exit .now ≡ answer .count
+  pub interface-is : interface .exit .now ≡ versionIn (outcomeOf (firstOutcome (answer .refusal))) .interface
+  pub version-is : version .exit .now ≡ versionIn (outcomeOf (firstOutcome (answer .refusal))) .version
+
 -- ---- numbers that are no case of their enum
 
 -- a name or an explanation, where `given` is 1
@@ -123,3 +140,9 @@ Unsent c out count value = Kept c × (Kept out × ((count .exit .now ≡ 0) × (
 
 abbrev pub UnsentRows : (control words : Numbers) (reals : Reals) (out : Numbers) (count : Number) → Type 0
 UnsentRows c w r out count = KeptRows c w r × (Kept out × (count .exit .now ≡ 0))
+
+-- of a whole read nothing is tried
+abbrev pub Unread : (control words : Numbers) (reals : Reals) (texts out : Numbers) (accepted count interface version : Number) → Type 0
+Unread c w r t out accepted count interface version =
+    (after c w r t ≡ before c w r t)
+    × (Kept out × ((accepted .exit .now ≡ 0) × ((count .exit .now ≡ 0) × ((interface .exit .now ≡ 0) × (version .exit .now ≡ 0)))))

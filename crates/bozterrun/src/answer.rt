@@ -1,9 +1,10 @@
 // What a call answers, as numbers.
 use answers::Error;
 use answers::Outcome;
+use reads::First;
 ghost use mathlib.Core.Path.{_≡_};
 ghost use Rattle.answers.specs.Answer.{errorOf, outcomeOf};
-ghost use Rattle.bozterrun.specs.Reply.{statusOf, valueOf, noVersion, versionIn};
+ghost use Rattle.bozterrun.specs.Reply.{statusOf, valueOf, firstOutcome, noVersion, versionIn};
 
 // Not a refusal: nothing is queued, or the interface was not negotiated.
 pub const NONE: u32 = 64;
@@ -37,6 +38,16 @@ pub fn value(outcome: Outcome) -> u64
         Outcome::Value(n) => n as u64,
         Outcome::Truth(b) => b as u64,
         Outcome::None => 0,
+    }
+}
+
+// The first refusal of a read as the outcome of one call.
+pub fn first_outcome(first: First) -> Outcome
+    ensures { λ r. ⌜ r ≡ firstOutcome first ⌝ }
+{
+    match first {
+        First::None => Outcome::Accepted,
+        First::Refused(error) => Outcome::Refused(error),
     }
 }
 
@@ -80,6 +91,7 @@ fn version_in(error: Error) -> RefusedVersion
         Error::ShortOut => no_version(),
         Error::IdsSpent => no_version(),
         Error::BadState => no_version(),
+        Error::BadPart => no_version(),
     }
 }
 

@@ -6,4 +6,5 @@ mod client;
 mod delivery;
 mod handshakes;
 mod numbers;
+mod read;
 mod station;

@@ -5,6 +5,9 @@ use answers::NAME_LENGTH_LIMIT;
 use control::CONTROL_LENGTH;
 use eiproto::event::DeviceCapability;
 use lent_handshake::HANDSHAKE_LENGTH;
+use lent_read::numbers as read;
+use lent_read::record::RECORD_REALS;
+use lent_read::record::RECORD_WORDS;
 use requests::kinds;
 use session::REALS_LENGTH;
 use session::TEXTS_LENGTH;
@@ -60,8 +63,9 @@ pub extern "C" fn bozterrun_texts_length() -> usize
 }
 
 // The numbers that include/bozterrun.h has names for, in its order: refusals, what is no refusal, kinds of requests, interfaces, capabilities,
-// context types, device types, reasons. specs/Numbers says what each is the number of.
-const NUMBERS: usize = 74;
+// context types, device types, reasons, requests of a read, the
+// words and the reals of its records. specs/Numbers says what each is the number of.
+const NUMBERS: usize = 113;
 
 // The number at a place of that table, 0 past its end: a program tests by it that its header is the library's.
 #[no_mangle]
@@ -90,6 +94,7 @@ pub extern "C" fn bozterrun_number(place: usize) -> u64
         19,
         20,
         21,
+        22,
         NONE as u64,
         BAD_ARGUMENT as u64,
         kinds::DISCONNECT,
@@ -143,6 +148,44 @@ pub extern "C" fn bozterrun_number(place: usize) -> u64
         3,
         4,
         5,
+        read::HANDSHAKE_VERSION,
+        read::HANDSHAKE_FINISH,
+        read::HANDSHAKE_CONTEXT_TYPE,
+        read::HANDSHAKE_NAME,
+        read::HANDSHAKE_INTERFACE_VERSION,
+        read::CONNECTION_SYNC,
+        read::CONNECTION_DISCONNECT,
+        read::PINGPONG_DONE,
+        read::SEAT_RELEASE,
+        read::SEAT_BIND,
+        read::SEAT_REQUEST_DEVICE,
+        read::DEVICE_RELEASE,
+        read::DEVICE_START_EMULATING,
+        read::DEVICE_STOP_EMULATING,
+        read::DEVICE_FRAME,
+        read::DEVICE_READY,
+        read::POINTER_RELEASE,
+        read::POINTER_MOTION_RELATIVE,
+        read::POINTER_ABSOLUTE_RELEASE,
+        read::POINTER_ABSOLUTE_MOTION_ABSOLUTE,
+        read::SCROLL_RELEASE,
+        read::SCROLL_SCROLL,
+        read::SCROLL_SCROLL_DISCRETE,
+        read::SCROLL_SCROLL_STOP,
+        read::BUTTON_RELEASE,
+        read::BUTTON_BUTTON,
+        read::KEYBOARD_RELEASE,
+        read::KEYBOARD_KEY,
+        read::TOUCHSCREEN_RELEASE,
+        read::TOUCHSCREEN_DOWN,
+        read::TOUCHSCREEN_MOTION,
+        read::TOUCHSCREEN_UP,
+        read::TOUCHSCREEN_CANCEL,
+        read::TEXT_RELEASE,
+        read::TEXT_KEYSYM,
+        read::TEXT_UTF8,
+        RECORD_WORDS as u64,
+        RECORD_REALS as u64,
     ];
     if place < NUMBERS { table[place] } else { 0 }
 }

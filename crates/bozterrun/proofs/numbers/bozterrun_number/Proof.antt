@@ -9,7 +9,7 @@ use borrow.Author.Needs.{needs}
 use Rattle.bozterrun.proofs.numbers.bozterrun_number.Statement.{statement}
 use Rattle.bozterrun.proofs.numbers.bozterrun_number.Tie as tie
 
-numbers-long : length numbers ≡ 74
+numbers-long : length numbers ≡ 113
 unfolding numbers numberOf refusal
 numbers-long = refl
 
