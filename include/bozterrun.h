@@ -4,12 +4,14 @@
  * The model.
  *   - A session lies in memory that the caller owns: a bozterrun_session, 46,848 bytes. So does the handshake that it
  *     begins with. The library allocates nothing, locks nothing, blocks nowhere and keeps nothing between two calls.
- *   - The client's messages are decoded by the caller; each becomes one call. What the client is to be sent comes back
- *     as event records in `out`; bz_next_event reads them. What the clerk did comes back from bz_next_request.
+ *   - The client's messages are decoded by the caller; each becomes one call, or a record of a read, which hands over
+ *     many in one call. What the client is to be sent comes back as event records in `out`; bz_next_event reads them.
+ *     What the clerk did comes back from bz_next_request.
  *   - A call answers 0 (BOZTERRUN_ACCEPTED) or the number of a refusal. After a refusal the session, the handshake and
- *     every lent buffer are as they were, byte for byte (of the bits of a NaN that is tested, not proved). Two calls
- *     say where they part from that: bz_handshake_new, bz_handshake_finish. 64 and 65 are no refusals of the protocol:
- *     BOZTERRUN_NONE, BOZTERRUN_BAD_ARGUMENT. They too leave everything as it was.
+ *     every lent buffer are as they were, byte for byte (of the bits of a NaN that is tested, not proved). Three calls
+ *     say where they part from that: bz_handshake_new, bz_handshake_finish, and bz_handle_requests, which keeps what it
+ *     accepted. 64 and 65 are no refusals of the protocol: BOZTERRUN_NONE, BOZTERRUN_BAD_ARGUMENT. They too leave
+ *     everything as it was.
  *   - A client's request on an object that is not known is accepted and does nothing.
  *   - Any thread may make a call, one at a time on one session. Calls on different sessions share nothing.
  *   - Nothing that a caller hands in makes the library read or write outside what it was lent. That is proved of the
@@ -19,17 +21,18 @@
  * The names. bozterrun_X is a function of the library: a slice is a pointer, never NULL, and its length. bz_X below it
  * is the same call over the structs, and what programs call. Types begin with bozterrun_, numbers with BOZTERRUN_.
  *
- * What holds for every bz_X. A NULL session, handshake or request answers BOZTERRUN_BAD_STATE, before all else. A NULL
- * name or explanation is one that is not given. Any other NULL text is the empty text. A NULL out or buffer has length
- * 0. Texts are void pointers, so that char and uint8_t arrays pass alike; they need no zero at the end and may have
- * one within. `count` gets the number of bytes that were written to out; `id`, `serial`, `truth`, `version` and the
- * like what was asked for. They are written at every answer, with 0 where there is nothing to tell, and may be NULL.
- * "Refuses" lists the refusals in the order in which they are tested. Every call may refuse BOZTERRUN_BAD_STATE: first
- * of all, but for BOZTERRUN_BAD_ARGUMENT.
+ * What holds for every bz_X. A NULL session, handshake, request or read answers BOZTERRUN_BAD_STATE, before all else.
+ * A NULL name or explanation is one that is not given. Any other NULL text is the empty text. A NULL out or buffer has
+ * length 0. Texts are void pointers, so that char and uint8_t arrays pass alike; they need no zero at the end and may
+ * have one within. `count` gets the number of bytes that were written to out; `id`, `serial`, `truth`, `version` and
+ * the like what was asked for. They are written at every answer, with 0 where there is nothing to tell, and may be
+ * NULL. "Refuses" lists the refusals in the order in which they are tested. Every call may refuse BOZTERRUN_BAD_STATE:
+ * first of all, but for BOZTERRUN_BAD_ARGUMENT. bz_read_.. gathers a read and calls no function of the library.
  *
  * A session, from its beginning: bz_check, bz_handshake_new, the client's messages (bz_handshake_..), at its Finish
- * bz_handshake_finish; then bz_add_seat, bz_add_device, bz_resumed; then the client's requests, each followed by
- * bz_next_request until it answers BOZTERRUN_NONE; at last bz_disconnected. examples/station.c is a whole program.
+ * bz_handshake_finish; then bz_add_seat, bz_add_device, bz_resumed; then the client's requests, each, or each read of
+ * them, followed by bz_next_request until it answers BOZTERRUN_NONE; at last bz_disconnected. examples/station.c is a
+ * whole program.
  */
 #ifndef BOZTERRUN_H
 #define BOZTERRUN_H
@@ -37,6 +40,7 @@
 #include <stdbool.h>
 #include <stddef.h>
 #include <stdint.h>
+#include <string.h>
 
 #if !defined(__BYTE_ORDER__) || __BYTE_ORDER__ != __ORDER_LITTLE_ENDIAN__
 #error "bozterrun_request reads the low bytes of its numbers: the library is for little-endian machines"
@@ -87,6 +91,9 @@ enum bozterrun_answer {
 
     /* The slices are no session's or no handshake's: somebody else wrote to them, or they have another length. */
     BOZTERRUN_BAD_STATE = 21,
+
+    /* What the caller of bz_handle_requests can cause. */
+    BOZTERRUN_BAD_PART = 22, /* a record's part goes past the end of the read's texts */
 
     /* No refusals. */
     BOZTERRUN_NONE = 64,        /* nothing is queued, or the interface was not negotiated */
@@ -194,6 +201,46 @@ enum bozterrun_opcode {
     BOZTERRUN_OPCODE_INTERFACE_VERSION = 4
 };
 
+/* The requests of a read, by interface and opcode. bozterrun_record says which numbers each has. */
+enum bozterrun_read_request {
+    BOZTERRUN_READ_HANDSHAKE_VERSION = 0,
+    BOZTERRUN_READ_HANDSHAKE_FINISH = 1,
+    BOZTERRUN_READ_HANDSHAKE_CONTEXT_TYPE = 2,
+    BOZTERRUN_READ_HANDSHAKE_NAME = 3,
+    BOZTERRUN_READ_HANDSHAKE_INTERFACE_VERSION = 4,
+    BOZTERRUN_READ_CONNECTION_SYNC = 5,
+    BOZTERRUN_READ_CONNECTION_DISCONNECT = 6,
+    BOZTERRUN_READ_PINGPONG_DONE = 7,
+    BOZTERRUN_READ_SEAT_RELEASE = 8,
+    BOZTERRUN_READ_SEAT_BIND = 9,
+    BOZTERRUN_READ_SEAT_REQUEST_DEVICE = 10,
+    BOZTERRUN_READ_DEVICE_RELEASE = 11,
+    BOZTERRUN_READ_DEVICE_START_EMULATING = 12,
+    BOZTERRUN_READ_DEVICE_STOP_EMULATING = 13,
+    BOZTERRUN_READ_DEVICE_FRAME = 14,
+    BOZTERRUN_READ_DEVICE_READY = 15,
+    BOZTERRUN_READ_POINTER_RELEASE = 16,
+    BOZTERRUN_READ_POINTER_MOTION_RELATIVE = 17,
+    BOZTERRUN_READ_POINTER_ABSOLUTE_RELEASE = 18,
+    BOZTERRUN_READ_POINTER_ABSOLUTE_MOTION_ABSOLUTE = 19,
+    BOZTERRUN_READ_SCROLL_RELEASE = 20,
+    BOZTERRUN_READ_SCROLL_SCROLL = 21,
+    BOZTERRUN_READ_SCROLL_SCROLL_DISCRETE = 22,
+    BOZTERRUN_READ_SCROLL_SCROLL_STOP = 23,
+    BOZTERRUN_READ_BUTTON_RELEASE = 24,
+    BOZTERRUN_READ_BUTTON_BUTTON = 25,
+    BOZTERRUN_READ_KEYBOARD_RELEASE = 26,
+    BOZTERRUN_READ_KEYBOARD_KEY = 27,
+    BOZTERRUN_READ_TOUCHSCREEN_RELEASE = 28,
+    BOZTERRUN_READ_TOUCHSCREEN_DOWN = 29,
+    BOZTERRUN_READ_TOUCHSCREEN_MOTION = 30,
+    BOZTERRUN_READ_TOUCHSCREEN_UP = 31,
+    BOZTERRUN_READ_TOUCHSCREEN_CANCEL = 32,
+    BOZTERRUN_READ_TEXT_RELEASE = 33,
+    BOZTERRUN_READ_TEXT_KEYSYM = 34,
+    BOZTERRUN_READ_TEXT_UTF8 = 35
+};
+
 /* The lengths of the slices, in elements. */
 enum bozterrun_length {
     BOZTERRUN_HANDSHAKE_LENGTH = 17,
@@ -202,7 +249,9 @@ enum bozterrun_length {
     BOZTERRUN_WORDS_LENGTH = 3840,
     BOZTERRUN_REALS_LENGTH = 1536,
     BOZTERRUN_TEXTS_LENGTH = 8192,
-    BOZTERRUN_OUT_LENGTH = 1225 /* enough `out` for any call on a session that only calls have changed */
+    BOZTERRUN_RECORD_LENGTH = 8, /* of each record of a read, among the records */
+    BOZTERRUN_POINT_LENGTH = 2,  /* and among the points */
+    BOZTERRUN_OUT_LENGTH = 1225  /* enough `out` for any call but a read, on a session that only calls have changed */
 };
 
 /* ---------------------------------------------------------------------------------------------------------------- */
@@ -292,9 +341,78 @@ typedef struct bozterrun_request {
     };
 } bozterrun_request;
 
+/*
+ * A client's request as a record of a read: eight numbers, and a point beside them. The numbers of each request; what
+ * is not listed for one says nothing there:
+ *
+ *   HANDSHAKE_VERSION, _INTERFACE_VERSION      first: version; the latter with a text
+ *   HANDSHAKE_CONTEXT_TYPE                     first: context type
+ *   HANDSHAKE_NAME                             a text
+ *   CONNECTION_SYNC                            first: the callback's id, second: its version
+ *   SEAT_BIND, _REQUEST_DEVICE                 object, first: capabilities
+ *   DEVICE_START_EMULATING                     object, first: last serial, second: sequence
+ *   DEVICE_STOP_EMULATING                      object, first: last serial
+ *   DEVICE_FRAME                               object, first: last serial, second: timestamp
+ *   POINTER_MOTION_RELATIVE, SCROLL_SCROLL     object; the point
+ *   POINTER_ABSOLUTE_MOTION_ABSOLUTE           object; the point
+ *   SCROLL_SCROLL_DISCRETE                     object, first and second: x and y, the bits of an int32_t
+ *   SCROLL_SCROLL_STOP                         object, first, second and third: x, y and is_cancel
+ *   BUTTON_BUTTON, KEYBOARD_KEY, TEXT_KEYSYM   object, first: button, key or keysym, second: state
+ *   TOUCHSCREEN_DOWN, _MOTION                  object, first: touch id; the point
+ *   TOUCHSCREEN_UP                             object, first: touch id
+ *   TOUCHSCREEN_CANCEL                         object, version, first: touch id
+ *   TEXT_UTF8                                  object; a text
+ *   any other                                  object, where the request is on one
+ *
+ * A text is the part of the read's texts that begins at byte `start` and has `length` bytes. Of a number that the
+ * protocol has in 32 bits the low 32 count.
+ */
+typedef struct bozterrun_record {
+    __extension__ union {
+        uint64_t numbers[BOZTERRUN_RECORD_LENGTH];
+        __extension__ struct {
+            uint64_t request; /* BOZTERRUN_READ_.. */
+            uint64_t object;
+            uint64_t version;
+            uint64_t first;
+            uint64_t second;
+            uint64_t third;
+            uint64_t start;
+            uint64_t length;
+        };
+    };
+} bozterrun_record;
+
+/* The coordinates beside a record. */
+typedef struct bozterrun_point {
+    __extension__ union {
+        float coordinates[BOZTERRUN_POINT_LENGTH];
+        __extension__ struct {
+            float x;
+            float y;
+        };
+    };
+} bozterrun_point;
+
+/*
+ * A read: a client's requests, gathered to be handed over in one call. The arrays are the caller's, and stay where they
+ * are as long as the read is used; bz_read_begin says how long they are.
+ */
+typedef struct bozterrun_read {
+    bozterrun_record *records;
+    bozterrun_point *points;
+    uint8_t *texts;
+    size_t capacity;       /* of records, and of points */
+    size_t texts_capacity; /* of texts, in bytes */
+    size_t count;          /* how many records were gathered */
+    size_t texts_length;   /* how many bytes of texts */
+} bozterrun_read;
+
 BZ_ASSERT(sizeof(float) == 4 && sizeof(size_t) == 8, "the library's f32 and usize");
 BZ_ASSERT(sizeof(bozterrun_session) == 46848, "the four slices and nothing between them");
 BZ_ASSERT(sizeof(bozterrun_request) == 48, "five numbers and two coordinates");
+BZ_ASSERT(sizeof(bozterrun_record) == 64 && sizeof(bozterrun_point) == 8, "arrays of numbers without a gap");
+BZ_ASSERT(offsetof(bozterrun_record, length) == 56 && offsetof(bozterrun_point, y) == 4, "fields over numbers");
 BZ_ASSERT(offsetof(bozterrun_request, state) == 32 && offsetof(bozterrun_request, y) == 44, "fields over numbers");
 
 /* What the inline functions lend: a session's slices with their lengths, and for NULL no byte at all. */
@@ -897,6 +1015,375 @@ static inline uint32_t bz_unexpected_handshake(const bozterrun_session *session,
 }
 
 /* ---------------------------------------------------------------------------------------------------------------- */
+/* A read: many of the client's requests in one call.                                                               */
+/* ---------------------------------------------------------------------------------------------------------------- */
+
+/*
+ * Begins a read over these arrays: `capacity` records and as many points, and so many bytes for texts. What they hold
+ * does not count. Where records or points are NULL there is room for no record, where texts is NULL for no byte.
+ */
+static inline void bz_read_begin(bozterrun_read *read, bozterrun_record *records, bozterrun_point *points,
+                                 size_t capacity, void *texts, size_t texts_capacity)
+{
+    if (read == NULL) {
+        return;
+    }
+    read->records = records;
+    read->points = points;
+    read->texts = (uint8_t *)texts;
+    read->capacity = records != NULL && points != NULL ? capacity : 0;
+    read->texts_capacity = texts != NULL ? texts_capacity : 0;
+    read->count = 0;
+    read->texts_length = 0;
+}
+
+/* Empties the read, to gather the next one in the same arrays. */
+static inline void bz_read_clear(bozterrun_read *read)
+{
+    if (read != NULL) {
+        read->count = 0;
+        read->texts_length = 0;
+    }
+}
+
+/*
+ * What is left of a read behind so many records: that which is to be handed over next, once a refusal is dealt with.
+ * It is a read over the same arrays, with the same texts.
+ */
+static inline bozterrun_read bz_read_rest(const bozterrun_read *read, size_t records)
+{
+    bozterrun_read rest = {NULL, NULL, NULL, 0, 0, 0, 0};
+    if (read == NULL) {
+        return rest;
+    }
+    rest = *read;
+    if (records > read->count) {
+        records = read->count;
+    }
+    if (records > 0) {
+        rest.records += records;
+        rest.points += records;
+        rest.capacity -= records;
+        rest.count -= records;
+    }
+    return rest;
+}
+
+/*
+ * Adds a record as it is, with a point: true, or false where there is no room or a pointer is NULL, and then the read
+ * is as it was. This is also the way to lend texts without a copy: let `texts` be the bytes as they were received,
+ * `texts_length` their number, and the records have parts of them, which may overlap and need not cover the texts.
+ */
+static inline bool bz_read_record(bozterrun_read *read, const bozterrun_record *record, float x, float y)
+{
+    if (read == NULL || record == NULL || read->count >= read->capacity) {
+        return false;
+    }
+    read->records[read->count] = *record;
+    read->points[read->count].x = x;
+    read->points[read->count].y = y;
+    read->count += 1;
+    return true;
+}
+
+/* The same from a request's numbers: those of one without a point, of one with a point, and of one with a text. */
+static inline bool bz_read_with_numbers(bozterrun_read *read, uint64_t request, uint64_t object, uint64_t version,
+                                        uint64_t first, uint64_t second, uint64_t third)
+{
+    bozterrun_record record;
+    record.request = request;
+    record.object = object;
+    record.version = version;
+    record.first = first;
+    record.second = second;
+    record.third = third;
+    record.start = 0;
+    record.length = 0;
+    return bz_read_record(read, &record, 0, 0);
+}
+
+static inline bool bz_read_with_point(bozterrun_read *read, uint64_t request, uint64_t object, uint64_t first,
+                                      float x, float y)
+{
+    bozterrun_record record;
+    record.request = request;
+    record.object = object;
+    record.version = 0;
+    record.first = first;
+    record.second = 0;
+    record.third = 0;
+    record.start = 0;
+    record.length = 0;
+    return bz_read_record(read, &record, x, y);
+}
+
+static inline bool bz_read_with_text(bozterrun_read *read, uint64_t request, uint64_t object, uint64_t first,
+                                     const void *text, size_t text_length)
+{
+    const size_t length = text != NULL ? text_length : 0;
+    bozterrun_record record;
+    if (read == NULL || read->texts_length > read->texts_capacity ||
+        length > read->texts_capacity - read->texts_length) {
+        return false;
+    }
+    record.request = request;
+    record.object = object;
+    record.version = 0;
+    record.first = first;
+    record.second = 0;
+    record.third = 0;
+    record.start = read->texts_length;
+    record.length = length;
+    if (!bz_read_record(read, &record, 0, 0)) {
+        return false;
+    }
+    if (length > 0) {
+        memcpy(read->texts + read->texts_length, text, length);
+    }
+    read->texts_length += length;
+    return true;
+}
+
+/*
+ * One for each of the 36 requests, with the arguments of its single call but for the session, the clock and `out`,
+ * which come with bz_handle_requests. Each adds a record and copies its text, if it has one, behind those gathered
+ * before: true, or false where records or texts have no room or the read is NULL, and then the read is as it was. A
+ * text may not lie in the texts of the read itself. Nothing else is tested here: bz_handle_requests tells what a
+ * record is refused with. Those of a handshake are refused always, as at bz_unexpected_handshake.
+ */
+static inline bool bz_read_handshake_handshake_version(bozterrun_read *read, uint32_t version)
+{
+    return bz_read_with_numbers(read, BOZTERRUN_READ_HANDSHAKE_VERSION, 0, 0, version, 0, 0);
+}
+
+static inline bool bz_read_handshake_finish(bozterrun_read *read)
+{
+    return bz_read_with_numbers(read, BOZTERRUN_READ_HANDSHAKE_FINISH, 0, 0, 0, 0, 0);
+}
+
+static inline bool bz_read_handshake_context_type(bozterrun_read *read, uint32_t context_type)
+{
+    return bz_read_with_numbers(read, BOZTERRUN_READ_HANDSHAKE_CONTEXT_TYPE, 0, 0, context_type, 0, 0);
+}
+
+static inline bool bz_read_handshake_name(bozterrun_read *read, const void *text, size_t text_length)
+{
+    return bz_read_with_text(read, BOZTERRUN_READ_HANDSHAKE_NAME, 0, 0, text, text_length);
+}
+
+static inline bool bz_read_handshake_interface_version(bozterrun_read *read, const void *text, size_t text_length,
+                                                       uint32_t version)
+{
+    return bz_read_with_text(read, BOZTERRUN_READ_HANDSHAKE_INTERFACE_VERSION, 0, version, text, text_length);
+}
+
+static inline bool bz_read_connection_sync(bozterrun_read *read, uint64_t callback, uint32_t version)
+{
+    return bz_read_with_numbers(read, BOZTERRUN_READ_CONNECTION_SYNC, 0, 0, callback, version, 0);
+}
+
+static inline bool bz_read_connection_disconnect(bozterrun_read *read)
+{
+    return bz_read_with_numbers(read, BOZTERRUN_READ_CONNECTION_DISCONNECT, 0, 0, 0, 0, 0);
+}
+
+static inline bool bz_read_pingpong_done(bozterrun_read *read)
+{
+    return bz_read_with_numbers(read, BOZTERRUN_READ_PINGPONG_DONE, 0, 0, 0, 0, 0);
+}
+
+static inline bool bz_read_seat_release(bozterrun_read *read, uint64_t seat)
+{
+    return bz_read_with_numbers(read, BOZTERRUN_READ_SEAT_RELEASE, seat, 0, 0, 0, 0);
+}
+
+static inline bool bz_read_seat_bind(bozterrun_read *read, uint64_t seat, uint64_t capabilities)
+{
+    return bz_read_with_numbers(read, BOZTERRUN_READ_SEAT_BIND, seat, 0, capabilities, 0, 0);
+}
+
+static inline bool bz_read_seat_request_device(bozterrun_read *read, uint64_t seat, uint64_t capabilities)
+{
+    return bz_read_with_numbers(read, BOZTERRUN_READ_SEAT_REQUEST_DEVICE, seat, 0, capabilities, 0, 0);
+}
+
+static inline bool bz_read_device_release(bozterrun_read *read, uint64_t device)
+{
+    return bz_read_with_numbers(read, BOZTERRUN_READ_DEVICE_RELEASE, device, 0, 0, 0, 0);
+}
+
+static inline bool bz_read_device_start_emulating(bozterrun_read *read, uint64_t device, uint32_t last_serial,
+                                                  uint32_t sequence)
+{
+    return bz_read_with_numbers(read, BOZTERRUN_READ_DEVICE_START_EMULATING, device, 0, last_serial, sequence, 0);
+}
+
+static inline bool bz_read_device_stop_emulating(bozterrun_read *read, uint64_t device, uint32_t last_serial)
+{
+    return bz_read_with_numbers(read, BOZTERRUN_READ_DEVICE_STOP_EMULATING, device, 0, last_serial, 0, 0);
+}
+
+static inline bool bz_read_device_frame(bozterrun_read *read, uint64_t device, uint32_t last_serial,
+                                        uint64_t timestamp)
+{
+    return bz_read_with_numbers(read, BOZTERRUN_READ_DEVICE_FRAME, device, 0, last_serial, timestamp, 0);
+}
+
+static inline bool bz_read_device_ready(bozterrun_read *read, uint64_t device)
+{
+    return bz_read_with_numbers(read, BOZTERRUN_READ_DEVICE_READY, device, 0, 0, 0, 0);
+}
+
+static inline bool bz_read_pointer_release(bozterrun_read *read, uint64_t pointer)
+{
+    return bz_read_with_numbers(read, BOZTERRUN_READ_POINTER_RELEASE, pointer, 0, 0, 0, 0);
+}
+
+static inline bool bz_read_pointer_motion_relative(bozterrun_read *read, uint64_t pointer, float x, float y)
+{
+    return bz_read_with_point(read, BOZTERRUN_READ_POINTER_MOTION_RELATIVE, pointer, 0, x, y);
+}
+
+static inline bool bz_read_pointer_absolute_release(bozterrun_read *read, uint64_t pointer_absolute)
+{
+    return bz_read_with_numbers(read, BOZTERRUN_READ_POINTER_ABSOLUTE_RELEASE, pointer_absolute, 0, 0, 0, 0);
+}
+
+static inline bool bz_read_pointer_absolute_motion_absolute(bozterrun_read *read, uint64_t pointer_absolute, float x,
+                                                            float y)
+{
+    return bz_read_with_point(read, BOZTERRUN_READ_POINTER_ABSOLUTE_MOTION_ABSOLUTE, pointer_absolute, 0, x, y);
+}
+
+static inline bool bz_read_scroll_release(bozterrun_read *read, uint64_t scroll)
+{
+    return bz_read_with_numbers(read, BOZTERRUN_READ_SCROLL_RELEASE, scroll, 0, 0, 0, 0);
+}
+
+static inline bool bz_read_scroll_scroll(bozterrun_read *read, uint64_t scroll, float x, float y)
+{
+    return bz_read_with_point(read, BOZTERRUN_READ_SCROLL_SCROLL, scroll, 0, x, y);
+}
+
+static inline bool bz_read_scroll_scroll_discrete(bozterrun_read *read, uint64_t scroll, int32_t x, int32_t y)
+{
+    return bz_read_with_numbers(read, BOZTERRUN_READ_SCROLL_SCROLL_DISCRETE, scroll, 0, (uint32_t)x, (uint32_t)y, 0);
+}
+
+static inline bool bz_read_scroll_scroll_stop(bozterrun_read *read, uint64_t scroll, uint32_t x, uint32_t y,
+                                              uint32_t is_cancel)
+{
+    return bz_read_with_numbers(read, BOZTERRUN_READ_SCROLL_SCROLL_STOP, scroll, 0, x, y, is_cancel);
+}
+
+static inline bool bz_read_button_release(bozterrun_read *read, uint64_t interface)
+{
+    return bz_read_with_numbers(read, BOZTERRUN_READ_BUTTON_RELEASE, interface, 0, 0, 0, 0);
+}
+
+static inline bool bz_read_button_button(bozterrun_read *read, uint64_t interface, uint32_t button, uint32_t state)
+{
+    return bz_read_with_numbers(read, BOZTERRUN_READ_BUTTON_BUTTON, interface, 0, button, state, 0);
+}
+
+static inline bool bz_read_keyboard_release(bozterrun_read *read, uint64_t keyboard)
+{
+    return bz_read_with_numbers(read, BOZTERRUN_READ_KEYBOARD_RELEASE, keyboard, 0, 0, 0, 0);
+}
+
+static inline bool bz_read_keyboard_key(bozterrun_read *read, uint64_t keyboard, uint32_t key, uint32_t state)
+{
+    return bz_read_with_numbers(read, BOZTERRUN_READ_KEYBOARD_KEY, keyboard, 0, key, state, 0);
+}
+
+static inline bool bz_read_touchscreen_release(bozterrun_read *read, uint64_t touchscreen)
+{
+    return bz_read_with_numbers(read, BOZTERRUN_READ_TOUCHSCREEN_RELEASE, touchscreen, 0, 0, 0, 0);
+}
+
+static inline bool bz_read_touchscreen_down(bozterrun_read *read, uint64_t touchscreen, uint32_t touch_id, float x,
+                                            float y)
+{
+    return bz_read_with_point(read, BOZTERRUN_READ_TOUCHSCREEN_DOWN, touchscreen, touch_id, x, y);
+}
+
+static inline bool bz_read_touchscreen_motion(bozterrun_read *read, uint64_t touchscreen, uint32_t touch_id, float x,
+                                              float y)
+{
+    return bz_read_with_point(read, BOZTERRUN_READ_TOUCHSCREEN_MOTION, touchscreen, touch_id, x, y);
+}
+
+static inline bool bz_read_touchscreen_up(bozterrun_read *read, uint64_t touchscreen, uint32_t touch_id)
+{
+    return bz_read_with_numbers(read, BOZTERRUN_READ_TOUCHSCREEN_UP, touchscreen, 0, touch_id, 0, 0);
+}
+
+static inline bool bz_read_touchscreen_cancel(bozterrun_read *read, uint64_t touchscreen, uint32_t version,
+                                              uint32_t touch_id)
+{
+    return bz_read_with_numbers(read, BOZTERRUN_READ_TOUCHSCREEN_CANCEL, touchscreen, version, touch_id, 0, 0);
+}
+
+static inline bool bz_read_text_release(bozterrun_read *read, uint64_t interface)
+{
+    return bz_read_with_numbers(read, BOZTERRUN_READ_TEXT_RELEASE, interface, 0, 0, 0, 0);
+}
+
+static inline bool bz_read_text_keysym(bozterrun_read *read, uint64_t interface, uint32_t keysym, uint32_t state)
+{
+    return bz_read_with_numbers(read, BOZTERRUN_READ_TEXT_KEYSYM, interface, 0, keysym, state, 0);
+}
+
+static inline bool bz_read_text_utf8(bozterrun_read *read, uint64_t interface, const void *text, size_t text_length)
+{
+    return bz_read_with_text(read, BOZTERRUN_READ_TEXT_UTF8, interface, 0, text, text_length);
+}
+
+/*
+ * Hands a read over: its requests one after another, each as its single call would take it, up to the first that is
+ * refused. `accepted` gets how many were accepted, those that do nothing among them: it is also the place of the
+ * refused record. `count` gets how many bytes of events they wrote to `out`, one behind another from its first byte;
+ * each request has what is left of it. `clock` is the time for all.
+ * Answers 0 where no record was refused, else what the first was refused with. That record and those behind it leave
+ * no trace; what was accepted before it stays done and written. To go on, deal with the refusal and hand over
+ * bz_read_rest(&read, accepted), or with accepted + 1 what is behind the refused record.
+ * Answers BOZTERRUN_BAD_ARGUMENT where any record is no request, or has a state that is neither a press nor a release;
+ * the library's function also where its slices hold no whole records. Refuses BOZTERRUN_BAD_STATE, which is tested
+ * once, before the first record; then, record by record, BOZTERRUN_BAD_PART where it has a text whose part goes past
+ * the end of the texts, and the refusals of its single call in their order. With BOZTERRUN_INVALID_INTERFACE_VERSION
+ * the interface and the version are told; at any other answer these two numbers are 0.
+ */
+uint32_t bozterrun_handle_requests(uint64_t *control, size_t control_length, uint64_t *words, size_t words_length,
+                                   float *reals, size_t reals_length, uint8_t *texts, size_t texts_length,
+                                   const uint64_t *records, size_t records_length, const float *points,
+                                   size_t points_length, const uint8_t *lent, size_t lent_length, uint64_t clock,
+                                   uint8_t *out, size_t out_length, size_t *accepted, size_t *count,
+                                   uint32_t *refused_interface, uint32_t *refused_version);
+
+static inline uint32_t bz_handle_requests(bozterrun_session *session, const bozterrun_read *read, uint64_t clock,
+                                          uint8_t *out, size_t out_length, size_t *accepted, size_t *count,
+                                          uint32_t *refused_interface, uint32_t *refused_version)
+{
+    static const bozterrun_record no_record = {{{0}}};
+    static const bozterrun_point no_point = {{{0}}};
+    size_t spare_accepted = 0, spare_count = 0;
+    uint32_t spare_interface = 0, spare_version = 0;
+    if (session == NULL || read == NULL) {
+        *BZ_OR(accepted, &spare_accepted) = 0;
+        *BZ_OR(refused_interface, &spare_interface) = 0;
+        *BZ_OR(refused_version, &spare_version) = 0;
+        return bz_no_session(count, NULL);
+    }
+    const bool any = read->records != NULL && read->points != NULL;
+    const size_t records = any ? read->count : 0;
+    return bozterrun_handle_requests(
+        BZ_SESSION(session), any ? read->records->numbers : no_record.numbers, records * BOZTERRUN_RECORD_LENGTH,
+        any ? read->points->coordinates : no_point.coordinates, records * BOZTERRUN_POINT_LENGTH,
+        BZ_TEXT(read->texts, read->texts_length), clock, BZ_OUT(out, out_length), BZ_OR(accepted, &spare_accepted),
+        BZ_OR(count, &spare_count), BZ_OR(refused_interface, &spare_interface), BZ_OR(refused_version, &spare_version));
+}
+
+/* ---------------------------------------------------------------------------------------------------------------- */
 /* Delivery.                                                                                                        */
 /* ---------------------------------------------------------------------------------------------------------------- */
 
@@ -1346,25 +1833,25 @@ static inline const char *bz_interface_name(uint32_t interface)
 /* The name of an answer as docs/REFERENCE.md has it, and a sentence for a person. */
 static inline const char *bz_refusal_name(uint32_t answer)
 {
-    static const char *const names[22] = {
+    static const char *const names[23] = {
         "Accepted",            "UnexpectedHandshakeEvent", "InvalidInterfaceVersion", "InvalidCapabilities",
         "TooManyTouches",      "DuplicatedTouchDown",      "InvalidTextLength",       "NonHandshakeEvent",
         "DuplicateEvent",      "MissingInterface",         "BadUtf8",                 "NameLong",
         "UnknownHandle",       "BadCapabilities",          "FullSeats",               "FullDevices",
         "FullPending",         "FullQueue",                "FullTexts",               "ShortOut",
-        "IdsSpent",            "BadState"};
+        "IdsSpent",            "BadState",                 "BadPart"};
     if (answer == BOZTERRUN_NONE) {
         return "None";
     }
     if (answer == BOZTERRUN_BAD_ARGUMENT) {
         return "BadArgument";
     }
-    return answer < 22 ? names[answer] : "Unknown";
+    return answer < 23 ? names[answer] : "Unknown";
 }
 
 static inline const char *bz_refusal_text(uint32_t answer)
 {
-    static const char *const texts[22] = {
+    static const char *const texts[23] = {
         "The call was accepted.",
         "The client sent a handshake's request in a running session.",
         "The client used a version that the interface does not have.",
@@ -1386,14 +1873,15 @@ static inline const char *bz_refusal_text(uint32_t answer)
         "Thirty-two texts stand already.",
         "The lent buffer is too short.",
         "No object ids are left.",
-        "The memory that was lent holds no session or no handshake."};
+        "The memory that was lent holds no session or no handshake.",
+        "A record's part goes past the end of the texts of its read."};
     if (answer == BOZTERRUN_NONE) {
         return "There is none.";
     }
     if (answer == BOZTERRUN_BAD_ARGUMENT) {
         return "An argument is no case of its enum.";
     }
-    return answer < 22 ? texts[answer] : "This is no answer of the library.";
+    return answer < 23 ? texts[answer] : "This is no answer of the library.";
 }
 
 /* The lengths of the slices as the library has them. */
@@ -1409,12 +1897,12 @@ uint64_t bozterrun_number(size_t place);
 
 /*
  * Whether this header is the library's: 0, or the place, from 1 on, of the first number or length that differs. Places
- * 1 to 74 are the library's table, 75 to 80 the lengths in the order above, 81 says that the table goes on. Call it
+ * 1 to 113 are the library's table, 114 to 119 the lengths in the order above, 120 says that the table goes on. Call it
  * once at the start.
  */
 static inline size_t bz_check(void)
 {
-    static const uint8_t numbers[74] = {
+    static const uint8_t numbers[113] = {
         BOZTERRUN_UNEXPECTED_HANDSHAKE_EVENT,
         BOZTERRUN_INVALID_INTERFACE_VERSION,
         BOZTERRUN_INVALID_CAPABILITIES,
@@ -1436,6 +1924,7 @@ static inline size_t bz_check(void)
         BOZTERRUN_SHORT_OUT,
         BOZTERRUN_IDS_SPENT,
         BOZTERRUN_BAD_STATE,
+        BOZTERRUN_BAD_PART,
         BOZTERRUN_NONE,
         BOZTERRUN_BAD_ARGUMENT,
         BOZTERRUN_REQUEST_DISCONNECT,
@@ -1489,8 +1978,46 @@ static inline size_t bz_check(void)
         BOZTERRUN_REASON_PROTOCOL,
         BOZTERRUN_REASON_VALUE,
         BOZTERRUN_REASON_TRANSPORT,
+        BOZTERRUN_READ_HANDSHAKE_VERSION,
+        BOZTERRUN_READ_HANDSHAKE_FINISH,
+        BOZTERRUN_READ_HANDSHAKE_CONTEXT_TYPE,
+        BOZTERRUN_READ_HANDSHAKE_NAME,
+        BOZTERRUN_READ_HANDSHAKE_INTERFACE_VERSION,
+        BOZTERRUN_READ_CONNECTION_SYNC,
+        BOZTERRUN_READ_CONNECTION_DISCONNECT,
+        BOZTERRUN_READ_PINGPONG_DONE,
+        BOZTERRUN_READ_SEAT_RELEASE,
+        BOZTERRUN_READ_SEAT_BIND,
+        BOZTERRUN_READ_SEAT_REQUEST_DEVICE,
+        BOZTERRUN_READ_DEVICE_RELEASE,
+        BOZTERRUN_READ_DEVICE_START_EMULATING,
+        BOZTERRUN_READ_DEVICE_STOP_EMULATING,
+        BOZTERRUN_READ_DEVICE_FRAME,
+        BOZTERRUN_READ_DEVICE_READY,
+        BOZTERRUN_READ_POINTER_RELEASE,
+        BOZTERRUN_READ_POINTER_MOTION_RELATIVE,
+        BOZTERRUN_READ_POINTER_ABSOLUTE_RELEASE,
+        BOZTERRUN_READ_POINTER_ABSOLUTE_MOTION_ABSOLUTE,
+        BOZTERRUN_READ_SCROLL_RELEASE,
+        BOZTERRUN_READ_SCROLL_SCROLL,
+        BOZTERRUN_READ_SCROLL_SCROLL_DISCRETE,
+        BOZTERRUN_READ_SCROLL_SCROLL_STOP,
+        BOZTERRUN_READ_BUTTON_RELEASE,
+        BOZTERRUN_READ_BUTTON_BUTTON,
+        BOZTERRUN_READ_KEYBOARD_RELEASE,
+        BOZTERRUN_READ_KEYBOARD_KEY,
+        BOZTERRUN_READ_TOUCHSCREEN_RELEASE,
+        BOZTERRUN_READ_TOUCHSCREEN_DOWN,
+        BOZTERRUN_READ_TOUCHSCREEN_MOTION,
+        BOZTERRUN_READ_TOUCHSCREEN_UP,
+        BOZTERRUN_READ_TOUCHSCREEN_CANCEL,
+        BOZTERRUN_READ_TEXT_RELEASE,
+        BOZTERRUN_READ_TEXT_KEYSYM,
+        BOZTERRUN_READ_TEXT_UTF8,
+        BOZTERRUN_RECORD_LENGTH,
+        BOZTERRUN_POINT_LENGTH,
     };
-    for (size_t place = 0; place < 74; place++) {
+    for (size_t place = 0; place < 113; place++) {
         if (bozterrun_number(place) != numbers[place]) {
             return place + 1;
         }
@@ -1502,10 +2029,10 @@ static inline size_t bz_check(void)
     };
     for (size_t place = 0; place < 6; place++) {
         if (!equal[place]) {
-            return 75 + place;
+            return 114 + place;
         }
     }
-    return bozterrun_number(74) == 0 ? 0 : 81;
+    return bozterrun_number(113) == 0 ? 0 : 120;
 }
 
 #undef BZ_ASSERT

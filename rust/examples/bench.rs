@@ -6,6 +6,8 @@
 //! - `texts`: one device; a text of 20 digits, frame, next_request until none (5 calls).
 //! - `eight`: as keys, on each of eight devices in turn, every device with all seven interfaces.
 //! - `deep`: as keys, but 198 requests stay queued: 3 next_request a turn, none of them none (6 calls).
+//! - `single32`: one device; 31 keys and their frame, each a call, next_request until none (33 calls).
+//! - `read32`: the same 32 requests gathered in a read and handed over in one call.
 //!
 //! A program that times it takes the difference of two Ns, which leaves its start out. Each request is made where it is
 //! sent, and each delivered one taken apart by a `match`, as a station does.
@@ -13,7 +15,7 @@
 use bozterrun::eis::{device, handshake, keyboard, text, touchscreen, Object, Request};
 use bozterrun::{
     Device, DeviceCapabilities, DeviceCapability, DeviceType, EisHandshaker, EisRequest, EisRequestConverter,
-    Interface, KeyState, Refusal,
+    Interface, KeyState, Read, Refusal,
 };
 use std::hint::black_box;
 use std::{env, process::ExitCode};
@@ -26,6 +28,8 @@ struct Bench {
     /// Each with the interface that its turns use.
     devices: Vec<(Device, Object)>,
     buffer: [u8; bozterrun::TEXT_LENGTH],
+    /// What read32 gathers.
+    read: Read,
 }
 
 impl Bench {
@@ -53,6 +57,7 @@ impl Bench {
             converter,
             devices: added,
             buffer: [0; bozterrun::TEXT_LENGTH],
+            read: Read::new(),
         })
     }
 
@@ -80,6 +85,40 @@ impl Bench {
         self.send(sent(KeyState::Press))?;
         self.send(sent(KeyState::Released))?;
         self.frame(place, i)
+    }
+
+    /// 31 keys, the k-th of a turn.
+    #[inline(always)]
+    fn key(&self, i: u64, k: u64) -> Request<'static> {
+        let key = (i + k) as u32 & 0xff;
+        let state = [KeyState::Press, KeyState::Released][k as usize % 2];
+        Request::Keyboard(self.devices[0].1, keyboard::Request::Key { key, state })
+    }
+
+    /// 31 keys and their frame, each by itself.
+    #[inline(always)]
+    fn single32(&mut self, i: u64) -> Result<(), Refusal> {
+        for k in 0..31 {
+            self.send(self.key(i, k))?;
+        }
+        self.frame(0, i)
+    }
+
+    /// The same in a read.
+    #[inline(always)]
+    fn read32(&mut self, i: u64) -> Result<(), Refusal> {
+        self.read.clear();
+        for k in 0..31 {
+            let key = self.key(i, k);
+            self.read.push(key);
+        }
+        let frame = device::Request::Frame {
+            last_serial: 7,
+            timestamp: i,
+        };
+        self.read.push(Request::Device(self.devices[0].0, frame));
+        let handled = self.converter.handle_requests(&self.read, NOW, &mut []);
+        handled.refusal.map_or(Ok(()), Err)
     }
 
     /// A touch that moves, and its frame.
@@ -142,6 +181,8 @@ enum Workload {
     Texts,
     Eight,
     Deep,
+    Single32,
+    Read32,
 }
 
 /// Repeats the turn of a workload and takes what is left; how many requests were given, which is how many were sent.
@@ -151,7 +192,9 @@ fn run(workload: Workload, times: u64) -> Result<u64, Refusal> {
         Workload::Touches => Bench::new(1, Touch.into(), Touch)?,
         Workload::Texts => Bench::new(1, Text.into(), Text)?,
         Workload::Eight => Bench::new(8, DeviceCapabilities::ALL, Keyboard)?,
-        Workload::Keys | Workload::Deep => Bench::new(1, Keyboard.into(), Keyboard)?,
+        Workload::Keys | Workload::Deep | Workload::Single32 | Workload::Read32 => {
+            Bench::new(1, Keyboard.into(), Keyboard)?
+        }
     };
     if workload == Workload::Deep {
         for i in 0..66 {
@@ -181,6 +224,14 @@ fn run(workload: Workload, times: u64) -> Result<u64, Refusal> {
                 bench.keys(0, i)?;
                 bench.next(4)?
             }
+            Workload::Single32 => {
+                bench.single32(i)?;
+                bench.next(33)?
+            }
+            Workload::Read32 => {
+                bench.read32(i)?;
+                bench.next(33)?
+            }
         };
     }
     Ok(given + bench.next(256)?)
@@ -195,10 +246,12 @@ fn main() -> ExitCode {
         "texts" => Some(Workload::Texts),
         "eight" => Some(Workload::Eight),
         "deep" => Some(Workload::Deep),
+        "single32" => Some(Workload::Single32),
+        "read32" => Some(Workload::Read32),
         _ => None,
     };
     let (Some(workload), Some(times)) = (workload, times) else {
-        eprintln!("usage: bench keys|touches|texts|eight|deep N");
+        eprintln!("usage: bench keys|touches|texts|eight|deep|single32|read32 N");
         return ExitCode::from(2);
     };
     match run(workload, times) {

@@ -1,5 +1,5 @@
 //! Sessions alike in all but payload, through the crate: `twins SEED` sends every kind of timed request but texts forty
-//! times, in frames, takes apart what is delivered, and writes how much that was.
+//! times, in frames, one by one and then in a read, takes apart what is delivered, and writes how much that was.
 //!
 //! The seed decides keys, states, buttons, amounts and coordinates and nothing else, so a program that counts
 //! instructions finds the same number at every seed if no path of the crate hangs on them.
@@ -9,7 +9,7 @@ use bozterrun::eis::{
 };
 use bozterrun::{
     ButtonState, Device, DeviceCapabilities, DeviceCapability, DeviceType, EisHandshaker, EisRequest,
-    EisRequestConverter, Interface, KeyState, Refusal,
+    EisRequestConverter, Interface, KeyState, Read, Refusal,
 };
 use std::hint::black_box;
 use std::{env, process::ExitCode};
@@ -123,7 +123,7 @@ fn rounds(
     interfaces: &[Object; 7],
     seed: u64,
 ) -> Result<u64, Refusal> {
-    let mut payload = Payload(seed);
+    let (mut payload, mut read) = (Payload(seed), Read::with_capacity(10, 0));
     let mut given = 0;
     for timestamp in 0..40 {
         for i in 0..9 {
@@ -132,10 +132,24 @@ fn rounds(
         let last_serial = 7;
         let frame = device::Request::Frame { last_serial, timestamp };
         converter.handle_request(Request::Device(device, frame), 5, &mut [])?;
-        while let Some(request) = converter.next_request(&mut [])? {
-            take(request);
-            given += 1;
+        given += take_all(converter)?;
+        read.clear();
+        read.extend((0..9).map(|i| request(&mut payload, interfaces, i)));
+        read.push(Request::Device(device, frame));
+        if let Some(refusal) = converter.handle_requests(&read, 5, &mut []).refusal {
+            return Err(refusal);
         }
+        given += take_all(converter)?;
+    }
+    Ok(given)
+}
+
+/// Takes all that is queued; how much that was.
+fn take_all(converter: &mut EisRequestConverter) -> Result<u64, Refusal> {
+    let mut given = 0;
+    while let Some(request) = converter.next_request(&mut [])? {
+        take(request);
+        given += 1;
     }
     Ok(given)
 }

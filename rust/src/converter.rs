@@ -8,6 +8,7 @@ use crate::{
     },
     event::Events,
     handshake::EisHandshakeResp,
+    read::{Handled, Read},
     request::{EisRequest, Numbers},
     session::{Session, NONE},
     sys, Device, DeviceCapability, Refusal, Seat,
@@ -47,7 +48,8 @@ fn quiet<'o>(status: u32) -> Result<Events<'o>, Refusal> {
 
 /// Gathers a client's requests into frames, and delivers them in order.
 ///
-/// Each request of the client goes to [`handle_request`](Self::handle_request); what there is to act on comes from
+/// Each request of the client goes to [`handle_request`](Self::handle_request), or many of them in one call to
+/// [`handle_requests`](Self::handle_requests); what there is to act on comes from
 /// [`next_request`](Self::next_request). A timed request (a key, a touch, a text) waits for the frame of its device
 /// and gets its time. The station's own calls are those of [`Connection`], which [`handle_mut`](Self::handle_mut)
 /// hands out.
@@ -195,6 +197,78 @@ impl EisRequestConverter {
             },
             Request::Touchscreen(touchscreen, request) => self.handle_touchscreen_request(touchscreen, request, out),
             Request::Text(text, request) => self.handle_text_request(text, request, out),
+        }
+    }
+
+    /// Handles a whole read: its requests one after another, each as [`handle_request`](Self::handle_request) would
+    /// with what is left of `out`, up to the first that is refused. `now` is the clock for all.
+    ///
+    /// What was accepted before a refusal stays done and written; the refused request and those behind it leave no
+    /// trace. A read of no request is refused with [`Refusal::BadState`] alone.
+    ///
+    /// ```
+    /// # include!(concat!(env!("CARGO_MANIFEST_DIR"), "/tests/begin/mod.rs"));
+    /// # fn main() -> Result<(), bozterrun::Refusal> {
+    /// use bozterrun::eis::{keyboard, seat, Request};
+    /// use bozterrun::{DeviceCapability::Keyboard, DeviceType, KeyState, Read, Refusal};
+    ///
+    /// # let (mut converter, now) = (begin(7), 0);
+    /// # let mut out = [0; bozterrun::OUT_LENGTH];
+    /// # let (seat, _) = converter.handle_mut().add_seat(None, Keyboard, &mut out)?;
+    /// # let (device, _) = converter.handle_mut().add_device(seat, None, DeviceType::Virtual, Keyboard, &mut out)?;
+    /// # let keyboard = converter.handle().interface(device, Keyboard)?.expect("the device has a keyboard");
+    /// let key = |key| Request::Keyboard(keyboard, keyboard::Request::Key { key, state: KeyState::Press });
+    /// let bind = Request::Seat(seat, seat::Request::Bind { capabilities: 128 });
+    /// let read: Read = [key(30), bind, key(31)].into_iter().collect();
+    /// let handled = converter.handle_requests(&read, now, &mut out);
+    /// assert_eq!(handled.accepted, 1);
+    /// assert_eq!(handled.refusal, Some(Refusal::InvalidCapabilities));
+    /// assert!(handled.events.is_empty());
+    /// # Ok(()) }
+    /// ```
+    pub fn handle_requests<'o>(&mut self, read: &Read, now: u64, out: &'o mut [u8]) -> Handled<'o> {
+        let Session {
+            control,
+            words,
+            reals,
+            texts,
+        } = self.session();
+        let (records, points, lent) = read.slices();
+        let (mut accepted, mut count, mut interface, mut version) = (0, 0, 0, 0);
+        // SAFETY: the four slices of the session, `out` and the numbers are borrowed mutably for the call; the slices
+        // of the read are only read.
+        let status = unsafe {
+            sys::bozterrun_handle_requests(
+                control.as_mut_ptr(),
+                control.len(),
+                words.as_mut_ptr(),
+                words.len(),
+                reals.as_mut_ptr(),
+                reals.len(),
+                texts.as_mut_ptr(),
+                texts.len(),
+                records.as_ptr(),
+                records.len(),
+                points.as_ptr(),
+                points.len(),
+                lent.as_ptr(),
+                lent.len(),
+                now,
+                out.as_mut_ptr(),
+                out.len(),
+                &mut accepted,
+                &mut count,
+                &mut interface,
+                &mut version,
+            )
+        };
+        Handled {
+            accepted,
+            events: Events::written(out, count),
+            refusal: match status {
+                0 => None,
+                _ => Some(Refusal::from_versioned(status, interface, version)),
+            },
         }
     }
 

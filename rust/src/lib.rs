@@ -42,6 +42,8 @@
 //! # Ok::<(), bozterrun::Refusal>(())
 //! ```
 //!
+//! What one wakeup brings can be gathered in a [`Read`] and handed over in one call.
+//!
 //! A call that is refused answers a [`Refusal`] and leaves the session as it was. Nothing here panics on what a client
 //! sends, blocks, or locks; memory is allocated once for each session.
 
@@ -55,6 +57,7 @@ mod converter;
 pub mod eis;
 mod event;
 mod handshake;
+mod read;
 mod refusal;
 pub mod request;
 mod session;
@@ -68,11 +71,12 @@ pub use eis::{
 };
 pub use event::{Event, EventKind, Events, Interface};
 pub use handshake::{EisHandshakeResp, EisHandshaker};
+pub use read::{Handled, Read};
 pub use refusal::Refusal;
 pub use request::{Device, EisRequest, Seat};
 pub use session::TEXTS_LENGTH;
 
-/// How many bytes of `out` are enough for any call.
+/// How many bytes of `out` are enough for any call but that of a whole read, whose requests may each write.
 pub const OUT_LENGTH: usize = 1225;
 
 /// How many bytes of buffer are enough for any delivered text, and the most that a name or an explanation has.

@@ -5,8 +5,9 @@ use std::{error, fmt};
 
 /// Why a call is refused.
 ///
-/// The session, and what was lent, are then as they were, byte for byte; [`MissingInterface`] alone writes. Where
-/// several apply, docs/REFERENCE.md of the repository has the order.
+/// The session, and what was lent, are then as they were, byte for byte; [`MissingInterface`] alone writes. (Of a
+/// whole read that holds of the request that was refused: [`Handled`](crate::Handled).) Where several apply,
+/// docs/REFERENCE.md of the repository has the order.
 ///
 /// ```
 /// use bozterrun::{Interface, Refusal};
@@ -71,6 +72,8 @@ pub enum Refusal {
     /// 21: the session's memory is no session. No call leaves it so: somebody else wrote to it. An answer that the
     /// library does not give counts as this too.
     BadState,
+    /// 22: the part of a request with text goes past the end of the texts of its read.
+    BadPart,
 }
 
 impl Refusal {
@@ -97,6 +100,7 @@ impl Refusal {
             18 => Self::FullTexts,
             19 => Self::ShortOut,
             20 => Self::IdsSpent,
+            22 => Self::BadPart,
             _ => Self::BadState,
         }
     }
@@ -121,7 +125,7 @@ impl Refusal {
         }
     }
 
-    /// Its number, 1 to 21.
+    /// Its number, 1 to 22.
     ///
     /// ```
     /// assert_eq!(bozterrun::Refusal::ShortOut.number(), 19);
@@ -150,6 +154,7 @@ impl Refusal {
             Self::ShortOut => 19,
             Self::IdsSpent => 20,
             Self::BadState => 21,
+            Self::BadPart => 22,
         }
     }
 
@@ -182,6 +187,7 @@ impl Refusal {
             Self::ShortOut => "ShortOut",
             Self::IdsSpent => "IdsSpent",
             Self::BadState => "BadState",
+            Self::BadPart => "BadPart",
         }
     }
 }
@@ -216,6 +222,7 @@ impl fmt::Display for Refusal {
             Self::ShortOut => "the lent buffer is too short for what would be written",
             Self::IdsSpent => "no object ids are left",
             Self::BadState => "the memory is no session's and cannot be trusted",
+            Self::BadPart => "the part goes past the end of the texts of its read",
         })
     }
 }
@@ -249,7 +256,7 @@ pub(crate) mod tests {
 
     #[test]
     fn answers_that_the_library_does_not_give_are_bad_state() {
-        for number in [0, 2, 9, 22, 64, 65, u32::MAX] {
+        for number in [0, 2, 9, 23, 64, 65, u32::MAX] {
             assert_eq!(Refusal::from_number(number), Refusal::BadState);
         }
         assert_eq!(Refusal::from_versioned(2, 0, 7), Refusal::BadState);
@@ -257,7 +264,7 @@ pub(crate) mod tests {
 
     #[test]
     fn each_has_a_name_and_a_sentence_of_its_own() {
-        for number in 1..=21 {
+        for number in 1..=22 {
             let refusal = of_number(number);
             assert!(format!("{refusal:?}").starts_with(refusal.name()));
             assert!(refusal.to_string().contains(' '));

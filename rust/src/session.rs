@@ -90,7 +90,7 @@ mod tests {
 
     #[test]
     fn numbers_are_the_librarys() {
-        let refusals = (1..=21).map(|number| u64::from(crate::refusal::tests::of_number(number).number()));
+        let refusals = (1..=22).map(|number| u64::from(crate::refusal::tests::of_number(number).number()));
         let others = [u64::from(NONE), 65];
         let kinds = 0..22;
         let interfaces = Interface::ALL.map(|interface| u64::from(interface.number()));
@@ -106,6 +106,8 @@ mod tests {
             DisconnectReason::Transport,
         ]
         .map(|reason| u64::from(reason.number()));
+        // The requests of a read, and the words and the reals of a record.
+        let (requests, record) = (0..36, [8, 2]);
         let ours: Vec<u64> = refusals
             .chain(others)
             .chain(kinds)
@@ -114,6 +116,8 @@ mod tests {
             .chain(contexts)
             .chain(types)
             .chain(reasons)
+            .chain(requests)
+            .chain(record)
             .collect();
         let theirs: Vec<u64> = (0..ours.len()).map(number).collect();
         assert_eq!(theirs, ours);

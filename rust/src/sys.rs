@@ -345,6 +345,30 @@ extern "C" {
         text_length: usize,
     ) -> u32;
 
+    pub fn bozterrun_handle_requests(
+        control: *mut u64,
+        control_length: usize,
+        words: *mut u64,
+        words_length: usize,
+        reals: *mut f32,
+        reals_length: usize,
+        texts: *mut u8,
+        texts_length: usize,
+        records: *const u64,
+        records_length: usize,
+        points: *const f32,
+        points_length: usize,
+        lent: *const u8,
+        lent_length: usize,
+        clock: u64,
+        out: *mut u8,
+        out_length: usize,
+        accepted: *mut usize,
+        count: *mut usize,
+        refused_interface: *mut u32,
+        refused_version: *mut u32,
+    ) -> u32;
+
     pub fn bozterrun_next_request(
         control: *mut u64,
         control_length: usize,

@@ -11,7 +11,7 @@ use bozterrun::eis::{
 use bozterrun::request::{EisRequest, TextUtf8};
 use bozterrun::{
     ButtonState, ContextType, Device, DeviceCapabilities, DeviceCapability, DeviceType, DisconnectReason,
-    EisHandshaker, EisRequestConverter, Event, EventKind, Interface, KeyState, Refusal, Seat,
+    EisHandshaker, EisRequestConverter, Event, EventKind, Interface, KeyState, Read, Refusal, Seat,
 };
 
 /// Ids as `begin` leaves them: the first seat and the first device, with every interface.
@@ -82,6 +82,11 @@ type Call = Box<dyn Fn(&mut EisRequestConverter, &mut [u8]) -> Result<(), Refusa
 
 fn sent(request: Request<'static>) -> Call {
     Box::new(move |converter, out| converter.handle_request(request, 5, out).map(drop))
+}
+
+/// A whole read, and its first refusal.
+fn handed_over(read: fn() -> Read) -> Call {
+    Box::new(move |converter, out| converter.handle_requests(&read(), 5, out).refusal.map_or(Ok(()), Err))
 }
 
 fn made<F>(call: F) -> Call
@@ -184,6 +189,12 @@ fn every_call() -> Vec<Call> {
             text::Request::Keysym { keysym, state: press.0 },
         )),
         sent(Request::Text(interface(6), text::Request::Utf8 { text: b"a text" })),
+        handed_over(|| {
+            [frame(5), self::key(31), utf8(b"a text"), down(9), utf8(b"\xff")]
+                .into_iter()
+                .collect()
+        }),
+        handed_over(Read::new),
         Box::new(|converter, buffer| converter.next_request(buffer).map(drop)),
         Box::new(|converter, buffer| converter.requests(buffer).try_for_each(|given| given.map(drop))),
         made(|connection, out| {

@@ -8,15 +8,16 @@ use bozterrun::eis::{
 use bozterrun::request::EisRequest;
 use bozterrun::{
     ButtonState, ContextType, Device, DeviceCapabilities, DeviceCapability, DeviceType, DisconnectReason,
-    EisHandshaker, EisRequestConverter, Events, KeyState, Refusal, Seat,
+    EisHandshaker, EisRequestConverter, Events, KeyState, Read, Refusal, Seat,
 };
 use std::io::{self, Write};
 
 /// The most bytes that a line has.
 const LINE_LENGTH: usize = 65536;
 
-/// The most bytes that a call is lent, whatever the script says. No call writes so many.
-const LENT_LENGTH: usize = 4096;
+/// The most bytes that a call is lent, whatever the script says. No call writes so many: a read of 65,535 requests
+/// writes 18 bytes for each Sync.
+const LENT_LENGTH: usize = 1 << 21;
 
 /// What a line asks for.
 enum Step<'a> {
@@ -25,6 +26,7 @@ enum Step<'a> {
     Buffer(u64),
     Start(u32),
     Client(Request<'a>),
+    Read(u16, &'a [u8]),
     NextRequest,
     Station(Station<'a>),
 }
@@ -52,6 +54,8 @@ struct Words<'l, 't> {
     rest: Option<&'l [u8]>,
     /// Where the bytes of the line's text are put; a line has one at most.
     text: &'t mut Vec<u8>,
+    /// In a read a text is a part of the read's texts: where it begins, and how long it is.
+    part: Option<(usize, usize)>,
 }
 
 /// A number: decimal, or hexadecimal behind `0x`.
@@ -121,10 +125,16 @@ impl<'l> Words<'l, '_> {
         Some(())
     }
 
-    /// Reads a text, whose bytes are then in `text`.
+    /// Reads a text, whose bytes are then in `text`, or a part, which is then in `part`.
     fn text(&mut self) -> Option<()> {
         let word = self.word()?;
-        self.read_text(word)
+        if self.part.is_none() {
+            return self.read_text(word);
+        }
+        let mut numbers = word.strip_prefix(b"p:")?.split(|byte| *byte == b':');
+        let (start, length) = (number(numbers.next()?)?, number(numbers.next()?)?);
+        self.part = Some((start as usize, length as usize));
+        numbers.next().is_none().then_some(())
     }
 
     /// The same, where it may be missing: whether it is there.
@@ -164,7 +174,11 @@ impl<'l> Words<'l, '_> {
 /// What a line asks for that is a call or a setting; `None` where it is neither.
 fn parse<'t>(line: &[u8], text: &'t mut Vec<u8>) -> Option<Step<'t>> {
     text.clear();
-    let mut words = Words { rest: Some(line), text };
+    let mut words = Words {
+        rest: Some(line),
+        text,
+        part: None,
+    };
     let w = &mut words;
     // The text is at its place once the words are read: what is made here still lacks it.
     let lacks = b"".as_slice();
@@ -174,6 +188,11 @@ fn parse<'t>(line: &[u8], text: &'t mut Vec<u8>) -> Option<Step<'t>> {
         b"out" => Step::Out(w.u64()?),
         b"buffer" => Step::Buffer(w.u64()?),
         b"start" => Step::Start(w.u32()?),
+        b"read" => {
+            let requests = u16::try_from(w.u64()?).ok()?;
+            w.text()?;
+            Step::Read(requests, lacks)
+        }
         b"next_request" => Step::NextRequest,
         b"add_seat" => Step::Station(Station::AddSeat(w.optional().map(some)?, w.capabilities()?)),
         b"add_device" => Step::Station(Station::AddDevice(
@@ -216,12 +235,27 @@ fn parse<'t>(line: &[u8], text: &'t mut Vec<u8>) -> Option<Step<'t>> {
         Step::Client(Request::Handshake(handshake::Request::Name { name })) => *name = text,
         Step::Client(Request::Handshake(handshake::Request::InterfaceVersion { name, .. })) => *name = text,
         Step::Client(Request::Text(_, text::Request::Utf8 { text: bytes })) => *bytes = text,
+        Step::Read(_, texts) => *texts = text,
         Step::Station(Station::AddSeat(Some(name), _) | Station::AddDevice(_, Some(name), ..)) => *name = text,
         Step::Station(Station::Disconnected(_, Some(explanation))) => *explanation = text,
         Step::Station(Station::HasInterface(name) | Station::InterfaceVersion(name)) => *name = text,
         _ => {}
     }
     Some(step)
+}
+
+/// Adds the request of a line to a read; `None` where it is no client's.
+fn parse_record(line: &[u8], read: &mut Read) -> Option<()> {
+    let mut words = Words {
+        rest: Some(line),
+        text: &mut Vec::new(),
+        part: Some((0, 0)),
+    };
+    let name = words.word()?;
+    let request = parse_client(name, &mut words)?;
+    let (start, length) = words.part?;
+    read.push_part(request, start, length);
+    words.rest.is_none().then_some(())
 }
 
 /// A client's request, without its text.
@@ -352,7 +386,9 @@ struct Play<W> {
     now: u64,
     out_length: usize,
     buffer_length: usize,
-    out: [u8; LENT_LENGTH],
+    out: Vec<u8>,
+    /// A read that is being gathered, and how many requests it lacks.
+    reading: Option<(u16, Read)>,
 }
 
 /// Why a script is not played to its end.
@@ -376,9 +412,10 @@ pub fn play(script: &[u8], trail: impl Write) -> Result<(), Stop> {
         trail,
         stage: Stage::Nothing,
         now: 0,
-        out_length: LENT_LENGTH,
+        out_length: 4096,
         buffer_length: bozterrun::TEXT_LENGTH,
-        out: [0; LENT_LENGTH],
+        out: vec![0; LENT_LENGTH],
+        reading: None,
     };
     let mut text = Vec::new();
     for (number, line) in script.split(|byte| *byte == b'\n').enumerate() {
@@ -386,21 +423,32 @@ pub fn play(script: &[u8], trail: impl Write) -> Result<(), Stop> {
         if line.len() <= LINE_LENGTH && (line.is_empty() || line[0] == b'#') {
             continue;
         }
-        let step = if line.len() <= LINE_LENGTH {
-            parse(line, &mut text)
+        let played = if line.len() > LINE_LENGTH {
+            false
+        } else if play.reading.is_some() {
+            play.record(line)?
         } else {
-            None
-        };
-        let played = match step {
-            Some(step) => play.step(step)?,
-            None => false,
+            match parse(line, &mut text) {
+                Some(step) => play.step(step)?,
+                None => false,
+            }
         };
         if !played {
-            writeln!(play.trail, "error line {}", number + 1)?;
-            return Err(Stop::Line(number + 1));
+            return stop(&mut play.trail, number + 1);
         }
     }
+    if play.reading.is_some() {
+        // The line behind the last one.
+        let lines = script.split(|byte| *byte == b'\n').count();
+        return stop(&mut play.trail, lines + usize::from(!script.ends_with(b"\n")));
+    }
     Ok(())
+}
+
+/// Says which line is no call.
+fn stop(trail: &mut impl Write, number: usize) -> Result<(), Stop> {
+    writeln!(trail, "error line {number}")?;
+    Err(Stop::Line(number))
 }
 
 /// The events behind an answer, and the end of its line.
@@ -426,12 +474,21 @@ fn write_hexadecimal(trail: &mut impl Write, bytes: &[u8]) -> io::Result<()> {
     bytes.iter().try_for_each(|byte| write!(trail, "{byte:02x}"))
 }
 
-fn write_refusal(trail: &mut impl Write, refusal: Refusal, out: &[u8]) -> io::Result<()> {
+/// A refusal with its details.
+fn write_refused(trail: &mut impl Write, refusal: Refusal) -> io::Result<()> {
     write!(trail, "refused {}", refusal.number())?;
     match refusal {
         Refusal::InvalidInterfaceVersion { interface, version } => {
-            writeln!(trail, " interface={} version={version}", interface.number())
+            write!(trail, " interface={} version={version}", interface.number())
         }
+        _ => Ok(()),
+    }
+}
+
+/// The same, and the end of its line. A Finish that is refused may have written.
+fn write_refusal(trail: &mut impl Write, refusal: Refusal, out: &[u8]) -> io::Result<()> {
+    write_refused(trail, refusal)?;
+    match refusal {
         Refusal::MissingInterface { count } => write_events(trail, Events::new(&out[..count])),
         _ => writeln!(trail),
     }
@@ -468,6 +525,35 @@ fn write_value(trail: &mut impl Write, answer: Result<String, Refusal>) -> io::R
 }
 
 impl<W: Write> Play<W> {
+    /// Adds a line to the read that is being gathered; whether it is a client's request.
+    fn record(&mut self, line: &[u8]) -> io::Result<bool> {
+        let Some((lacking, read)) = &mut self.reading else {
+            return Ok(false);
+        };
+        if parse_record(line, read).is_none() {
+            return Ok(false);
+        }
+        *lacking -= 1;
+        self.hand_over()
+    }
+
+    /// Hands the read over, if it lacks no request.
+    fn hand_over(&mut self) -> io::Result<bool> {
+        let Stage::Session(converter) = &mut self.stage else {
+            return Ok(false);
+        };
+        if let Some((_, read)) = self.reading.take_if(|reading| reading.0 == 0) {
+            let handled = converter.handle_requests(&read, self.now, &mut self.out[..self.out_length]);
+            write!(self.trail, "accepted {}", handled.accepted)?;
+            if let Some(refusal) = handled.refusal {
+                write!(self.trail, " ")?;
+                write_refused(&mut self.trail, refusal)?;
+            }
+            write_events(&mut self.trail, handled.events)?;
+        }
+        Ok(true)
+    }
+
     /// Plays a step; whether it can be made.
     fn step(&mut self, step: Step) -> io::Result<bool> {
         let out = &mut self.out[..self.out_length];
@@ -505,6 +591,10 @@ impl<W: Write> Play<W> {
             }
             (Step::Client(request), Stage::Session(converter)) => {
                 write_answer(trail, converter.handle_request(request, self.now, out))?;
+            }
+            (Step::Read(requests, texts), Stage::Session(_)) => {
+                self.reading = Some((requests, Read::with_texts(texts.to_vec())));
+                return self.hand_over();
             }
             (Step::NextRequest, Stage::Session(converter)) => {
                 let buffer = &mut self.out[..self.buffer_length];
