@@ -2,24 +2,28 @@
 use Prim.Native.Nat.{_^_, _-_}
 use Prim.Native.String.{String}
 use mathlib.Core.Path.{_≡_, refl}
-use mathlib.Core.Bool.{false}
+use mathlib.Core.Bool.{true, false}
 use mathlib.Core.List.{[], _∷_, map}
 use lib.Ieee.{nan, fin, inf}
 use lib.IntN.{pos, negsuc}
 use lib.ListN.{length}
 use Rattle.script.specs.declared.line.LineEnd.{LineEnd}
-use Rattle.script.specs.declared.verb.Verb.the-variants.{Now, Out, Start, HandshakeInterfaceVersion, HandshakeFinish, SeatBind, ScrollScrollDiscrete, PointerMotionRelative, TextUtf8, AddSeat, AddDevice, Disconnected, HasCapability}
+use Rattle.script.specs.declared.verb.Verb.the-variants.{Now, Out, Start, HandshakeInterfaceVersion, HandshakeFinish, SeatBind, KeyboardKey, ScrollScrollDiscrete, PointerMotionRelative, TextUtf8, AddSeat, AddDevice, Disconnected, HasCapability, Read}
 use Rattle.eiproto.specs.Interface.{ascii}
 use Rattle.script.specs.Words.{words}
 use Rattle.script.specs.Verbs.{table}
-use Rattle.script.specs.Script.{Reading, number64, number32, signed, float, text, noText, blank, setting, call, noCall, reading}
+use Rattle.script.specs.Script.{Reading, number64, number32, signed, float, text, noText, textPart, blank, setting, call, noCall, reading}
 use Rattle.script.specs.Split.{lineEnd}
 
 abbrev read : String → Reading
-read s = reading (ascii s)
+read s = reading false (ascii s)
 
--- three settings and 52 calls
-rows : length table ≡ 55
+-- a line of a read
+abbrev record-of : String → Reading
+record-of s = reading true (ascii s)
+
+-- three settings and 53 calls
+rows : length table ≡ 56
 unfolding table
 rows = refl
 
@@ -83,6 +87,34 @@ reason = refl
 keyboard : read "has_capability 2 4" ≡ call HasCapability (number64 2 ∷ number64 4 ∷ [])
 unfolding reading ascii
 keyboard = refl
+
+-- a read's first line, and lines of a read: a part for a text
+reads : read "read 65535 t:61" ≡ call Read (number32 65535 ∷ text (0x61 ∷ []) ∷ [])
+unfolding reading ascii
+reads = refl
+
+part : record-of "text.utf8 1 p:0x2:18446744073709551615" ≡ call TextUtf8 (number64 1 ∷ textPart 2 (2 ^ 64 - 1) ∷ [])
+unfolding reading ascii
+part = refl
+
+part-first : record-of "handshake.interface_version p:0:1 1" ≡ call HandshakeInterfaceVersion (textPart 0 1 ∷ number32 1 ∷ [])
+unfolding reading ascii
+part-first = refl
+
+other : record-of "keyboard.key 5 30 1" ≡ call KeyboardKey (number64 5 ∷ number32 30 ∷ number32 1 ∷ [])
+unfolding reading ascii
+other = refl
+
+no-parts : map record-of
+    ("text.utf8 1 t:61" ∷ "text.utf8 1 p:1" ∷ "text.utf8 1 p::1" ∷ "text.utf8 1 p:1:" ∷ "text.utf8 1 p:1:2:3" ∷ "text.utf8 1 p:18446744073709551616:0"
+    ∷ "text.utf8 1 p:0:18446744073709551616" ∷ "text.utf8 1 P:0:1" ∷ "text.utf8 1 none" ∷ [])
+    ≡ noCall ∷ noCall ∷ noCall ∷ noCall ∷ noCall ∷ noCall ∷ noCall ∷ noCall ∷ noCall ∷ []
+unfolding reading ascii
+no-parts = refl
+
+outside : map read ("text.utf8 1 p:0:1" ∷ "read 1 p:0:1" ∷ "read 65536 t:" ∷ "read 1 none" ∷ "add_seat p:0:1 4" ∷ []) ≡ noCall ∷ noCall ∷ noCall ∷ noCall ∷ noCall ∷ []
+unfolding reading ascii
+outside = refl
 
 -- "a press state above 1, a type, reason or mask that has no such value, a number too large for its field", and words that are none
 refused : map read

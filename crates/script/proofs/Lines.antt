@@ -20,7 +20,7 @@ use Rattle.script.specs.declared.line.Step.{Step}
 use Rattle.script.specs.declared.line.LineEnd.{LineEnd}
 use Rattle.eiproto.specs.Interface.{sameBytes}
 use Rattle.script.specs.Words.{before, joined, words}
-use Rattle.script.specs.Verbs.{Entry, settings, rowAt, lookupFrom, lookup, table, slotAt}
+use Rattle.script.specs.Verbs.{Entry, settings, rowAt, kindsOf, lookupFrom, lookup, table, slotAt}
 use Rattle.script.specs.Script.{Arg, blank, setting, call, noCall, readAs, readArgs, behind, first, isBlank, reading}
 use Rattle.script.specs.Told.{one, part, wordsFrom, behindSpace, present, Stepped}
 use Rattle.script.specs.Split.{filled, lineLength, lineEnd}
@@ -140,8 +140,8 @@ in-turn zero (a ∷ b ∷ ks) = omega arith
 in-turn (suc k) [] = omega arith
 in-turn (suc k) (a ∷ ks) = in-turn k ks
 
-pub row-split : (i : ℕ) → i < 55 → rowAt i .kinds ≡ present (slotAt 0 (rowAt i .kinds)) ++ from1 (rowAt i .kinds)
-row-split i h = split (rowAt i .kinds) (row-kinds i h)
+pub row-split : (i : ℕ) (r : Bool) → i < 56 → kindsOf r (rowAt i) ≡ present (slotAt 0 (kindsOf r (rowAt i))) ++ from1 (kindsOf r (rowAt i))
+row-split i r h = split (kindsOf r (rowAt i)) (row-kinds i h r)
 
 module _ (line : List ℕ) (at : ℕ) where
   pub args-end : length line ≤ at → readArgs [] (wordsFrom at line) ≡ some []
@@ -163,30 +163,30 @@ found-below n (x ∷ es) w i e = go (sameBytes (x .name) w) e (λ f. found-below
     go true e f = let z : i ≡ n = cc in omega arith
     go false e f = omega (arith, f e)
 
-pub row-below : (w : List ℕ) (i : ℕ) → some i ≡ lookup w → i < 55
+pub row-below : (w : List ℕ) (i : ℕ) → some i ≡ lookup w → i < 56
 unfolding lookup table
 row-below w i e = omega (arith, found-below 0 table w i e)
 
-pub reads-blank : (line : List ℕ) → isBlank line ≡ true → blank ≡ reading line
+pub reads-blank : (r : Bool) (line : List ℕ) → isBlank line ≡ true → blank ≡ reading r line
 unfolding reading
-reads-blank line e = rw e
+reads-blank r line e = rw e
 
-module _ (line w : List ℕ) (ws : List (List ℕ)) (b : isBlank line ≡ false) (s : words line ≡ w ∷ ws) where
-  pub reads-no-verb : none ≡ lookup w → noCall ≡ reading line
+module _ (r : Bool) (line w : List ℕ) (ws : List (List ℕ)) (b : isBlank line ≡ false) (s : words line ≡ w ∷ ws) where
+  pub reads-no-verb : none ≡ lookup w → noCall ≡ reading r line
   unfolding reading
   reads-no-verb e = rw (b, s, ← e)
 
   module _ (i : ℕ) (e : some i ≡ lookup w) where
-    pub reads-no-args : none ≡ readArgs (rowAt i .kinds) ws → noCall ≡ reading line
+    pub reads-no-args : none ≡ readArgs (kindsOf r (rowAt i)) ws → noCall ≡ reading r line
     unfolding reading
     reads-no-args f = rw (b, s, ← e, ← f)
 
-    module _ (args : List Arg) (f : some args ≡ readArgs (rowAt i .kinds) ws) where
-      pub reads-setting : i < 3 → setting (rowAt i .verb) args ≡ reading line
+    module _ (args : List Arg) (f : some args ≡ readArgs (kindsOf r (rowAt i)) ws) where
+      pub reads-setting : i < 3 → setting (rowAt i .verb) args ≡ reading r line
       unfolding reading settings
       reads-setting h = rw (b, s, ← e, ← f, lt-ltb i 3 h)
 
-      pub reads-call : 3 ≤ i → call (rowAt i .verb) args ≡ reading line
+      pub reads-call : 3 ≤ i → call (rowAt i .verb) args ≡ reading r line
       unfolding reading settings
       reads-call h = rw (b, s, ← e, ← f, le-ltb i 3 h)
 

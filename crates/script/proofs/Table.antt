@@ -13,11 +13,11 @@ use lib.Seq.{drop-cons, drop-append-add, take-append-le, take-at, getD-drop, get
 use Rattle.script.specs.declared.verb.Verb.{Verb}
 use Rattle.script.specs.declared.verb.Verb.the-variants.{Now}
 use Rattle.script.specs.declared.verb.Kind.{Kind}
-use Rattle.script.specs.declared.verb.Kind.the-variants.{U64, U32, I32, F32, Text, OptionalText, State, TypeNumber, Reason, Capability}
+use Rattle.script.specs.declared.verb.Kind.the-variants.{U64, U32, I32, F32, Text, OptionalText, State, TypeNumber, Reason, Capability, Count, Part}
 use Rattle.script.specs.declared.verb.Slot.the-variants.{Empty, Of}
 use Rattle.eiproto.specs.Interface.{sameBytes}
 use Rattle.script.specs.Words.{before}
-use Rattle.script.specs.Verbs.{Entry, row, table, rowAt, lookupFrom, lookup, slotAt, letter, kinds, slotIn, slotOf, padded, line, lines}
+use Rattle.script.specs.Verbs.{Entry, row, table, rowAt, kindIn, kindsOf, lookupFrom, lookup, slotAt, slotWithin, letter, kinds, slotIn, slotOf, padded, line, lines}
 use Rattle.script.proofs.Words.{same-eq}
 
 -- ---- a test of every row
@@ -83,7 +83,7 @@ lines-drop (e ∷ es) d (suc i) t h =
     ap (λ (m : ℕ). drop m (line e ++ lines es)) n ∙ drop-append-add (line e) (lines es) (i * 37)
     ∙ lines-drop es d i (b .1) (omega arith)
 
-module _ (i : ℕ) (h : i < 55) where
+module _ (i : ℕ) (h : i < 56) where
   row-fits : fits (rowAt i) ≡ true
   unfolding rowAt
   row-fits = at fits table (row "" Now []) tested i h
@@ -105,8 +105,8 @@ module _ (i : ℕ) (h : i < 55) where
       (take-append-le 33 (p ++ q) (lines (drop (suc i) table)) (omega (arith, length-append p q, l)) ∙ take-at p q 33 l)
       ∙ name-ends (rowAt i) row-fits
 
-  pub row-kinds : length (rowAt i .kinds) ≤ 4
-  row-kinds = kinds-fit (rowAt i) row-fits
+  pub row-kinds : (r : Bool) → length (kindsOf r (rowAt i)) ≤ 4
+  row-kinds r = omega (arith, length-map (rowAt i .kinds) (kindIn r), kinds-fit (rowAt i) row-fits)
 
 -- ---- the letters
 
@@ -122,6 +122,8 @@ slot-letter State = refl
 slot-letter TypeNumber = refl
 slot-letter Reason = refl
 slot-letter Capability = refl
+slot-letter Count = refl
+slot-letter Part = refl
 
 slot-space : slotOf 0x20 ≡ Empty
 unfolding slotOf
@@ -132,7 +134,7 @@ letters [] m p h = ap slotOf (getD-replicate {A = ℕ} m p 0x20 0 (omega arith))
 letters (k ∷ ks) m zero h = slot-letter k
 letters (k ∷ ks) m (suc p) h = letters ks m p (omega arith)
 
-module _ (i p : ℕ) (h : i < 55) (k : p < 4) where
+module _ (i p : ℕ) (h : i < 56) (k : p < 4) where
   pub slot-in-row : slotOf (getD (lines table) (i * 37 + 33 + p) 0) ≡ slotAt p (rowAt i .kinds)
   unfolding line padded slotAt
   slot-in-row =
@@ -149,6 +151,13 @@ module _ (i p : ℕ) (h : i < 55) (k : p < 4) where
       ∙ List·getD-append (line e) (lines (drop (suc i) table)) 0 (length a + p) m
       ∙ getD-append-add a b p 0)
       ∙ letters (e .kinds) (4 - length (map letter (e .kinds))) p (omega (arith, length-map (e .kinds) letter, kinds-fit e t))
+
+-- in a read each kind in its turn
+pub slot-within : (r : Bool) (ks : List Kind) (p : ℕ) → slotWithin r (slotAt p ks) ≡ slotAt p (map (kindIn r) ks)
+unfolding slotAt
+slot-within r [] p = refl
+slot-within r (k ∷ ks) zero = refl
+slot-within r (k ∷ ks) (suc p) = slot-within r ks p
 
 -- a letter that stands for nothing, in the form in which the last arm of a `match` knows it
 abbrev Missed : ℕ → Type 0 → List Kind → Type 0
@@ -172,7 +181,7 @@ getD-any [] i d e h = absurd (omega arith)
 getD-any (x ∷ l) zero d e h = refl
 getD-any (x ∷ l) (suc i) d e h = getD-any l i d e (omega arith)
 
-pub verb-of : (d : Verb) (i : ℕ) → i < 55 → getD (map (λ (e : Entry). e .verb) table) i d ≡ rowAt i .verb
+pub verb-of : (d : Verb) (i : ℕ) → i < 56 → getD (map (λ (e : Entry). e .verb) table) i d ≡ rowAt i .verb
 unfolding rowAt
 verb-of d i h =
     getD-any (map (λ (e : Entry). e .verb) table) i d Now h ∙ List·getD-map (λ (e : Entry). e .verb) table i (row "" Now [])
@@ -184,14 +193,14 @@ unfolding lookup
 look-start word = refl
 
 module _ (word : List ℕ) (i : ℕ) where
-  pub look-hit : i < 55 → true ≡ sameBytes (rowAt i .name) word → some i ≡ lookupFrom i (drop i table) word
+  pub look-hit : i < 56 → true ≡ sameBytes (rowAt i .name) word → some i ≡ lookupFrom i (drop i table) word
   unfolding lookupFrom rowAt
   look-hit h e = rw (drop-cons table i (row "" Now []) h, ← e)
 
-  pub look-miss : i < 55 → false ≡ sameBytes (rowAt i .name) word → lookupFrom i (drop i table) word ≡ lookupFrom (i + 1) (drop (i + 1) table) word
+  pub look-miss : i < 56 → false ≡ sameBytes (rowAt i .name) word → lookupFrom i (drop i table) word ≡ lookupFrom (i + 1) (drop (i + 1) table) word
   unfolding lookupFrom rowAt
   look-miss h e = rw (drop-cons table i (row "" Now []) h, ← e, add-one)
 
-  pub look-end : 55 ≤ i → none ≡ lookupFrom i (drop i table) word
+  pub look-end : 56 ≤ i → none ≡ lookupFrom i (drop i table) word
   unfolding lookupFrom table
   look-end h = rw (drop-of-length-le table h)

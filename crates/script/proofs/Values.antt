@@ -1,6 +1,6 @@
 -- Words read as numbers of a kind. Assumes nothing.
-use Prim.Native.Nat.{ℕ, zero, suc, _-_, _^_, _≤_, _<_}
-use mathlib.Core.Path.{_≡_, refl, sym, ap, _∙_}
+use Prim.Native.Nat.{ℕ, zero, suc, _+_, _-_, _^_, _≤_, _<_}
+use mathlib.Core.Path.{_≡_, refl, sym, ap, ap₂, _∙_}
 use mathlib.Core.Logic.{_⊎_, inl, inr}
 use mathlib.Core.Bool.{Bool, true, false, cond, _&&_, false≢true}
 use mathlib.Core.List.{List, [], _∷_}
@@ -10,13 +10,15 @@ use borrow.Author.Tests.{ltb-true, ltb-false, le-leb, lt-leb, leb-true, ne-eqb}
 use lib.Dec.{leb, ltb}
 use lib.Ieee.{nan, ofBits, binary32}
 use lib.IntN.{pos, negℤ}
-use lib.ListN.{drop}
+use lib.ListN.{length, take, drop, length-drop, drop-of-length-le}
+use lib.Seq.{take-all}
 use Rattle.script.specs.declared.verb.Kind.{Kind}
 use Rattle.eiproto.specs.Interface.{ascii, sameBytes}
-use Rattle.script.specs.Words.{startsWith}
+use Rattle.script.specs.Words.{startsWith, before}
 use Rattle.script.specs.Number.{digits, number, that, within, fits64}
-use Rattle.script.specs.Script.{Arg, signed, float, noText, oneOfSeven, signedOf, floatOf, textOf, readAs}
+use Rattle.script.specs.Script.{Arg, signed, float, noText, textPart, oneOfSeven, signedOf, floatOf, textOf, bothOf, partOf, readAs}
 use Rattle.script.specs.Told.{one}
+use Rattle.script.proofs.Words.{take-before}
 
 -- ---- tests on numbers
 
@@ -173,3 +175,50 @@ module _ (w : List ℕ) where
 
   pub as-kind : (k k′ : Kind) → k ≡ k′ → one (readAs k′ w) ≡ one (readAs k w)
   as-kind k k′ e = ap (λ (x : Kind). one (readAs x w)) (sym e)
+
+-- ---- a part of a read's texts
+
+module _ (w : List ℕ) where
+  pub no-part : startsWith (ascii "p:") w ≡ false → none ≡ one (partOf w)
+  unfolding partOf
+  no-part e = rw e
+
+  module _ (p : startsWith (ascii "p:") w ≡ true) (colon : ℕ) (e : colon ≡ 2 + length (before 0x3a (drop 2 w))) where
+    start : that fits64 (number (take (colon - 2) (drop 2 w))) ≡ that fits64 (number (before 0x3a (drop 2 w)))
+    start =
+        let z : colon - 2 ≡ length (before 0x3a (drop 2 w)) = omega arith in
+        ap (λ (n : ℕ). that fits64 (number (take n (drop 2 w)))) z ∙ ap (λ (l : List ℕ). that fits64 (number l)) (take-before 0x3a (drop 2 w))
+
+    rest : take (length w - (colon + 1)) (drop (colon + 1) w) ≡ drop (colon + 1) w
+    rest = take-all (length w - (colon + 1)) (drop (colon + 1) w) (omega (arith, length-drop (colon + 1) w))
+
+    behind : that fits64 (number (drop (colon + 1) w)) ≡ that fits64 (number (drop (3 + length (before 0x3a (drop 2 w))) w))
+    behind = let z : colon + 1 ≡ 3 + length (before 0x3a (drop 2 w)) = omega arith in ap (λ (n : ℕ). that fits64 (number (drop n w))) z
+
+    is-part : one (bothOf (that fits64 (number (take (colon - 2) (drop 2 w)))) (that fits64 (number (drop (colon + 1) w)))) ≡ one (partOf w)
+    unfolding partOf
+    is-part = rw (p, start, behind)
+
+    bad-length : (o : Option ℕ) → none ≡ one (bothOf o none)
+    bad-length none = refl
+    bad-length (some n) = refl
+
+    pub part-open : length w ≤ colon → none ≡ one (partOf w)
+    unfolding number digits startsWith ascii
+    part-open h =
+        let z : length w ≤ colon + 1 = omega arith in
+        bad-length (that fits64 (number (take (colon - 2) (drop 2 w))))
+        ∙ ap (λ (l : List ℕ). one (bothOf (that fits64 (number (take (colon - 2) (drop 2 w)))) (that fits64 (number l)))) (sym (drop-of-length-le w z))
+        ∙ is-part
+
+    pub part-start : none ≡ that fits64 (number (take (colon - 2) (drop 2 w))) → none ≡ one (partOf w)
+    part-start f = ap (λ (o : Option ℕ). one (bothOf o (that fits64 (number (drop (colon + 1) w))))) f ∙ is-part
+
+    pub part-length : none ≡ that fits64 (number (take (length w - (colon + 1)) (drop (colon + 1) w))) → none ≡ one (partOf w)
+    part-length f =
+        bad-length (that fits64 (number (take (colon - 2) (drop 2 w))))
+        ∙ ap (λ (o : Option ℕ). one (bothOf (that fits64 (number (take (colon - 2) (drop 2 w)))) o)) (rw rest at f) ∙ is-part
+
+    pub part-given : (m n : ℕ) → some m ≡ that fits64 (number (take (colon - 2) (drop 2 w))) → some n ≡ that fits64 (number (take (length w - (colon + 1)) (drop (colon + 1) w)))
+        → some (textPart m n ∷ []) ≡ one (partOf w)
+    part-given m n f g = ap₂ (λ (o o′ : Option ℕ). one (bothOf o o′)) f (rw rest at g) ∙ is-part

@@ -1,5 +1,5 @@
 -- The lines of a call script, as the format's page (docs/CALL-SCRIPTS.md) has them. Assumes nothing.
-use Prim.Native.Nat.{ℕ, _-_, _^_}
+use Prim.Native.Nat.{ℕ, _+_, _-_, _^_}
 use mathlib.Core.Bool.{Bool, true, cond, _||_}
 use mathlib.Core.List.{List, [], _∷_, _++_}
 use mathlib.Core.Option.{Option, none, some, Option·map}
@@ -10,12 +10,12 @@ use lib.ListN.{length, drop}
 use Rattle.script.specs.declared.verb.Verb.{Verb}
 use Rattle.script.specs.declared.verb.Kind.{Kind}
 use Rattle.eiproto.specs.Interface.{ascii, sameBytes}
-use Rattle.script.specs.Words.{startsWith, words}
+use Rattle.script.specs.Words.{startsWith, before, words}
 use Rattle.script.specs.Number.{digits, number, that, within, fits64}
 use Rattle.script.specs.Text.{isText, bytesOf}
-use Rattle.script.specs.Verbs.{settings, rowAt, lookup}
+use Rattle.script.specs.Verbs.{settings, rowAt, kindsOf, lookup}
 
--- what a word behind the first stands for: a number of 64 or of 32 bits, one with a sign, a float, a text, or none
+-- what a word behind the first stands for: a number of 64 or of 32 bits, one with a sign, a float, a text, none, or a part of a read's texts
 pub data Arg : Type 0 where
   number64 : ℕ → Arg
   number32 : ℕ → Arg
@@ -23,6 +23,7 @@ pub data Arg : Type 0 where
   float : Float → Arg
   text : List ℕ → Arg
   noText : Arg
+  textPart : (start length : ℕ) → Arg
 
 -- "MASK one of the seven bits, as 4 for the keyboard"
 abbrev pub oneOfSeven : ℕ → Bool
@@ -49,10 +50,22 @@ floatOf w =
 abbrev pub textOf : List ℕ → Option Arg
 textOf w = cond (isText w) (some (text (bytesOf (drop 2 w)))) none
 
+abbrev pub bothOf : Option ℕ → Option ℕ → Option Arg
+bothOf none n = none
+bothOf (some m) none = none
+bothOf (some m) (some n) = some (textPart m n)
+
+-- `p:START:LENGTH`: "a part of TEXTS, two numbers of 64 bits"
+unfoldable pub partOf : List ℕ → Option Arg
+unfolding ascii startsWith before number
+partOf w =
+    let start = before 0x3a (drop 2 w) in
+    cond (startsWith (ascii "p:") w) (bothOf (that fits64 (number start)) (that fits64 (number (drop (3 + length start) w)))) none
+
 -- A word read as a kind; none where it does not stand for one: "a press state above 1, a type, reason or mask that has no such value, a number too
 -- large for its field".
 unfoldable pub readAs : Kind → List ℕ → Option Arg
-unfolding number signedOf floatOf isText bytesOf ascii sameBytes
+unfolding number signedOf floatOf isText bytesOf partOf ascii sameBytes
 readAs Kind.U64 w = unsignedOf number64 fits64 w
 readAs Kind.U32 w = unsignedOf number32 (within 0 (2 ^ 32 - 1)) w
 readAs Kind.I32 w = signedOf w
@@ -63,6 +76,8 @@ readAs Kind.State w = unsignedOf number32 (within 0 1) w
 readAs Kind.TypeNumber w = unsignedOf number32 (within 1 2) w
 readAs Kind.Reason w = unsignedOf number32 (within 0 5) w
 readAs Kind.Capability w = unsignedOf number64 oneOfSeven w
+readAs Kind.Count w = unsignedOf number32 (within 0 65535) w
+readAs Kind.Part w = partOf w
 
 -- what stands behind what was read
 abbrev pub behind : List Arg → Option (List Arg) → Option (List Arg)
@@ -93,20 +108,20 @@ abbrev pub readWith : ℕ → Verb → Option (List Arg) → Reading
 readWith i v none = noCall
 readWith i v (some args) = cond (ltb i (length settings)) (setting v args) (call v args)
 
-abbrev pub readRow : Option ℕ → List (List ℕ) → Reading
-readRow none ws = noCall
-readRow (some i) ws = readWith i (rowAt i .verb) (readArgs (rowAt i .kinds) ws)
+abbrev pub readRow : (inRead : Bool) → Option ℕ → List (List ℕ) → Reading
+readRow r none ws = noCall
+readRow r (some i) ws = readWith i (rowAt i .verb) (readArgs (kindsOf r (rowAt i)) ws)
 
-abbrev pub readWords : List (List ℕ) → Reading
-readWords [] = noCall
-readWords (w ∷ ws) = readRow (lookup w) ws
+abbrev pub readWords : (inRead : Bool) → List (List ℕ) → Reading
+readWords r [] = noCall
+readWords r (w ∷ ws) = readRow r (lookup w) ws
 
 -- "An empty line, and one that begins with `#`, is no call."
 unfoldable pub isBlank : List ℕ → Bool
 isBlank [] = true
 isBlank (c ∷ l) = eqb c 0x23
 
--- "One call to a line, words separated by one space."
-unfoldable pub reading : List ℕ → Reading
+-- "One call to a line, words separated by one space." In a read, each of its lines is read so too, with parts for texts
+unfoldable pub reading : (inRead : Bool) → List ℕ → Reading
 unfolding isBlank words settings lookup rowAt readArgs
-reading line = cond (isBlank line) blank (readWords (words line))
+reading r line = cond (isBlank line) blank (readWords r (words line))

@@ -1,6 +1,7 @@
 -- What the code's answers say of a line. Assumes nothing.
 use Prim.Native.Nat.{ℕ, _-_, _≤_}
 use mathlib.Core.Path.{_≡_}
+use mathlib.Core.Bool.{Bool}
 use mathlib.Core.List.{List, [], _∷_, _++_}
 use mathlib.Core.Option.{Option, none, some}
 use lib.Ieee.{Float, nan}
@@ -10,6 +11,7 @@ use Rattle.script.specs.declared.word.Number.{Number}
 use Rattle.script.specs.declared.value.Value.{Value}
 use Rattle.script.specs.declared.value.Word.{Word}
 use Rattle.script.specs.declared.text.Text.{Text}
+use Rattle.script.specs.declared.text.Part.{Part}
 use Rattle.script.specs.declared.verb.Kind.{Kind}
 use Rattle.script.specs.declared.verb.Slot.{Slot}
 use Rattle.script.specs.declared.line.Args.{Args}
@@ -18,8 +20,8 @@ use Rattle.script.specs.declared.line.Step.{Step}
 use Rattle.script.specs.declared.line.Line.{Line}
 use Rattle.script.specs.Words.{words}
 use Rattle.script.specs.Text.{textBytes}
-use Rattle.script.specs.Verbs.{rowAt}
-use Rattle.script.specs.Script.{Arg, number64, number32, signed, float, text, noText, Reading, blank, setting, call, noCall, readArgs, behind, reading}
+use Rattle.script.specs.Verbs.{rowAt, kindsOf}
+use Rattle.script.specs.Script.{Arg, number64, number32, signed, float, text, noText, textPart, Reading, blank, setting, call, noCall, readArgs, behind, reading}
 
 abbrev pub numberTold : Number → Option ℕ
 numberTold (Number.Is n) = some n
@@ -35,6 +37,7 @@ valueTold line (Value.I32 z) = signed z ∷ []
 valueTold line (Value.F32 x) = float x ∷ []
 valueTold line (Value.Text t) = text (textBytes line t) ∷ []
 valueTold line Value.NoText = noText ∷ []
+valueTold line (Value.Part p) = textPart (p .start) (p .length) ∷ []
 
 abbrev pub wordTold : List ℕ → Word → Option (List Arg)
 wordTold line (Word.Is v) = some (valueTold line v)
@@ -89,8 +92,8 @@ ReadInTurn line (Read.Args a) = InTurn line a
 ReadInTurn line Read.Nothing = Unit {0}
 
 -- the words behind a word that ends at a place, read as the kinds of a row
-pub record Given (line : List ℕ) (at i : ℕ) (r : Read) : Type 0 where
-  pub reads : argsRead line r ≡ readArgs (rowAt i .kinds) (wordsFrom at line)
+pub record Given (line : List ℕ) (at i : ℕ) (inRead : Bool) (r : Read) : Type 0 where
+  pub reads : argsRead line r ≡ readArgs (kindsOf inRead (rowAt i)) (wordsFrom at line)
   pub inTurn : ReadInTurn line r
 
 abbrev pub told : List ℕ → Line → Reading
@@ -106,8 +109,8 @@ LineInTurn line (Line.Call v a) = InTurn line a
 LineInTurn line Line.NoCall = Unit {0}
 
 -- the answer says what the line is, with each argument in its place
-pub record Parsed (line : List ℕ) (r : Line) : Type 0 where
-  pub reads : told line r ≡ reading line
+pub record Parsed (inRead : Bool) (line : List ℕ) (r : Line) : Type 0 where
+  pub reads : told line r ≡ reading inRead line
   pub inTurn : LineInTurn line r
 
 -- ---- the values, by their types
@@ -120,6 +123,7 @@ u64Of (Value.I32 z) = 0
 u64Of (Value.F32 x) = 0
 u64Of (Value.Text t) = 0
 u64Of Value.NoText = 0
+u64Of (Value.Part p) = 0
 
 abbrev pub u32Of : Value → ℕ
 u32Of Value.Nothing = 0
@@ -129,6 +133,7 @@ u32Of (Value.I32 z) = 0
 u32Of (Value.F32 x) = 0
 u32Of (Value.Text t) = 0
 u32Of Value.NoText = 0
+u32Of (Value.Part p) = 0
 
 abbrev pub i32Of : Value → ℤ
 i32Of Value.Nothing = pos 0
@@ -138,6 +143,7 @@ i32Of (Value.I32 z) = z
 i32Of (Value.F32 x) = pos 0
 i32Of (Value.Text t) = pos 0
 i32Of Value.NoText = pos 0
+i32Of (Value.Part p) = pos 0
 
 abbrev pub f32Of : Value → Float
 f32Of Value.Nothing = nan
@@ -147,6 +153,7 @@ f32Of (Value.I32 z) = nan
 f32Of (Value.F32 x) = x
 f32Of (Value.Text t) = nan
 f32Of Value.NoText = nan
+f32Of (Value.Part p) = nan
 
 abbrev pub textIn : Value → Text
 textIn Value.Nothing = record { start = 0; bytes = 0 }
@@ -156,3 +163,14 @@ textIn (Value.I32 z) = record { start = 0; bytes = 0 }
 textIn (Value.F32 x) = record { start = 0; bytes = 0 }
 textIn (Value.Text t) = t
 textIn Value.NoText = record { start = 0; bytes = 0 }
+textIn (Value.Part p) = record { start = 0; bytes = 0 }
+
+abbrev pub partIn : Value → Part
+partIn Value.Nothing = record { start = 0; length = 0 }
+partIn (Value.U64 n) = record { start = 0; length = 0 }
+partIn (Value.U32 n) = record { start = 0; length = 0 }
+partIn (Value.I32 z) = record { start = 0; length = 0 }
+partIn (Value.F32 x) = record { start = 0; length = 0 }
+partIn (Value.Text t) = record { start = 0; length = 0 }
+partIn Value.NoText = record { start = 0; length = 0 }
+partIn (Value.Part p) = p

@@ -1,15 +1,15 @@
 -- The table of the format's page: the first word of each line, and what the words behind it are. Assumes nothing.
 use Prim.Native.Nat.{ℕ, _+_, _-_}
 use Prim.Native.String.{String}
-use mathlib.Core.Bool.{cond}
+use mathlib.Core.Bool.{Bool, true, false, cond}
 use mathlib.Core.List.{List, [], _∷_, _++_, map}
 use mathlib.Core.Option.{Option, none, some}
 use lib.Dec.{eqb}
 use lib.ListN.{getD, length, replicate}
 use Rattle.script.specs.declared.verb.Verb.{Verb}
-use Rattle.script.specs.declared.verb.Verb.the-variants.{Now, Out, Buffer, Start, HandshakeHandshakeVersion, HandshakeName, HandshakeContextType, HandshakeInterfaceVersion, HandshakeFinish, ConnectionSync, ConnectionDisconnect, PingpongDone, SeatRelease, SeatBind, SeatRequestDevice, DeviceRelease, DeviceStartEmulating, DeviceStopEmulating, DeviceFrame, DeviceReady, PointerRelease, PointerMotionRelative, PointerAbsoluteRelease, PointerAbsoluteMotionAbsolute, ScrollRelease, ScrollScroll, ScrollScrollDiscrete, ScrollScrollStop, ButtonRelease, ButtonButton, KeyboardRelease, KeyboardKey, TouchscreenRelease, TouchscreenDown, TouchscreenMotion, TouchscreenUp, TouchscreenCancel, TextRelease, TextKeysym, TextUtf8, NextRequest, AddSeat, AddDevice, RemoveSeat, RemoveDevice, Resumed, Paused, StartEmulating, StopEmulating, Frame, Disconnected, LastSerial, HasInterface, InterfaceVersion, HasCapability}
+use Rattle.script.specs.declared.verb.Verb.the-variants.{Now, Out, Buffer, Start, HandshakeHandshakeVersion, HandshakeName, HandshakeContextType, HandshakeInterfaceVersion, HandshakeFinish, ConnectionSync, ConnectionDisconnect, PingpongDone, SeatRelease, SeatBind, SeatRequestDevice, DeviceRelease, DeviceStartEmulating, DeviceStopEmulating, DeviceFrame, DeviceReady, PointerRelease, PointerMotionRelative, PointerAbsoluteRelease, PointerAbsoluteMotionAbsolute, ScrollRelease, ScrollScroll, ScrollScrollDiscrete, ScrollScrollStop, ButtonRelease, ButtonButton, KeyboardRelease, KeyboardKey, TouchscreenRelease, TouchscreenDown, TouchscreenMotion, TouchscreenUp, TouchscreenCancel, TextRelease, TextKeysym, TextUtf8, NextRequest, AddSeat, AddDevice, RemoveSeat, RemoveDevice, Resumed, Paused, StartEmulating, StopEmulating, Frame, Disconnected, LastSerial, HasInterface, InterfaceVersion, HasCapability, Read}
 use Rattle.script.specs.declared.verb.Kind.{Kind}
-use Rattle.script.specs.declared.verb.Kind.the-variants.{U64, U32, I32, F32, Text, OptionalText, State, TypeNumber, Reason, Capability}
+use Rattle.script.specs.declared.verb.Kind.the-variants.{U64, U32, I32, F32, Text, OptionalText, State, TypeNumber, Reason, Capability, Count, Part}
 use Rattle.script.specs.declared.verb.Slot.{Slot}
 use Rattle.script.specs.declared.verb.Slot.the-variants.{Empty, Of}
 use Rattle.script.specs.declared.verb.Found.{Found}
@@ -90,6 +90,7 @@ calls =
     ∷ row "has_interface" HasInterface (Text ∷ [])
     ∷ row "interface_version" InterfaceVersion (Text ∷ [])
     ∷ row "has_capability" HasCapability (U64 ∷ Capability ∷ [])
+    ∷ row "read" Read (Count ∷ Text ∷ [])
     ∷ []
 
 unfoldable pub table : List Entry
@@ -100,6 +101,26 @@ table = settings ++ calls
 unfoldable pub rowAt : ℕ → Entry
 unfolding table
 rowAt i = getD table i (row "" Now [])
+
+-- in a read a part stands for a text
+abbrev pub kindIn : (inRead : Bool) → Kind → Kind
+kindIn false k = k
+kindIn true U64 = U64
+kindIn true U32 = U32
+kindIn true I32 = I32
+kindIn true F32 = F32
+kindIn true Text = Part
+kindIn true OptionalText = OptionalText
+kindIn true State = State
+kindIn true TypeNumber = TypeNumber
+kindIn true Reason = Reason
+kindIn true Capability = Capability
+kindIn true Count = Count
+kindIn true Part = Part
+
+-- what the words behind the first are, in a read or outside of one
+abbrev pub kindsOf : (inRead : Bool) → Entry → List Kind
+kindsOf r e = map (kindIn r) (e .kinds)
 
 -- the number of the first line with the word, where the lines are numbered from i on
 unfoldable pub lookupFrom : ℕ → List Entry → List ℕ → Option ℕ
@@ -122,6 +143,10 @@ numberFound Found.Nothing = none
 unfoldable pub slotAt : ℕ → List Kind → Slot
 slotAt i ks = getD (map Of ks) i Empty
 
+abbrev pub slotWithin : (inRead : Bool) → Slot → Slot
+slotWithin r Empty = Empty
+slotWithin r (Of k) = Of (kindIn r k)
+
 -- the letter of a kind
 abbrev pub letter : Kind → ℕ
 letter U64 = 0x71
@@ -134,9 +159,11 @@ letter State = 0x73
 letter TypeNumber = 0x79
 letter Reason = 0x72
 letter Capability = 0x6d
+letter Count = 0x6e
+letter Part = 0x70
 
 abbrev pub kinds : List Kind
-kinds = U64 ∷ U32 ∷ I32 ∷ F32 ∷ Text ∷ OptionalText ∷ State ∷ TypeNumber ∷ Reason ∷ Capability ∷ []
+kinds = U64 ∷ U32 ∷ I32 ∷ F32 ∷ Text ∷ OptionalText ∷ State ∷ TypeNumber ∷ Reason ∷ Capability ∷ Count ∷ Part ∷ []
 
 -- the kind of the list that has the letter, and nothing where there is none
 abbrev pub slotIn : List Kind → ℕ → Slot

@@ -77,20 +77,20 @@ fn read_slot(line: &[u8], at: usize, slot: Slot) -> Step
 }
 
 // The words behind the first, which ends at a place, for the row of that.
-fn read_args(line: &[u8], at: usize, i: usize) -> Read
-    requires { ⌜ (at ≤ length (now line)) × (i < 55) ⌝ }
-    ensures { λ r. ⌜ Given (now (line .entry)) at i r ⌝ }
+fn read_args(line: &[u8], at: usize, i: usize, within: bool) -> Read
+    requires { ⌜ (at ≤ length (now line)) × (i < 56) ⌝ }
+    ensures { λ r. ⌜ Given (now (line .entry)) at i within r ⌝ }
 {
-    let Step::Read { value: a, next: p } = read_slot(line, at, verb::slot_at(i, 0)) else {
+    let Step::Read { value: a, next: p } = read_slot(line, at, verb::slot_at(i, 0, within)) else {
         return Read::Nothing;
     };
-    let Step::Read { value: b, next: q } = read_slot(line, p, verb::slot_at(i, 1)) else {
+    let Step::Read { value: b, next: q } = read_slot(line, p, verb::slot_at(i, 1, within)) else {
         return Read::Nothing;
     };
-    let Step::Read { value: c, next: r } = read_slot(line, q, verb::slot_at(i, 2)) else {
+    let Step::Read { value: c, next: r } = read_slot(line, q, verb::slot_at(i, 2, within)) else {
         return Read::Nothing;
     };
-    let Step::Read { value: d, next: s } = read_slot(line, r, verb::slot_at(i, 3)) else {
+    let Step::Read { value: d, next: s } = read_slot(line, r, verb::slot_at(i, 3, within)) else {
         return Read::Nothing;
     };
     if s < line.len() {
@@ -99,9 +99,9 @@ fn read_args(line: &[u8], at: usize, i: usize) -> Read
     Read::Args(Args { a, b, c, d })
 }
 
-// What a line is, without its end.
-pub fn parse(line: &[u8]) -> Line
-    ensures { λ r. ⌜ Parsed (now (line .entry)) r ⌝ }
+// What a line is, without its end; `within` a read it may be one of the read's records, which has a part for a text.
+pub fn parse(line: &[u8], within: bool) -> Line
+    ensures { λ r. ⌜ Parsed within (now (line .entry)) r ⌝ }
 {
     if is_blank(line) {
         return Line::Blank;
@@ -110,7 +110,7 @@ pub fn parse(line: &[u8]) -> Line
     let Found::Row(i) = verb::find(&line[..end]) else {
         return Line::NoCall;
     };
-    let Read::Args(args) = read_args(line, end, i) else {
+    let Read::Args(args) = read_args(line, end, i, within) else {
         return Line::NoCall;
     };
     let verb = verb::verb_at(i);

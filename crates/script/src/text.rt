@@ -10,6 +10,12 @@ pub struct Text {
     pub bytes: usize,
 }
 
+// A part of a read's texts: where it begins there, and how many bytes it has.
+pub struct Part {
+    pub start: u64,
+    pub length: u64,
+}
+
 // Whether a word is `t:` and two digits for each byte.
 pub fn is_text(word: &[u8]) -> bool
     ensures { λ r. ⌜ r ≡ isText (now (word .entry)) ⌝ }

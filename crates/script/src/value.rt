@@ -1,5 +1,6 @@
 // What the words behind the first stand for.
 use crate::text;
+use crate::text::Part;
 use crate::text::Text;
 use crate::verb::Kind;
 use crate::word;
@@ -9,8 +10,8 @@ ghost use mathlib.Core.Path.{_≡_};
 ghost use mathlib.Core.List.{List};
 ghost use lib.ListN.{length};
 ghost use Rattle.script.specs.Number.{within, fits64};
-ghost use Rattle.script.specs.Script.{number64, number32, unsignedOf, oneOfSeven, signedOf, floatOf, textOf, readAs};
-ghost use Rattle.script.specs.Told.{wordTold, one, part, u64Of, u32Of, i32Of, f32Of, textIn};
+ghost use Rattle.script.specs.Script.{number64, number32, unsignedOf, oneOfSeven, signedOf, floatOf, textOf, partOf, readAs};
+ghost use Rattle.script.specs.Told.{wordTold, one, part, u64Of, u32Of, i32Of, f32Of, textIn, partIn};
 
 pub enum Value {
     // There is no such word.
@@ -22,6 +23,7 @@ pub enum Value {
     Text(Text),
     // `none`.
     NoText,
+    Part(Part),
 }
 
 // What a word is read as; nothing where it cannot be.
@@ -139,6 +141,27 @@ fn optional_text(line: &[u8], from: usize, end: usize) -> Word
     text_in(line, from, end)
 }
 
+// `p:`, a number, a colon and a number.
+fn part_of_texts(word: &[u8]) -> Word
+    ensures { λ r. ⌜ ((l : List ℕ) → wordTold l r ≡ one (partOf (now (word .entry)))) ⌝ }
+{
+    if !word::starts_with(word, b"p:") {
+        return Word::Nothing;
+    }
+    let colon = word::find_byte(word, 2, b':');
+    if word.len() <= colon {
+        return Word::Nothing;
+    }
+    let behind = colon + 1;
+    let Number::Is(start) = word::number_in(&word[2..colon]) else {
+        return Word::Nothing;
+    };
+    let Number::Is(length) = word::number_in(&word[behind..]) else {
+        return Word::Nothing;
+    };
+    Word::Is(Value::Part(Part { start, length }))
+}
+
 // The part of a line, read as a kind.
 pub fn read(line: &[u8], from: usize, end: usize, kind: Kind) -> Word
     requires { ⌜ (from ≤ end) × (end ≤ length (now line)) ⌝ }
@@ -155,6 +178,8 @@ pub fn read(line: &[u8], from: usize, end: usize, kind: Kind) -> Word
         Kind::TypeNumber => unsigned32(&line[from..end], 1, 2),
         Kind::Reason => unsigned32(&line[from..end], 0, 5),
         Kind::Capability => capability(&line[from..end]),
+        Kind::Count => unsigned32(&line[from..end], 0, 65535),
+        Kind::Part => part_of_texts(&line[from..end]),
     }
 }
 
@@ -170,6 +195,7 @@ pub fn u64_of(v: Value) -> u64
         Value::F32(_) => 0,
         Value::Text(_) => 0,
         Value::NoText => 0,
+        Value::Part(_) => 0,
     }
 }
 
@@ -185,6 +211,7 @@ pub fn u32_of(v: Value) -> u32
         Value::F32(_) => 0,
         Value::Text(_) => 0,
         Value::NoText => 0,
+        Value::Part(_) => 0,
     }
 }
 
@@ -200,6 +227,7 @@ pub fn i32_of(v: Value) -> i32
         Value::F32(_) => 0,
         Value::Text(_) => 0,
         Value::NoText => 0,
+        Value::Part(_) => 0,
     }
 }
 
@@ -215,6 +243,7 @@ pub fn f32_of(v: Value) -> f32
         Value::Nothing => 0.0 / 0.0,
         Value::Text(_) => 0.0 / 0.0,
         Value::NoText => 0.0 / 0.0,
+        Value::Part(_) => 0.0 / 0.0,
     }
 }
 
@@ -230,5 +259,43 @@ pub fn text_of(v: Value) -> Text
         Value::F32(_) => Text { start: 0, bytes: 0 },
         Value::Nothing => Text { start: 0, bytes: 0 },
         Value::NoText => Text { start: 0, bytes: 0 },
+        Value::Part(_) => Text { start: 0, bytes: 0 },
+    }
+}
+
+// The part of a value; an empty one where it is none.
+pub fn part_of(v: Value) -> Part
+    ensures { λ r. ⌜ r ≡ partIn v ⌝ }
+{
+    match v {
+        Value::Part(p) => p,
+        Value::U64(_) => Part {
+            start: 0,
+            length: 0,
+        },
+        Value::U32(_) => Part {
+            start: 0,
+            length: 0,
+        },
+        Value::I32(_) => Part {
+            start: 0,
+            length: 0,
+        },
+        Value::F32(_) => Part {
+            start: 0,
+            length: 0,
+        },
+        Value::Text(_) => Part {
+            start: 0,
+            length: 0,
+        },
+        Value::Nothing => Part {
+            start: 0,
+            length: 0,
+        },
+        Value::NoText => Part {
+            start: 0,
+            length: 0,
+        },
     }
 }

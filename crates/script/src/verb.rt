@@ -3,7 +3,7 @@ use crate::word;
 ghost use Prim.Native.Nat.{_<_};
 ghost use mathlib.Core.Path.{_≡_};
 ghost use Rattle.eiproto.specs.Interface.{sameBytes};
-ghost use Rattle.script.specs.Verbs.{rowAt, slotAt, slotOf, numberFound, lookup};
+ghost use Rattle.script.specs.Verbs.{rowAt, kindIn, kindsOf, slotWithin, slotAt, slotOf, numberFound, lookup};
 
 // The first word of a line, without its dots and underscores.
 pub enum Verb {
@@ -62,6 +62,7 @@ pub enum Verb {
     HasInterface,
     InterfaceVersion,
     HasCapability,
+    Read,
 }
 
 // What a word is read as.
@@ -81,6 +82,10 @@ pub enum Kind {
     Reason,
     // A mask of one bit.
     Capability,
+    // How many records a read has.
+    Count,
+    // A part of a read's texts.
+    Part,
 }
 
 // One of the four places for a word behind the first.
@@ -90,7 +95,7 @@ pub enum Slot {
 }
 
 // A row for each first word, the settings first: 33 bytes for the word, and a letter for each word behind it.
-const ROWS: [u8; 2035] = *b"now                              q   \
+const ROWS: [u8; 2072] = *b"now                              q   \
     out                              q   \
     buffer                           q   \
     start                            u   \
@@ -144,9 +149,10 @@ const ROWS: [u8; 2035] = *b"now                              q   \
     last_serial                          \
     has_interface                    t   \
     interface_version                t   \
-    has_capability                   qm  ";
+    has_capability                   qm  \
+    read                             nt  ";
 
-const VERBS: [Verb; 55] = [
+const VERBS: [Verb; 56] = [
     Verb::Now,
     Verb::Out,
     Verb::Buffer,
@@ -202,6 +208,7 @@ const VERBS: [Verb; 55] = [
     Verb::HasInterface,
     Verb::InterfaceVersion,
     Verb::HasCapability,
+    Verb::Read,
 ];
 
 // The row of a first word, counted from 0.
@@ -212,7 +219,7 @@ pub enum Found {
 
 // Whether the row is that of the word.
 fn is_verb(i: usize, word: &[u8]) -> bool
-    requires { ⌜ i < 55 ⌝ }
+    requires { ⌜ i < 56 ⌝ }
     ensures { λ r. ⌜ r ≡ sameBytes (rowAt i .name) (now (word .entry)) ⌝ }
 {
     let rows = ROWS;
@@ -228,7 +235,7 @@ pub fn find(word: &[u8]) -> Found
     ensures { λ r. ⌜ numberFound r ≡ lookup (now (word .entry)) ⌝ }
 {
     let mut i: usize = 0;
-    while i < 55 {
+    while i < 56 {
         if is_verb(i, word) {
             return Found::Row(i);
         }
@@ -238,7 +245,7 @@ pub fn find(word: &[u8]) -> Found
 }
 
 pub fn verb_at(i: usize) -> Verb
-    requires { ⌜ i < 55 ⌝ }
+    requires { ⌜ i < 56 ⌝ }
     ensures { λ r. ⌜ r ≡ rowAt i .verb ⌝ }
 {
     VERBS[i]
@@ -259,14 +266,37 @@ fn slot_of(letter: u8) -> Slot
         b'y' => Slot::Of(Kind::TypeNumber),
         b'r' => Slot::Of(Kind::Reason),
         b'm' => Slot::Of(Kind::Capability),
+        b'n' => Slot::Of(Kind::Count),
+        b'p' => Slot::Of(Kind::Part),
         _ => Slot::Empty,
     }
 }
 
-// What the word at a place behind the first is read as.
-pub fn slot_at(i: usize, place: usize) -> Slot
-    requires { ⌜ (i < 55) × (place < 4) ⌝ }
-    ensures { λ r. ⌜ r ≡ slotAt place (rowAt i .kinds) ⌝ }
+// In a read a part stands for a text.
+fn kind_in(kind: Kind, within: bool) -> Kind
+    ensures { λ r. ⌜ r ≡ kindIn within kind ⌝ }
 {
-    slot_of(ROWS[i * 37 + 33 + place])
+    if within {
+        if let Kind::Text = kind {
+            return Kind::Part;
+        }
+    }
+    kind
+}
+
+fn slot_in(slot: Slot, within: bool) -> Slot
+    ensures { λ r. ⌜ r ≡ slotWithin within slot ⌝ }
+{
+    match slot {
+        Slot::Empty => Slot::Empty,
+        Slot::Of(kind) => Slot::Of(kind_in(kind, within)),
+    }
+}
+
+// What the word at a place behind the first is read as, in a read or outside of one.
+pub fn slot_at(i: usize, place: usize, within: bool) -> Slot
+    requires { ⌜ (i < 56) × (place < 4) ⌝ }
+    ensures { λ r. ⌜ r ≡ slotAt place (kindsOf within (rowAt i)) ⌝ }
+{
+    slot_in(slot_of(ROWS[i * 37 + 33 + place]), within)
 }

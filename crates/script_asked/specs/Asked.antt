@@ -162,6 +162,7 @@ told Verb.LastSerial w = Asked.Station (Station.Ask Ask.LastSerial)
 told Verb.HasInterface w = Asked.Station (Station.Ask Ask.HasInterface)
 told Verb.InterfaceVersion w = Asked.Station (Station.Ask Ask.InterfaceVersion)
 told Verb.HasCapability w = Asked.Station (Station.Ask (Ask.HasCapability (w .a64) (w .capability)))
+told Verb.Read w = Asked.Read (w .a32)
 
 -- WHAT A LINE ASKS FOR
 unfoldable pub asked : Verb → Args → Asked

@@ -91,6 +91,8 @@ pub enum Asked {
     },
     NextRequest,
     Station(Station),
+    // A read of so many records. Its texts are lent beside it.
+    Read(u32),
 }
 
 // A press state, a device's type, a reason and a capability. A line that has another value is no call.
@@ -467,6 +469,7 @@ fn told(verb: Verb, w: Words) -> Asked
             device: w.a64,
             capability,
         })),
+        Verb::Read => Asked::Read(w.a32),
     }
 }
 

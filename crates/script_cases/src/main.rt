@@ -30,7 +30,7 @@ fn verb(line: &[u8]) {
 }
 
 fn answer(line: &[u8]) {
-    match script::parse(line) {
+    match script::parse(line, false) {
         Line::Blank => text(b" blank\n"),
         Line::Setting { verb: _, args: _ } => text(b" setting\n"),
         Line::Call { verb: _, args: _ } => {

@@ -126,6 +126,7 @@ refusalPatterns =
     ∷ "refused $ (short out)"
     ∷ "refused $ (ids spent)"
     ∷ "refused $ (bad state)"
+    ∷ "refused $ (bad part)"
     ∷ []
 
 -- an event record in words, from kind 1 on; 0 is no kind
@@ -160,8 +161,12 @@ linePatterns =
     ∷ "    #: "
     ∷ []
 
+-- how many records of a read were accepted
+abbrev readPatterns : List String
+readPatterns = "accepted $" ∷ []
+
 unfoldable pub patterns : List String
-patterns = requestPatterns ++ (outcomePatterns ++ (refusalPatterns ++ (recordPatterns ++ linePatterns)))
+patterns = requestPatterns ++ (outcomePatterns ++ (refusalPatterns ++ (recordPatterns ++ (linePatterns ++ readPatterns))))
 
 -- where each group begins
 abbrev pub firstOutcome : ℕ
@@ -171,13 +176,16 @@ abbrev pub firstRefusal : ℕ
 firstRefusal = 30
 
 abbrev pub firstRecord : ℕ
-firstRecord = 52
+firstRecord = 53
 
 abbrev pub firstLine : ℕ
-firstLine = 71
+firstLine = 72
+
+abbrev pub firstRead : ℕ
+firstRead = 75
 
 abbrev pub patternCount : ℕ
-patternCount = 74
+patternCount = 76
 
 -- the pattern of a number; past the table, none
 unfoldable pub patternAt : ℕ → List ℕ

@@ -16,17 +16,19 @@ pub struct Shown {
     pub e: u64,
 }
 
-// Where a group of patterns begins: outcomes, refusals by number, records by kind, other lines.
+// Where a group of patterns begins: outcomes, refusals by number, records by kind, other lines, reads.
 pub const OUTCOME: usize = 23;
 
 pub const REFUSAL: usize = 30;
 
-pub const RECORD: usize = 52;
+pub const RECORD: usize = 53;
 
-pub const LINE: usize = 71;
+pub const LINE: usize = 72;
+
+pub const READ: usize = 75;
 
 // A pattern in 66 bytes.
-const ROWS: [u8; 4884] = *b"Disconnect........................................................\
+const ROWS: [u8; 5016] = *b"Disconnect........................................................\
     Bind seat=# capabilities=$........................................\
     DeviceClosed device=#.............................................\
     RequestDevice seat=# capabilities=$...............................\
@@ -78,6 +80,7 @@ const ROWS: [u8; 4884] = *b"Disconnect..........................................
     refused $ (short out).............................................\
     refused $ (ids spent).............................................\
     refused $ (bad state).............................................\
+    refused $ (bad part)..............................................\
     unknown record....................................................\
     seat # version $..................................................\
     name \"*\"..........................................................\
@@ -99,7 +102,8 @@ const ROWS: [u8; 4884] = *b"Disconnect..........................................
     connection # serial $ version $...................................\
     error line $......................................................\
     > *...............................................................\
-    \x20   #: ...........................................................";
+    \x20   #: ...........................................................\
+    accepted $........................................................";
 
 // A pattern with one value or none.
 pub fn single(pattern: usize, a: u64) -> Shown
@@ -131,7 +135,7 @@ fn value(s: Shown, place: usize) -> u64
 
 // The byte at a place of a pattern's row.
 fn byte_of(pattern: usize, place: usize) -> u8
-    requires { ⌜ (pattern < 74) × (place < 66) ⌝ }
+    requires { ⌜ (pattern < 76) × (place < 66) ⌝ }
     ensures { λ r. ⌜ r ≡ getD (padded (patternAt pattern)) place 0 ⌝ }
 {
     ROWS[pattern * 66 + place]
@@ -142,7 +146,7 @@ pub fn show(line: &mut [u8], at: usize, s: Shown, text: &[u8]) -> usize
     ensures { λ r. ⌜ Puts line at r (bytesOf s (now (text .entry))) ⌝ }
 {
     let pattern = s.pattern;
-    if 74 <= pattern {
+    if 76 <= pattern {
         return at;
     }
     let mut next = at;

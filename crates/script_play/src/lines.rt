@@ -2,9 +2,12 @@
 use crate::End;
 use crate::told;
 use script::LineEnd;
+use script_read::Reading;
 use script_run::Run;
 ghost use Prim.Native.Nat.{_≤_, _<_};
+ghost use mathlib.Core.Path.{_≡_};
 ghost use lib.ListN.{length};
+ghost use Rattle.script_read.specs.Read.{Fits};
 
 // How much of the buffer is filled, whether the input has ended, and whether it cannot be read.
 struct Filled {
@@ -20,9 +23,10 @@ struct Ended {
     next: usize,
 }
 
-// What the lines have come to, and whether the trail could be written.
+// What the lines have come to, the read that is open, and whether the trail could be written.
 struct Play {
     run: Run,
+    reading: Reading,
     wrote: bool,
 }
 
@@ -107,19 +111,45 @@ fn end_of(buf: &[u8], at: usize, filled: usize, last: bool) -> Ended
 // Carries a line out and tells it.
 fn play_line(
     run: Run,
+    reading: Reading,
     control: &mut [u64],
     words: &mut [u64],
     reals: &mut [f32],
     texts: &mut [u8],
+    records: &mut [u64],
+    points: &mut [f32],
+    lent: &mut [u8],
     line: &[u8],
     cut: bool,
     explained: bool,
-) -> Play {
+) -> Play
+    requires { ⌜ Fits reading (now records) (now points) (now lent) ⌝ }
+    ensures { λ r. ⌜ Fits (r .reading) (now (records .exit)) (now (points .exit)) (now (lent .exit)) ⌝ }
+{
     let mut out = [0u8; 4096];
-    let took = script_run::take(run, control, words, reals, texts, line, cut, &mut out);
+    let taken = script_read::take(
+        run,
+        reading,
+        control,
+        words,
+        reals,
+        texts,
+        records,
+        points,
+        lent,
+        line,
+        cut,
+        &mut out,
+    );
+    let took = taken.took;
     let wrote = told::tell(took, line, &out, explained);
     let after = took.run;
-    Play { run: after, wrote }
+    let open = taken.reading;
+    Play {
+        run: after,
+        reading: open,
+        wrote,
+    }
 }
 
 // Plays a line; once the trail cannot be written, none.
@@ -129,13 +159,33 @@ fn step(
     words: &mut [u64],
     reals: &mut [f32],
     texts: &mut [u8],
+    records: &mut [u64],
+    points: &mut [f32],
+    lent: &mut [u8],
     line: &[u8],
     cut: bool,
     explained: bool,
-) -> Play {
+) -> Play
+    requires { ⌜ Fits (play .reading) (now records) (now points) (now lent) ⌝ }
+    ensures { λ r. ⌜ Fits (r .reading) (now (records .exit)) (now (points .exit)) (now (lent .exit)) ⌝ }
+{
     if play.wrote {
         let run = play.run;
-        return play_line(run, control, words, reals, texts, line, cut, explained);
+        let reading = play.reading;
+        return play_line(
+            run,
+            reading,
+            control,
+            words,
+            reals,
+            texts,
+            records,
+            points,
+            lent,
+            line,
+            cut,
+            explained,
+        );
     }
     play
 }
@@ -152,9 +202,12 @@ fn take_lines(
     words: &mut [u64],
     reals: &mut [f32],
     texts: &mut [u8],
+    records: &mut [u64],
+    points: &mut [f32],
+    lent: &mut [u8],
 ) -> Begun
-    requires { ⌜ filled ≤ length (now buf) ⌝ }
-    ensures { λ r. ⌜ r .at ≤ filled ⌝ }
+    requires { ⌜ (filled ≤ length (now buf)) × Fits (play .reading) (now records) (now points) (now lent) ⌝ }
+    ensures { λ r. ⌜ (r .at ≤ filled) × Fits (r .play .reading) (now (records .exit)) (now (points .exit)) (now (lent .exit)) ⌝ }
 {
     let mut at: usize = 0;
     let mut gone = cut;
@@ -175,6 +228,9 @@ fn take_lines(
             words,
             reals,
             texts,
+            records,
+            points,
+            lent,
             &buf[at..end],
             gone,
             explained,
@@ -228,9 +284,12 @@ fn read_some(
     words: &mut [u64],
     reals: &mut [f32],
     texts: &mut [u8],
+    records: &mut [u64],
+    points: &mut [f32],
+    lent: &mut [u8],
 ) -> Progress
-    requires { ⌜ filled ≤ length (now buf) ⌝ }
-    ensures { λ r. ⌜ r .filled ≤ length (now (buf .exit)) ⌝ }
+    requires { ⌜ (filled ≤ length (now buf)) × Fits (play .reading) (now records) (now points) (now lent) ⌝ }
+    ensures { λ r. ⌜ (r .filled ≤ length (now (buf .exit))) × Fits (r .play .reading) (now (records .exit)) (now (points .exit)) (now (lent .exit)) ⌝ }
 {
     let got = fill(fd, buf, filled);
     let begun = take_lines(
@@ -244,6 +303,9 @@ fn read_some(
         words,
         reals,
         texts,
+        records,
+        points,
+        lent,
     );
     let kept = make_room(buf, begun.at, got.filled, begun.cut);
     let after = begun.play;
@@ -253,6 +315,28 @@ fn read_some(
         play: after,
         last: got.last,
         failed: got.failed,
+    }
+}
+
+// Behind the last line: a read that is still open ends the trail.
+fn close(play: Play, last: bool, explained: bool) -> Play
+    ensures { λ r. ⌜ r .reading ≡ play .reading ⌝ }
+{
+    if !last {
+        return play;
+    }
+    if !play.wrote {
+        return play;
+    }
+    let run = play.run;
+    let reading = play.reading;
+    let took = script_read::end(run, reading);
+    let wrote = told::tell_end(took, explained);
+    let after = took.run;
+    Play {
+        run: after,
+        reading,
+        wrote,
     }
 }
 
@@ -284,10 +368,17 @@ pub fn read_all(
     words: &mut [u64],
     reals: &mut [f32],
     texts: &mut [u8],
+    records: &mut [u64],
+    points: &mut [f32],
+    lent: &mut [u8],
 ) -> End {
     let mut filled: usize = 0;
     let mut cut = false;
-    let mut done = Play { run, wrote: true };
+    let mut done = Play {
+        run,
+        reading: script_read::none(),
+        wrote: true,
+    };
     let mut turns = u64::MAX;
     while 0 < turns {
         let turn = read_some(
@@ -301,8 +392,11 @@ pub fn read_all(
             words,
             reals,
             texts,
+            records,
+            points,
+            lent,
         );
-        done = turn.play;
+        done = close(turn.play, turn.last, explained);
         let so_far = done.run;
         if is_over(done.wrote, so_far.ended, turn.failed, turn.last) {
             return end_by(done.wrote, so_far.ended, turn.failed);

@@ -10,6 +10,12 @@ fn is_quiet(told: Told) -> bool {
         Told::Shaken => false,
         Told::Answered(_) => false,
         Told::Given(_) => false,
+        Told::Begun(_) => false,
+        Told::Gathered => false,
+        Told::Handed {
+            accepted: _,
+            answer: _,
+        } => false,
     }
 }
 
@@ -34,6 +40,23 @@ fn show_call(line: &[u8]) -> bool {
     let mut shown = [0u8; 262147];
     let n = script_show::call_line(&mut shown, line);
     put(&shown, n)
+}
+
+// Behind the last line there is no line to show.
+pub fn tell_end(took: Took, explained: bool) -> bool {
+    let told = took.told;
+    if is_quiet(told) {
+        return true;
+    }
+    let none = [0u8; 1];
+    if !show(took, &none, explained) {
+        return false;
+    }
+    let run = took.run;
+    if let Told::Error(why) = told {
+        script_why::say(run.line, why, b"");
+    }
+    true
 }
 
 // Writes what there is to tell, and the reason of an error on standard error. Answers whether the trail was written.

@@ -16,7 +16,7 @@ use Rattle.script.specs.Told.{Parsed}
 use Rattle.script_session.specs.Lent.{InRoom}
 
 -- what a line was read as
-pub read-as : {line : List ℕ} {l m : Line} → l ≡ m → Parsed line l → Parsed line m
+pub read-as : {inRead : Bool} {line : List ℕ} {l m : Line} → l ≡ m → Parsed inRead line l → Parsed inRead line m
 read-as p h = rw p at h
 
 -- the same request, told otherwise

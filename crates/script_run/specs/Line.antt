@@ -17,6 +17,7 @@ hasText (Value.I32 z) = false
 hasText (Value.F32 x) = false
 hasText (Value.Text t) = true
 hasText Value.NoText = false
+hasText (Value.Part p) = false
 
 -- the text of a line stands first or second behind its first word
 abbrev pub isGiven : Args → Bool

@@ -70,6 +70,9 @@ answered a r = record { run = r; told = Told.Answered a }
 abbrev pub given : NextRequest → Run → Took
 given n r = record { run = r; told = Told.Given n }
 
+abbrev pub begun : ℕ → Run → Took
+begun n r = record { run = r; told = Told.Begun n }
+
 abbrev pub shaken : HandshakeAnswer → Run → Took
 shaken a r = record { run = afterShaking a r; told = Told.Shaken }
 
@@ -126,6 +129,11 @@ pub record StationDoes (run : Run) (call : Station) (is-given : Bool) (text : Li
   pub session : run .finished ≡ true → Makes run call is-given text s e out later r
   pub early : run .finished ≡ false → Still s e out later (noCall Why.Early run) r
 
+-- a read begins, on the session alone: its texts are the line's, and its records are to come
+pub record ReadDoes (run : Run) (count : ℕ) (s e : Store) (out later : List ℕ) (r : Took) : Type 0 where
+  pub session : run .finished ≡ true → Still s e out later (begun count run) r
+  pub early : run .finished ≡ false → Still s e out later (noCall Why.Early run) r
+
 -- WHAT A LINE DOES, by what it asks for
 abbrev pub Does : Run → Asked → (is-given : Bool) (text : List ℕ) (s e : Store) (out later : List ℕ) → Took → Type 0
 Does run (Asked.Now n) g text s e out later r = Still s e out later (quiet (atClock n run)) r
@@ -135,6 +143,7 @@ Does run (Asked.Start serial) g text s e out later r = Starts run serial out lat
 Does run (Asked.Client object version request) g text s e out later r = ClientDoes run object version request text s e out later r
 Does run Asked.NextRequest g text s e out later r = NextDoes run s e out later r
 Does run (Asked.Station call) g text s e out later r = StationDoes run call g text s e out later r
+Does run (Asked.Read count) g text s e out later r = ReadDoes run count s e out later r
 
 -- by what it is: a comment does nothing, and one that is no call ends the trail
 abbrev pub LineDoes : Run → (line : List ℕ) → Line → (s e : Store) (out later : List ℕ) → Took → Type 0
@@ -143,8 +152,8 @@ LineDoes run line (Line.Setting v w) s e out later r = Does run (asked v w) (isG
 LineDoes run line (Line.Call v w) s e out later r = Does run (asked v w) (isGiven w) (lineText line w) s e out later r
 LineDoes run line Line.NoCall s e out later r = Still s e out later (noCall Why.NoCall run) r
 
--- A LINE. Behind the end of the trail nothing is done; a line whose first bytes are gone ends it; any other does what it says, and `Parsed` tells what that is
+-- A LINE outside of a read. Behind the end of the trail nothing is done; a line whose first bytes are gone ends it; any other does what it says, and `Parsed` tells what that is
 pub record Takes (run : Run) (cut : Bool) (line : List ℕ) (s e : Store) (out later : List ℕ) (r : Took) : Type 0 where
   pub over : run .ended ≡ true → Still s e out later (quiet run) r
   pub long : run .ended ≡ false → cut ≡ true → Still s e out later (noCall Why.Long (counted run)) r
-  pub done : run .ended ≡ false → cut ≡ false → (l : Line) × (Parsed line l × LineDoes (counted run) line l s e out later r)
+  pub done : run .ended ≡ false → cut ≡ false → (l : Line) × (Parsed false line l × LineDoes (counted run) line l s e out later r)

@@ -16,7 +16,7 @@ ghost use Prim.Native.Nat.{ℕ};
 ghost use lib.ListN.{length};
 ghost use Rattle.session.specs.Slices.{before, after, rowsBefore, rowsAfter};
 ghost use Rattle.script_run.specs.Line.{hasText, isGiven, textFirst, lentText, lineText};
-ghost use Rattle.script_run.specs.Take.{quiet, noCall, answered, given, shaken, counted, atClock, withOut, withBuffer, first};
+ghost use Rattle.script_run.specs.Take.{quiet, noCall, answered, given, begun, shaken, counted, atClock, withOut, withBuffer, first};
 ghost use Rattle.script_run.specs.Take.{Starts, Shakes, Handles, Delivers, Makes, Does, Takes};
 
 // What the lines so far have come to.
@@ -42,6 +42,12 @@ pub enum Why {
     Long,
     // It is no call.
     NoCall,
+    // It stands in a read, and is no request of a client's with parts for texts.
+    NoRecord,
+    // It begins a read of more records than there is room for.
+    Many,
+    // The script ends inside a read.
+    Within,
     // It comes where no such call can be made: before `start`, or a call on a session before there is one.
     Early,
 }
@@ -54,6 +60,12 @@ pub enum Told {
     Shaken,
     Answered(Answer),
     Given(NextRequest),
+    // A read begins, of so many records: there is no answer before the last of them.
+    Begun(u32),
+    // A record of a read that goes on.
+    Gathered,
+    // What a read is answered: how many of its records were accepted, and how it ended.
+    Handed { accepted: u64, answer: Answer },
 }
 
 pub struct Took {
@@ -79,7 +91,7 @@ pub fn new_run() -> Run
     }
 }
 
-fn quiet(run: Run) -> Took
+pub fn quiet(run: Run) -> Took
     ensures { λ r. ⌜ r ≡ quiet run ⌝ }
 {
     Took {
@@ -89,7 +101,7 @@ fn quiet(run: Run) -> Took
 }
 
 // The trail ends.
-fn no_call(run: Run, why: Why) -> Took
+pub fn no_call(run: Run, why: Why) -> Took
     ensures { λ r. ⌜ r ≡ noCall why run ⌝ }
 {
     let mut ended = run;
@@ -118,6 +130,15 @@ fn given(run: Run, next: NextRequest) -> Took
     }
 }
 
+fn begun(run: Run, count: u32) -> Took
+    ensures { λ r. ⌜ r ≡ begun count run ⌝ }
+{
+    Took {
+        run,
+        told: Told::Begun(count),
+    }
+}
+
 // The run after a call of the handshake.
 fn shaken(run: Run, a: HandshakeAnswer) -> Took
     ensures { λ r. ⌜ r ≡ shaken a run ⌝ }
@@ -139,7 +160,7 @@ fn shaken(run: Run, a: HandshakeAnswer) -> Took
 }
 
 // One more line.
-fn counted(run: Run) -> Run
+pub fn counted(run: Run) -> Run
     ensures { λ r. ⌜ r ≡ counted run ⌝ }
 {
     let mut next = run;
@@ -306,6 +327,12 @@ fn carry_out(
             }
             no_call(run, Why::Early)
         }
+        Asked::Read(count) => {
+            if run.finished {
+                return begun(run, count);
+            }
+            no_call(run, Why::Early)
+        }
     }
 }
 
@@ -321,6 +348,7 @@ fn has_text(v: Value) -> bool
         Value::I32(_) => false,
         Value::F32(_) => false,
         Value::NoText => false,
+        Value::Part(_) => false,
     }
 }
 
@@ -335,7 +363,7 @@ fn is_given(args: Args) -> bool
     has_text(b)
 }
 
-fn text_of(args: Args) -> Text
+pub fn text_of(args: Args) -> Text
     ensures { λ r. ⌜ r ≡ textFirst args ⌝ }
 {
     let a = args.a;
@@ -430,7 +458,7 @@ pub fn take(
     if cut {
         return no_call(here, Why::Long);
     }
-    match script::parse(line) {
+    match script::parse(line, false) {
         Line::Blank => quiet(here),
         Line::Setting { verb, args } => call(
             here,

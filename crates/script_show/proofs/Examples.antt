@@ -15,7 +15,7 @@ use Rattle.wire.specs.declared.event.Event.the-variants.{Destroyed, Disconnecte
 use Rattle.script_pattern.specs.Digits.{hexadecimal, ident, decimal, escaped}
 use Rattle.script_pattern.specs.Words.{realNumber, real, amount, deviceType, reason, explanation}
 use Rattle.script_show.specs.Records.{numberAt, kindOf, recordBytes}
-use Rattle.script_show.specs.Answer.{answerLine, nextLine, errorLine, callLine}
+use Rattle.script_show.specs.Answer.{answerLine, readLine, nextLine, errorLine, callLine}
 
 key : nextLine (NextRequest.Given (KeyboardKey 0xff00000000000002 500 30 KeyState.Press)) [] false ≡ ascii "KeyboardKey device=0xff00000000000002 time=500 key=30 state=1\n"
 unfolding nextLine ascii ident decimal
@@ -41,6 +41,24 @@ refused = refl
 named : answerLine (record { outcome = Outcome.Refused Error.BadState; count = 0 }) [] true ≡ ascii "refused 21 (bad state)\n"
 unfolding answerLine ascii decimal
 named = refl
+
+part : answerLine (record { outcome = Outcome.Refused Error.BadPart; count = 0 }) [] true ≡ ascii "refused 22 (bad part)\n"
+unfolding answerLine ascii decimal
+part = refl
+
+-- reads: none refused, refused, refused with details and in words
+handed : readLine 3 (record { outcome = Outcome.Accepted; count = 0 }) [] false ≡ ascii "accepted 3\n"
+unfolding readLine ascii decimal
+handed = refl
+
+handed-refused : readLine 0 (record { outcome = Outcome.Refused (Error.InvalidInterfaceVersion 11 1); count = 0 }) [] false ≡ ascii "accepted 0 refused 2 interface=11 version=1\n"
+unfolding readLine ascii decimal
+handed-refused = refl
+
+handed-named : readLine 1 (record { outcome = Outcome.Refused Error.BadPart; count = 14 }) (eventRecord 0xff00000000000001 (Destroyed 8) []) true
+    ≡ ascii "accepted 1 refused 22 (bad part) | 280eff0000000000000100000008\n" ++ ascii "    0xff00000000000001: destroyed, serial 8\n"
+unfolding readLine eventRecord ascii numberAt kindOf ident decimal
+handed-named = refl
 
 -- records of wire
 destroyed : answerLine (record { outcome = Outcome.Accepted; count = 14 }) (eventRecord 0xff00000000000001 (Destroyed 8) []) true

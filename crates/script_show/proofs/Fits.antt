@@ -5,16 +5,17 @@ use mathlib.Core.List.{List, [], _∷_, _++_}
 use native.Mathlib.Omega.{arith}
 use lib.ListN.{length, take, length-append, length-take}
 use Rattle.eiproto.specs.Interface.{ascii}
-use Rattle.answers.specs.Answer.{outcomeOf}
+use Rattle.answers.specs.Answer.{errorOf, outcomeOf}
 use Rattle.answers.specs.declared.Answer.{Answer}
+use Rattle.answers.specs.declared.Outcome.{Outcome}
 use Rattle.converter.specs.declared.request.NextRequest.{NextRequest}
 use Rattle.handshake.specs.declared.handshake.HandshakeAnswer.{HandshakeAnswer}
 use Rattle.script_pattern.specs.Digits.{hexadecimal, escaped}
-use Rattle.script_pattern.specs.Pattern.{bytesOf, firstLine, shown}
+use Rattle.script_pattern.specs.Pattern.{bytesOf, firstLine, firstRead, shown}
 use Rattle.script_pattern.specs.declared.table.Shown.{Shown}
 use Rattle.script_pattern.proofs.Lengths.{hexadecimal-length, escaped-length, bytes-length, bare-within, texted-within}
 use Rattle.script_show.specs.Records.{recordSize, eachFrom, eachRecord, recordBytes, trail}
-use Rattle.script_show.specs.Answer.{result, handshakeOutcome, lineOf, answerLine, handshakeLine, nextShown, nextLength, nextLine, errorLine, callLine}
+use Rattle.script_show.specs.Answer.{result, handshakeOutcome, behindOutcome, lineOf, readRefusal, readLine, answerLine, handshakeLine, nextShown, nextLength, nextLine, errorLine, callLine}
 use Rattle.script_show.proofs.Sizes.{size-bounds}
 
 -- ---- records in hexadecimal: a space, and two digits for each byte
@@ -40,15 +41,18 @@ unfolding trail eachRecord ascii
 trail-length [] = omega arith
 trail-length (b ∷ bs) = omega (arith, each-length 0 (b ∷ bs))
 
+behind-length : (l : List ℕ) → length (behindOutcome l false) ≤ 3 + 3 * length l
+unfolding behindOutcome
+behind-length l = omega (arith, trail-length l, length-append (trail l) (0x0a ∷ []))
+
 line-length : (s : Shown) (l : List ℕ) → length (lineOf s l false) ≤ 163 + 3 * length l
 unfolding lineOf
 line-length s l =
     omega (
       arith,
       bytes-length 22 160 bare-within s [] (omega arith),
-      trail-length l,
-      length-append (bytesOf s []) (trail l ++ (0x0a ∷ [])),
-      length-append (trail l) (0x0a ∷ []),
+      behind-length l,
+      length-append (bytesOf s []) (behindOutcome l false),
     )
 
 -- ---- the lines, with the lent `out` of a script and a text of at most 255 bytes
@@ -62,6 +66,30 @@ pub handshake-fits : (a : HandshakeAnswer) (out : List ℕ) → length out ≤ 4
 unfolding handshakeLine
 handshake-fits a out h =
     omega (arith, line-length (handshakeOutcome false (a .outcome)) (take (a .count) out), length-take (a .count) out)
+
+refusal-length : (o : Outcome) → length (readRefusal false o) ≤ 161
+refusal-length Outcome.Accepted = omega arith
+refusal-length (Outcome.Refused e) = omega (arith, bytes-length 22 160 bare-within (result false (errorOf e)) [] (omega arith))
+refusal-length (Outcome.Seat id) = omega arith
+refusal-length (Outcome.Device id) = omega arith
+refusal-length (Outcome.Value n) = omega arith
+refusal-length (Outcome.Truth b) = omega arith
+refusal-length Outcome.None = omega arith
+
+pub read-fits : (n : ℕ) (a : Answer) (out : List ℕ) → length out ≤ 4096 → length (readLine n a out false) ≤ 65536
+unfolding readLine
+read-fits n a out h =
+    let s = shown firstRead n 0 0 0 0 in
+    let l = take (a .count) out in
+    omega (
+      arith,
+      bytes-length 22 160 bare-within s [] (omega arith),
+      refusal-length (a .outcome),
+      behind-length l,
+      length-take (a .count) out,
+      length-append (bytesOf s []) (readRefusal false (a .outcome) ++ behindOutcome l false),
+      length-append (readRefusal false (a .outcome)) (behindOutcome l false),
+    )
 
 pub next-fits : (n : NextRequest) (buffer : List ℕ) (explained : Bool) → nextLength n ≤ 255 → length (nextLine n buffer explained) ≤ 65536
 unfolding nextLine

@@ -1,9 +1,9 @@
 -- Reals, signed amounts and refusals as numbers. Assumes nothing.
 use Prim.Native.Nat.{ℕ, suc, _+_, _*_, _≤_}
 use mathlib.Core.Path.{_≡_, refl, sym, ap, _∙_}
-use mathlib.Core.List.{_∷_}
+use mathlib.Core.List.{[], _∷_}
 use mathlib.Core.Logic.{inl, inr}
-use mathlib.Core.Bool.{true, false, not}
+use mathlib.Core.Bool.{Bool, true, false, not}
 use native.Mathlib.Omega.{arith}
 use borrow.Author.Tests.{ltb-true, le-ltb, eq-eqb}
 use denote.Enum.Declared.{tagOf}
@@ -17,13 +17,16 @@ use mir.Syntax.{w32}
 use mir.Val.{SFits}
 use Rattle.requests.proofs.Arms.{run, among}
 use Rattle.answers.proofs.Error.{the-type}
+use Rattle.answers.proofs.Outcome as outcomes
 use Rattle.requests.proofs.Amounts.{held, held-is}
 use Rattle.answers.specs.Answer.{errorOf, numberOf}
 use Rattle.answers.specs.declared.Error.{Error}
+use Rattle.answers.specs.declared.Outcome.{Outcome}
 use Rattle.handshake.specs.View.{number}
 use Rattle.handshake.specs.declared.handshake.HandshakeError.{HandshakeError}
 use Rattle.model.specs.Plan.{Result}
 use Rattle.script_pattern.specs.Words.{amountNumber}
+use Rattle.script_show.specs.Answer.{readRefusal}
 
 -- ---- a real that equals itself is no NaN, and any other does
 
@@ -64,9 +67,9 @@ amount-above (negsuc k) f h =
     let w : _≡_ {A = ℕ} 0 1 = cc in
     absurd (omega arith)
 
--- ---- the numbers of refusals are at most 21
+-- ---- the numbers of refusals are at most 22
 
-pub error-most : (e : Error) → numberOf e ≤ 21
+pub error-most : (e : Error) → numberOf e ≤ 22
 unfolding numberOf
 error-most Error.UnexpectedHandshakeEvent = lit≤ tt
 error-most (Error.InvalidInterfaceVersion i v) = lit≤ tt
@@ -86,8 +89,9 @@ error-most Error.FullTexts = lit≤ tt
 error-most Error.ShortOut = lit≤ tt
 error-most Error.IdsSpent = lit≤ tt
 error-most Error.BadState = lit≤ tt
+error-most Error.BadPart = lit≤ tt
 
-pub handshake-most : (e : HandshakeError) → number e ≤ 21
+pub handshake-most : (e : HandshakeError) → number e ≤ 22
 handshake-most HandshakeError.NonHandshakeEvent = lit≤ tt
 handshake-most HandshakeError.DuplicateEvent = lit≤ tt
 handshake-most HandshakeError.MissingInterface = lit≤ tt
@@ -98,7 +102,7 @@ handshake-most HandshakeError.IdsSpent = lit≤ tt
 handshake-most HandshakeError.BadState = lit≤ tt
 
 -- a refusal other than 2 is known by its number; the tags are those of the arm that has it
-pub plain-error : (e : Error) → OneOf (0 ∷ run 2 16) (tagOf the-type e) → Result.refused (numberOf e) ≡ errorOf e
+pub plain-error : (e : Error) → OneOf (0 ∷ run 2 17) (tagOf the-type e) → Result.refused (numberOf e) ≡ errorOf e
 unfolding numberOf
 plain-error Error.UnexpectedHandshakeEvent o = refl
 plain-error Error.InvalidCapabilities o = refl
@@ -117,5 +121,17 @@ plain-error Error.FullTexts o = refl
 plain-error Error.ShortOut o = refl
 plain-error Error.IdsSpent o = refl
 plain-error Error.BadState o = refl
+plain-error Error.BadPart o = refl
 plain-error (Error.InvalidInterfaceVersion i v) (inl e) = absurd (omega (arith, e))
-plain-error (Error.InvalidInterfaceVersion i v) (inr o) = absurd (omega (arith, among 2 16 1 o .0))
+plain-error (Error.InvalidInterfaceVersion i v) (inr o) = absurd (omega (arith, among 2 17 1 o .0))
+
+-- an outcome other than a refusal ends a read without one; the tags are those of the arm that has none
+pub no-refusal : (x : Bool) (o : Outcome) → OneOf (0 ∷ run 2 5) (tagOf outcomes.the-type o) → [] ≡ readRefusal x o
+no-refusal x Outcome.Accepted o = refl
+no-refusal x (Outcome.Seat id) o = refl
+no-refusal x (Outcome.Device id) o = refl
+no-refusal x (Outcome.Value n) o = refl
+no-refusal x (Outcome.Truth b) o = refl
+no-refusal x Outcome.None o = refl
+no-refusal x (Outcome.Refused e) (inl q) = absurd (omega (arith, q))
+no-refusal x (Outcome.Refused e) (inr o) = absurd (omega (arith, among 2 5 1 o .0))

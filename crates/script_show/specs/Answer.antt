@@ -5,13 +5,14 @@ use mathlib.Core.List.{List, [], _∷_, _++_}
 use lib.ListN.{take}
 use Rattle.answers.specs.Answer.{errorOf, outcomeOf}
 use Rattle.answers.specs.declared.Answer.{Answer}
+use Rattle.answers.specs.declared.Outcome.{Outcome}
 use Rattle.converter.specs.declared.request.NextRequest.{NextRequest}
 use Rattle.handshake.specs.View.{number}
 use Rattle.handshake.specs.declared.handshake.HandshakeAnswer.{HandshakeAnswer}
 use Rattle.handshake.specs.declared.handshake.HandshakeOutcome.{HandshakeOutcome}
 use Rattle.model.specs.Plan.{Result}
 use Rattle.requests.specs.Request.{textLength}
-use Rattle.script_pattern.specs.Pattern.{firstOutcome, firstRefusal, firstLine, shown, bytesOf}
+use Rattle.script_pattern.specs.Pattern.{firstOutcome, firstRefusal, firstLine, firstRead, shown, bytesOf}
 use Rattle.script_pattern.specs.Words.{truthNumber}
 use Rattle.script_show.specs.Request.{delivered}
 use Rattle.script_show.specs.Records.{eachRecord, recordBytes, trail}
@@ -35,10 +36,14 @@ handshakeOutcome x HandshakeOutcome.Accepted = result x Result.accepted
 handshakeOutcome x HandshakeOutcome.Finished = result x Result.accepted
 handshakeOutcome x (HandshakeOutcome.Refused e) = result x (Result.refused (number e))
 
--- the outcome of a call, the records that it wrote, and the end of the line; explained, then a line for each record
+-- behind the outcome of a call, the records that it wrote and the end of the line; explained, then a line for each record
+unfoldable pub behindOutcome : (records : List ℕ) → (explained : Bool) → List ℕ
+unfolding trail eachRecord recordBytes
+behindOutcome records x = trail records ++ (0x0a ∷ cond x (eachRecord (recordBytes true) records) [])
+
 unfoldable pub lineOf : Shown → (records : List ℕ) → (explained : Bool) → List ℕ
-unfolding bytesOf trail eachRecord recordBytes
-lineOf s records x = bytesOf s [] ++ (trail records ++ (0x0a ∷ cond x (eachRecord (recordBytes true) records) []))
+unfolding bytesOf behindOutcome
+lineOf s records x = bytesOf s [] ++ behindOutcome records x
 
 -- WHAT A CALL ON A SESSION IS ANSWERED; the records begin `out`
 unfoldable pub answerLine : Answer → (out : List ℕ) → (explained : Bool) → List ℕ
@@ -49,6 +54,22 @@ answerLine a out x = lineOf (result x (outcomeOf (a .outcome))) (take (a .count)
 unfoldable pub handshakeLine : HandshakeAnswer → (out : List ℕ) → (explained : Bool) → List ℕ
 unfolding lineOf
 handshakeLine a out x = lineOf (handshakeOutcome x (a .outcome)) (take (a .count) out) x
+
+-- the refusal that ended a read, "as it is printed elsewhere"; nothing where there was none
+abbrev pub readRefusal : (explained : Bool) → Outcome → List ℕ
+readRefusal x Outcome.Accepted = []
+readRefusal x (Outcome.Refused e) = 0x20 ∷ bytesOf (result x (errorOf e)) []
+readRefusal x (Outcome.Seat id) = []
+readRefusal x (Outcome.Device id) = []
+readRefusal x (Outcome.Value n) = []
+readRefusal x (Outcome.Truth b) = []
+readRefusal x Outcome.None = []
+
+-- WHAT A READ IS ANSWERED: "the number accepted and, if there was one, the first refusal as it is printed elsewhere. Behind the bar the records of those
+-- accepted"
+unfoldable pub readLine : (accepted : ℕ) → Answer → (out : List ℕ) → (explained : Bool) → List ℕ
+unfolding bytesOf behindOutcome
+readLine n a out x = bytesOf (shown firstRead n 0 0 0 0) [] ++ (readRefusal x (a .outcome) ++ behindOutcome (take (a .count) out) x)
 
 -- what next_request gives, and how many bytes its text has
 abbrev pub nextShown : (explained : Bool) → NextRequest → Shown

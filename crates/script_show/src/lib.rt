@@ -9,3 +9,4 @@ pub use lines::call_line;
 pub use lines::error_line;
 pub use lines::handshake_answer;
 pub use lines::next;
+pub use lines::read_answer;

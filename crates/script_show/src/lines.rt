@@ -19,12 +19,12 @@ ghost use Rattle.answers.specs.Answer.{errorOf, outcomeOf};
 ghost use Rattle.model.specs.Plan.{Result};
 ghost use Rattle.script_pattern.specs.Put.{Puts};
 ghost use Rattle.script_pattern.specs.Pattern.{bytesOf};
-ghost use Rattle.script_show.specs.Answer.{result, handshakeOutcome, lineOf};
+ghost use Rattle.script_show.specs.Answer.{result, handshakeOutcome, behindOutcome, lineOf, readRefusal, readLine};
 ghost use Rattle.script_show.specs.Answer.{answerLine, handshakeLine, nextShown, nextLength, nextLine, errorLine, callLine};
 
 // A refusal by its number, or with its name too.
 fn refusal(number: u32, explained: bool) -> Shown
-    requires { ⌜ number ≤ 21 ⌝ }
+    requires { ⌜ number ≤ 22 ⌝ }
     ensures { λ r. ⌜ r ≡ result explained (Result.refused number) ⌝ }
 {
     if explained {
@@ -88,12 +88,11 @@ fn ended(line: &mut [u8], s: Shown, text: &[u8]) -> usize
     put::byte(line, next, b'\n')
 }
 
-// The outcome of a call and the records that it wrote; explained, then a line for each record.
-fn whole(line: &mut [u8], s: Shown, records: &[u8], explained: bool) -> usize
-    ensures { λ r. ⌜ Puts line 0 r (lineOf s (now (records .entry)) explained) ⌝ }
+// The records that a call wrote, and the end of the line behind its outcome; explained, then a line for each record.
+fn records_behind(line: &mut [u8], at: usize, records: &[u8], explained: bool) -> usize
+    ensures { λ r. ⌜ Puts line at r (behindOutcome (now (records .entry)) explained) ⌝ }
 {
-    let shown = table::show(line, 0, s, b"");
-    let told = records::trail(line, shown, records);
+    let told = records::trail(line, at, records);
     let next = put::byte(line, told, b'\n');
     if explained {
         return records::each(line, next, records, true);
@@ -102,13 +101,21 @@ fn whole(line: &mut [u8], s: Shown, records: &[u8], explained: bool) -> usize
 }
 
 // The same, where the records begin `out`.
-fn beginning(line: &mut [u8], s: Shown, count: usize, out: &[u8], explained: bool) -> usize
-    ensures { λ r. ⌜ Puts line 0 r (lineOf s (take count (now (out .entry))) explained) ⌝ }
+fn beginning(line: &mut [u8], at: usize, count: usize, out: &[u8], explained: bool) -> usize
+    ensures { λ r. ⌜ Puts line at r (behindOutcome (take count (now (out .entry))) explained) ⌝ }
 {
     if count <= out.len() {
-        return whole(line, s, &out[..count], explained);
+        return records_behind(line, at, &out[..count], explained);
     }
-    whole(line, s, out, explained)
+    records_behind(line, at, out, explained)
+}
+
+// The outcome of a call, and what stands behind it.
+fn whole(line: &mut [u8], s: Shown, count: usize, out: &[u8], explained: bool) -> usize
+    ensures { λ r. ⌜ Puts line 0 r (lineOf s (take count (now (out .entry))) explained) ⌝ }
+{
+    let shown = table::show(line, 0, s, b"");
+    beginning(line, shown, count, out, explained)
 }
 
 // What a call on a session is answered. Its records begin `out`. Explained, each stands in words on a line of its own behind it.
@@ -116,7 +123,7 @@ pub fn answer(line: &mut [u8], a: Answer, out: &[u8], explained: bool) -> usize
     ensures { λ r. ⌜ Puts line 0 r (answerLine a (now (out .entry)) explained) ⌝ }
 {
     let o = a.outcome;
-    beginning(line, outcome(o, explained), a.count, out, explained)
+    whole(line, outcome(o, explained), a.count, out, explained)
 }
 
 // What a call of the handshake is answered.
@@ -124,7 +131,7 @@ pub fn handshake_answer(line: &mut [u8], a: HandshakeAnswer, out: &[u8], explain
     ensures { λ r. ⌜ Puts line 0 r (handshakeLine a (now (out .entry)) explained) ⌝ }
 {
     let o = a.outcome;
-    beginning(
+    whole(
         line,
         handshake_outcome(o, explained),
         a.count,
@@ -133,7 +140,28 @@ pub fn handshake_answer(line: &mut [u8], a: HandshakeAnswer, out: &[u8], explain
     )
 }
 
-// The same of the first n bytes of a text.
+// The refusal that ended a read, behind how many of its records were accepted.
+fn read_refusal(line: &mut [u8], at: usize, o: Outcome, explained: bool) -> usize
+    ensures { λ r. ⌜ Puts line at r (readRefusal explained o) ⌝ }
+{
+    if let Outcome::Refused(e) = o {
+        let next = put::byte(line, at, b' ');
+        return table::show(line, next, refused(e, explained), b"");
+    }
+    at
+}
+
+// What a read is answered: how many of its records were accepted, and how it ended, with the records that these wrote.
+pub fn read_answer(line: &mut [u8], accepted: u64, a: Answer, out: &[u8], explained: bool) -> usize
+    ensures { λ r. ⌜ Puts line 0 r (readLine accepted a (now (out .entry)) explained) ⌝ }
+{
+    let o = a.outcome;
+    let counted = table::show(line, 0, table::single(table::READ, accepted), b"");
+    let told = read_refusal(line, counted, o, explained);
+    beginning(line, told, a.count, out, explained)
+}
+
+// What is shown of the first n bytes of a text, and the end of its line.
 fn ended_first(line: &mut [u8], s: Shown, n: usize, text: &[u8]) -> usize
     ensures { λ r. ⌜ Puts line 0 r (bytesOf s (take n (now (text .entry))) ++ (0x0a ∷ [])) ⌝ }
 {

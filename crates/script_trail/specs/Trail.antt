@@ -2,7 +2,7 @@
 use Prim.Native.Nat.{ℕ}
 use mathlib.Core.Bool.{Bool}
 use mathlib.Core.List.{List, []}
-use Rattle.script_show.specs.Answer.{answerLine, handshakeLine, nextLine, errorLine}
+use Rattle.script_show.specs.Answer.{answerLine, handshakeLine, nextLine, readLine, errorLine}
 use Rattle.script_run.specs.declared.call.Run.{Run}
 use Rattle.script_run.specs.declared.call.Told.{Told}
 use Rattle.script_run.specs.declared.call.Took.{Took}
@@ -13,7 +13,10 @@ lineOf run (Told.Error why) out x = errorLine (run .line)
 lineOf run Told.Shaken out x = handshakeLine (run .shaken) out x
 lineOf run (Told.Answered a) out x = answerLine a out x
 lineOf run (Told.Given next) out x = nextLine next out x
+lineOf run (Told.Begun n) out x = []
+lineOf run Told.Gathered out x = []
+lineOf run (Told.Handed n a) out x = readLine n a out x
 
--- nothing of a comment and of a setting; `error line N`; or the answer, with the event records that begin `out`
+-- nothing of a comment, of a setting and of a read before its last record; `error line N`; or the answer, with the event records that begin `out`
 abbrev pub trailOf : Took → (out : List ℕ) → (explained : Bool) → List ℕ
 trailOf t out x = lineOf (t .run) (t .told) out x

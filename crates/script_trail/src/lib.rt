@@ -17,5 +17,14 @@ pub fn written(took: Took, out: &[u8], explained: bool, shown: &mut [u8]) -> usi
         Told::Shaken => script_show::handshake_answer(shown, shaken, out, explained),
         Told::Answered(a) => script_show::answer(shown, a, out, explained),
         Told::Given(next) => script_show::next(shown, next, out, explained),
+        Told::Begun(_) => 0,
+        Told::Gathered => 0,
+        Told::Handed { accepted, answer } => script_show::read_answer(
+            shown,
+            accepted,
+            answer,
+            out,
+            explained,
+        ),
     }
 }

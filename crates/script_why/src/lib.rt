@@ -59,6 +59,8 @@ fn say_kind(kind: Kind) {
         Kind::TypeNumber => put(b" is no type"),
         Kind::Reason => put(b" is no reason"),
         Kind::Capability => put(b" is no capability"),
+        Kind::Count => put(b" is no number below 65,536"),
+        Kind::Part => put(b" is no part (p:START:LENGTH)"),
     }
 }
 
@@ -93,25 +95,25 @@ fn word(line: &[u8], at: usize, kind: Kind) -> Next {
     }
 }
 
-fn word_at(line: &[u8], at: usize, i: usize, place: usize) -> Next {
-    if 55 <= i {
+fn word_at(line: &[u8], at: usize, i: usize, place: usize, within: bool) -> Next {
+    if 56 <= i {
         return Next::Said;
     }
     if 4 <= place {
         return Next::Said;
     }
-    match script::slot_at(i, place) {
+    match script::slot_at(i, place, within) {
         Slot::Empty => Next::At(at),
         Slot::Of(kind) => word(line, at, kind),
     }
 }
 
-// The words behind the first, which ends at a place, for the row of that.
-fn words(line: &[u8], first: usize, i: usize) {
+// The words behind the first, which ends at a place, for the row of that; `within` a read or outside of one.
+fn words(line: &[u8], first: usize, i: usize, within: bool) {
     let mut at = first;
     let mut place: usize = 0;
     while place < 4 {
-        match word_at(line, at, i, place) {
+        match word_at(line, at, i, place, within) {
             Next::At(next) => at = next,
             Next::Said => return,
         }
@@ -127,7 +129,26 @@ fn no_call(line: &[u8]) {
         return;
     }
     match script::find(&line[from..end]) {
-        Found::Row(i) => words(line, end, i),
+        Found::Row(i) => words(line, end, i, false),
+        Found::Nothing => put(b"unknown call"),
+    }
+}
+
+// The rows of a client's requests are those from the handshake's first on, up to `text.utf8`.
+fn no_record(line: &[u8]) {
+    let from: usize = 0;
+    let end = space(line, from);
+    if line.len() < end {
+        return;
+    }
+    match script::find(&line[from..end]) {
+        Found::Row(i) => {
+            if 4 <= i && i < 40 {
+                words(line, end, i, true);
+            } else {
+                put(b"only a client's requests stand in a read");
+            }
+        }
         Found::Nothing => put(b"unknown call"),
     }
 }
@@ -136,6 +157,9 @@ fn reason(why: Why, line: &[u8]) {
     match why {
         Why::Long => put(b"longer than 65,536 bytes"),
         Why::NoCall => no_call(line),
+        Why::NoRecord => no_record(line),
+        Why::Many => put(b"more records than there is room for"),
+        Why::Within => put(b"the script ends inside a read"),
         Why::Early => put(b"it comes before `start`, or before the session that it needs"),
     }
 }

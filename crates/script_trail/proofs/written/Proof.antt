@@ -37,6 +37,24 @@ returns-5 c =
     let a = at-told .before .before .before .before .before .before .args in
     put-is (c .before .before .next .ensures) (ap (λ (t : Told). lineOf (a .took .run) t (a .out .now) (a .explained)) (sym (at-told .told2 .given .1)))
 
+returns-6 : tie.Need-returns-6
+returns-6 c =
+    let at-told = c in
+    let a = at-told .before .before .before .before .before .before .args in
+    put-is (put-none (a .shown .now) 0) (ap (λ (t : Told). lineOf (a .took .run) t (a .out .now) (a .explained)) (sym (at-told .enum-told4 .given .1)))
+
+returns-7 : tie.Need-returns-7
+returns-7 c =
+    let at-told = c in
+    let a = at-told .before .before .before .before .before .before .args in
+    put-is (put-none (a .shown .now) 0) (ap (λ (t : Told). lineOf (a .took .run) t (a .out .now) (a .explained)) (sym (at-told .enum-told5 .given .1)))
+
+returns-8 : tie.Need-returns-8
+returns-8 c =
+    let at-told = c .before .before .before .before .before in
+    let a = at-told .before .before .before .before .before .before .args in
+    put-is (c .before .before .read-answer .ensures) (ap (λ (t : Told). lineOf (a .took .run) t (a .out .now) (a .explained)) (sym (at-told .told3 .given .1)))
+
 pub written-spec : {M : Type 1} → statement M
 written-spec =
     tie.close
@@ -50,6 +68,10 @@ written-spec =
     (λ c κs. search needs)  -- answer-requires
     (λ c. search needs)  -- enum-known-told-2
     (λ c κs. search needs)  -- next-requires
+    (λ c. search needs)  -- enum-told-4
+    (λ c. search needs)  -- enum-told-5
+    (λ c. search needs)  -- enum-known-told-3
+    (λ c κs. search needs)  -- read-answer-requires
     returns
     (λ c. search needs)  -- same-length
     returns-2
@@ -58,4 +80,8 @@ written-spec =
     (λ c. search needs)  -- same-length-3
     returns-4
     (λ c. search needs)  -- same-length-4
-    returns-5)
+    returns-5
+    returns-6
+    returns-7
+    (λ c. search needs)  -- same-length-5
+    returns-8)

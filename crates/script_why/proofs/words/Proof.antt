@@ -5,11 +5,11 @@ use Rattle.script_why.proofs.words.Statement.{statement}
 use Rattle.script_why.proofs.words.Tie as tie
 
 abbrev Inv-loop : tie.InvT-loop
-Inv-loop line first i at₀ place₀ t7 at place =
+Inv-loop line first i within at₀ place₀ t7 at place =
     Unit {0}
 
 abbrev μ-loop : tie.MeasureT-loop
-μ-loop line first i at₀ place₀ t7 at place = 4 - place
+μ-loop line first i within at₀ place₀ t7 at place = 4 - place
 
 pub words-spec : {M : Type 1} → statement M
 words-spec =

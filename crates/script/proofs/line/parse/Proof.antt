@@ -16,7 +16,7 @@ use Rattle.script.proofs.line.parse.Tie as tie
 returns : tie.Need-returns
 returns c =
     record {
-      reads = reads-blank (c .before .before .before .args .line .now) (sym (c .before .is-blank .ensures) ∙ c .if1 .taken);
+      reads = reads-blank (c .before .before .before .args .within) (c .before .before .before .args .line .now) (sym (c .before .is-blank .ensures) ∙ c .if1 .taken);
       inTurn = tt;
     }
 
@@ -33,7 +33,7 @@ returns-2 c =
     let w = at-start .args .line .now in
     let e = at-find-byte .find-byte in
     record {
-      reads = reads-no-verb w (take (e .result) w) (wordsFrom (e .result) w) (sym (at-is-blank .is-blank .ensures) ∙ at-if1 .if1 .left) (words-first w (e .result) (e .ensures))
+      reads = reads-no-verb (at-start .args .within) w (take (e .result) w) (wordsFrom (e .result) w) (sym (at-is-blank .is-blank .ensures) ∙ at-if1 .if1 .left) (words-first w (e .result) (e .ensures))
           (ap numberFound (sym (c .enum-told .given .1)) ∙ c .before .before .find .ensures);
       inTurn = tt;
     }
@@ -58,7 +58,7 @@ returns-3 c =
     let e = at-find-byte .find-byte in
     let i = at-i .i .given in
     record {
-      reads = reads-no-args w (take (e .result) w) (wordsFrom (e .result) w) (sym (at-is-blank .is-blank .ensures) ∙ at-if1 .if1 .left) (words-first w (e .result) (e .ensures))
+      reads = reads-no-args (at-start .args .within) w (take (e .result) w) (wordsFrom (e .result) w) (sym (at-is-blank .is-blank .ensures) ∙ at-if1 .if1 .left) (words-first w (e .result) (e .ensures))
           (i .0 .0) (ap numberFound (sym (i .1)) ∙ at-find .find .ensures)
           (ap (argsRead w) (sym (c .enum-told2 .given .1)) ∙ c .before .before .read-args .ensures .reads);
       inTurn = tt;
@@ -90,7 +90,7 @@ returns-4 c =
     let a = at-args2 .args2 .given in
     record {
       reads = ap (λ (v : Verb). setting v (argsTold w (a .0 .0))) (c .before .verb-at .ensures)
-          ∙ reads-setting w (take (e .result) w) (wordsFrom (e .result) w) (sym (at-is-blank .is-blank .ensures) ∙ at-if1 .if1 .left) (words-first w (e .result) (e .ensures))
+          ∙ reads-setting (at-start .args .within) w (take (e .result) w) (wordsFrom (e .result) w) (sym (at-is-blank .is-blank .ensures) ∙ at-if1 .if1 .left) (words-first w (e .result) (e .ensures))
           (i .0 .0) (ap numberFound (sym (i .1)) ∙ at-find .find .ensures)
           (argsTold w (a .0 .0)) (ap (argsRead w) (sym (a .1)) ∙ at-read-args .read-args .ensures .reads) (c .if2 .taken);
       inTurn = subst (ReadInTurn w) (a .1) (at-read-args .read-args .ensures .inTurn);
@@ -112,7 +112,7 @@ returns-5 c =
     let a = at-args2 .args2 .given in
     record {
       reads = ap (λ (v : Verb). call v (argsTold w (a .0 .0))) (c .before .verb-at .ensures)
-          ∙ reads-call w (take (e .result) w) (wordsFrom (e .result) w) (sym (at-is-blank .is-blank .ensures) ∙ at-if1 .if1 .left) (words-first w (e .result) (e .ensures))
+          ∙ reads-call (at-start .args .within) w (take (e .result) w) (wordsFrom (e .result) w) (sym (at-is-blank .is-blank .ensures) ∙ at-if1 .if1 .left) (words-first w (e .result) (e .ensures))
           (i .0 .0) (ap numberFound (sym (i .1)) ∙ at-find .find .ensures)
           (argsTold w (a .0 .0)) (ap (argsRead w) (sym (a .1)) ∙ at-read-args .read-args .ensures .reads) (c .if2 .left);
       inTurn = subst (ReadInTurn w) (a .1) (at-read-args .read-args .ensures .inTurn);

@@ -8,7 +8,7 @@ use borrow.Author.Needs.{needs}
 use Rattle.script.specs.declared.verb.Kind.{Kind}
 use Rattle.script.specs.declared.value.Value.{Value}
 use Rattle.script.specs.declared.line.Step.{Step}
-use Rattle.script.specs.Verbs.{rowAt, slotAt}
+use Rattle.script.specs.Verbs.{rowAt, kindsOf, slotAt}
 use Rattle.script.specs.Script.{Arg, readArgs, behind}
 use Rattle.script.specs.Told.{Stepped, wordsFrom, valueTold}
 use Rattle.script.proofs.Lines.{in-turn, stepped, stopped, from1, from2, from3, row-split, args-end, args-more}
@@ -21,7 +21,7 @@ abbrev line : tie.After-known-told → List ℕ
 line c = c .before .before .before .before .before .before .args .line .now
 
 abbrev kinds : tie.After-known-told → List Kind
-kinds c = rowAt (c .before .before .before .before .before .before .args .i) .kinds
+kinds c = kindsOf (c .before .before .before .before .before .before .args .within) (rowAt (c .before .before .before .before .before .before .args .i))
 
 abbrev start : tie.After-known-told → ℕ
 start c = c .before .before .before .before .before .before .args .at
@@ -87,7 +87,7 @@ read-a : (c : tie.After-known-told)
     → readArgs (kinds c) (wordsFrom (start c) (line c))
     ≡ behind (valueTold (line c) (value-a c)) (readArgs (from1 (kinds c)) (wordsFrom (end-a c) (line c)))
 read-a c =
-    ap (λ (ks : List Kind). readArgs ks (wordsFrom (start c) (line c))) (row-split (c .before .before .before .before .before .before .args .i) (omega (arith, c .before .before .before .before .before .before .pre)))
+    ap (λ (ks : List Kind). readArgs ks (wordsFrom (start c) (line c))) (row-split (c .before .before .before .before .before .before .args .i) (c .before .before .before .before .before .before .args .within) (omega (arith, c .before .before .before .before .before .before .pre)))
     ∙ slot-a c .1 .1 (from1 (kinds c))
 
 read-b : (c : tie.After-known-told2)
@@ -120,9 +120,9 @@ returns c =
     let a = at-start .args in
     record {
       reads =
-          sym (ap (λ (ks : List Kind). readArgs ks (wordsFrom (a .at) (a .line .now))) (row-split (a .i) (omega (arith, at-start .pre)))
-          ∙ stopped (a .line .now) (a .at) (at-slot-at .slot-at .result) (slotAt 0 (rowAt (a .i) .kinds)) (at-slot-at .slot-at .ensures)
-          (c .before .before .read-slot .result) (c .before .before .read-slot .ensures) (c .enum-told .given .1) (from1 (rowAt (a .i) .kinds)));
+          sym (ap (λ (ks : List Kind). readArgs ks (wordsFrom (a .at) (a .line .now))) (row-split (a .i) (a .within) (omega (arith, at-start .pre)))
+          ∙ stopped (a .line .now) (a .at) (at-slot-at .slot-at .result) (slotAt 0 (kindsOf (a .within) (rowAt (a .i)))) (at-slot-at .slot-at .ensures)
+          (c .before .before .read-slot .result) (c .before .before .read-slot .ensures) (c .enum-told .given .1) (from1 (kindsOf (a .within) (rowAt (a .i)))));
       inTurn = tt;
     }
 

@@ -30,10 +30,15 @@ returns-7 : tie.Need-returns-7
 unfolding div ofBits
 returns-7 c = sym (ap f32Of (c .enum-told6 .given .1))
 
+returns-8 : tie.Need-returns-8
+unfolding div ofBits
+returns-8 c = sym (ap f32Of (c .enum-told7 .given .1))
+
 pub f32-of-spec : {M : Type 1} → statement M
 f32-of-spec =
     tie.close
     (tie.spec
+    (λ c. search needs)
     (λ c. search needs)
     (λ c. search needs)
     (λ c. search needs)
@@ -47,4 +52,5 @@ f32-of-spec =
     returns-4
     returns-5
     returns-6
-    returns-7)
+    returns-7
+    returns-8)

@@ -28,10 +28,14 @@ returns-6 c = sym (ap i32Of (c .enum-told5 .given .1))
 returns-7 : tie.Need-returns-7
 returns-7 c = sym (ap i32Of (c .enum-told6 .given .1))
 
+returns-8 : tie.Need-returns-8
+returns-8 c = sym (ap i32Of (c .enum-told7 .given .1))
+
 pub i32-of-spec : {M : Type 1} → statement M
 i32-of-spec =
     tie.close
     (tie.spec
+    (λ c. search needs)
     (λ c. search needs)
     (λ c. search needs)
     (λ c. search needs)
@@ -45,4 +49,5 @@ i32-of-spec =
     returns-4
     returns-5
     returns-6
-    returns-7)
+    returns-7
+    returns-8)

@@ -68,6 +68,18 @@ returns-10 c =
     let a = c .before .before .before .before .before .args in
     c .capability .ensures (a .line .now) ∙ as-kind (part (a .from) (a .end) (a .line .now)) (a .kind) Kind.Capability (c .before .before .enum-told10 .given .1)
 
+returns-11 : tie.Need-returns-11
+unfolding readAs
+returns-11 c =
+    let a = c .before .before .before .before .before .args in
+    c .unsigned325 .ensures (a .line .now) ∙ as-kind (part (a .from) (a .end) (a .line .now)) (a .kind) Kind.Count (c .before .before .enum-told11 .given .1)
+
+returns-12 : tie.Need-returns-12
+unfolding readAs
+returns-12 c =
+    let a = c .before .before .before .before .before .args in
+    c .part-of-texts .ensures (a .line .now) ∙ as-kind (part (a .from) (a .end) (a .line .now)) (a .kind) Kind.Part (c .before .before .enum-told12 .given .1)
+
 pub read-spec : {M : Type 1} → statement M
 read-spec =
     tie.close
@@ -116,6 +128,16 @@ read-spec =
     (λ c. search needs)
     (λ c. search needs)
     (λ c κs. search needs)
+    (λ c. search needs)
+    (λ c. search needs)
+    (λ c. search needs)
+    (λ c. search needs)
+    (λ c κs. search needs)
+    (λ c. search needs)
+    (λ c. search needs)
+    (λ c. search needs)
+    (λ c. search needs)
+    (λ c κs. search needs)
     returns
     returns-2
     returns-3
@@ -125,4 +147,6 @@ read-spec =
     returns-7
     returns-8
     returns-9
-    returns-10)
+    returns-10
+    returns-11
+    returns-12)

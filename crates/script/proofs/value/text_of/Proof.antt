@@ -23,10 +23,14 @@ returns-6 c = sym (ap textIn (c .enum-told5 .given .1))
 returns-7 : tie.Need-returns-7
 returns-7 c = sym (ap textIn (c .enum-told6 .given .1))
 
+returns-8 : tie.Need-returns-8
+returns-8 c = sym (ap textIn (c .enum-told7 .given .1))
+
 pub text-of-spec : {M : Type 1} → statement M
 text-of-spec =
     tie.close
     (tie.spec
+    (λ c. search needs)
     (λ c. search needs)
     (λ c. search needs)
     (λ c. search needs)
@@ -40,4 +44,5 @@ text-of-spec =
     returns-4
     returns-5
     returns-6
-    returns-7)
+    returns-7
+    returns-8)

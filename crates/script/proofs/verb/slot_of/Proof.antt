@@ -46,7 +46,15 @@ unfolding slotOf
 returns-10 c = sym (ap slotOf (c .match .keys10))
 
 returns-11 : tie.Need-returns-11
-returns-11 c = no-letter (c .before .args .letter) (c .match .rest)
+unfolding slotOf
+returns-11 c = sym (ap slotOf (c .match .keys11))
+
+returns-12 : tie.Need-returns-12
+unfolding slotOf
+returns-12 c = sym (ap slotOf (c .match .keys12))
+
+returns-13 : tie.Need-returns-13
+returns-13 c = no-letter (c .before .args .letter) (c .match .rest)
 
 pub slot-of-spec : {M : Type 1} → statement M
 slot-of-spec =
@@ -62,4 +70,6 @@ slot-of-spec =
     returns-8
     returns-9
     returns-10
-    returns-11)
+    returns-11
+    returns-12
+    returns-13)

@@ -34,19 +34,23 @@ returns-4 c =
     (record { session = λ h. c .before .before .before .before .before .before .before .before .make .ensures (at-asked .before .before .before .before .before .before .before .before .args .texts .now); early = λ h. never h (at-if .if4 .taken) })
 
 returns-5 : tie.Need-returns-5
-returns-5 c = rw (c .before .before .asked .given .1) (c .at-clock .ensures, (refl, refl))
+returns-5 c =
+    rw (c .before .before .before .asked7 .given .1) (record { session = λ h. (c .begun .ensures, (refl, refl)); early = λ h. never h (c .before .if5 .taken) })
 
 returns-6 : tie.Need-returns-6
-returns-6 c = rw (c .before .before .asked2 .given .1) (c .with-out .ensures, (refl, refl))
+returns-6 c = rw (c .before .before .asked .given .1) (c .at-clock .ensures, (refl, refl))
 
 returns-7 : tie.Need-returns-7
-returns-7 c = rw (c .before .before .asked3 .given .1) (c .with-buffer .ensures, (refl, refl))
+returns-7 c = rw (c .before .before .asked2 .given .1) (c .with-out .ensures, (refl, refl))
 
 returns-8 : tie.Need-returns-8
-returns-8 c = rw (c .before .before .before .before .before .asked4 .given .1) (c .before .before .start .ensures, refl)
+returns-8 c = rw (c .before .before .asked3 .given .1) (c .with-buffer .ensures, (refl, refl))
 
 returns-9 : tie.Need-returns-9
-returns-9 c =
+returns-9 c = rw (c .before .before .before .before .before .asked4 .given .1) (c .before .before .start .ensures, refl)
+
+returns-10 : tie.Need-returns-10
+returns-10 c =
     rw (c .before .before .before .before .asked5 .given .1)
     (record {
       session = λ h. never (c .before .before .if1 .left) h;
@@ -54,13 +58,17 @@ returns-9 c =
       early = λ h k. (c .no-call .ensures, (refl, refl));
     })
 
-returns-10 : tie.Need-returns-10
-returns-10 c =
-    rw (c .before .before .enum-told .given .1) (record { session = λ h. never (c .before .if3 .left) h; early = λ h. (c .no-call2 .ensures, (refl, refl)) })
-
 returns-11 : tie.Need-returns-11
 returns-11 c =
+    rw (c .before .before .enum-told .given .1) (record { session = λ h. never (c .before .if3 .left) h; early = λ h. (c .no-call2 .ensures, (refl, refl)) })
+
+returns-12 : tie.Need-returns-12
+returns-12 c =
     rw (c .before .before .before .asked6 .given .1) (record { session = λ h. never (c .before .if4 .left) h; early = λ h. (c .no-call3 .ensures, (refl, refl)) })
+
+returns-13 : tie.Need-returns-13
+returns-13 c =
+    rw (c .before .before .before .asked7 .given .1) (record { session = λ h. never (c .before .if5 .left) h; early = λ h. (c .no-call4 .ensures, (refl, refl)) })
 
 pub carry-out-spec : {M : Type 1} → statement M
 carry-out-spec =
@@ -104,11 +112,16 @@ carry-out-spec =
     (λ c. search needs)  -- same-length-16
     returns-4
     (λ c κs. search needs)  -- no-call-requires-3
+    (λ c. search needs)  -- enum-known-asked-7
+    (λ c κs. search needs)  -- begun-requires
     returns-5
+    (λ c κs. search needs)  -- no-call-requires-4
     returns-6
     returns-7
-    (λ c. search needs)  -- same-length-17
     returns-8
+    (λ c. search needs)  -- same-length-17
     returns-9
     returns-10
-    returns-11)
+    returns-11
+    returns-12
+    returns-13)

@@ -1,6 +1,6 @@
--- The outcome, the records and the end of the line, one behind the other; then the records in words. Assumes nothing.
+-- The outcome, and what stands behind it. Assumes nothing.
 use Rattle.script_show.specs.Answer.{lineOf}
-use Rattle.script_pattern.proofs.Puts.{put-then, put-is}
+use Rattle.script_pattern.proofs.Puts.{put-then}
 use borrow.Author.Needs.{needs}
 use Rattle.script_show.proofs.lines.whole.Statement.{statement}
 use Rattle.script_show.proofs.lines.whole.Tie as tie
@@ -8,19 +8,8 @@ use Rattle.script_show.proofs.lines.whole.Tie as tie
 returns : tie.Need-returns
 unfolding lineOf
 returns c =
-    let at-if1 = c .before .before .before .before in
-    let at-byte = at-if1 .before .before .before in
-    let at-trail = at-byte .before .before .before .before in
-    let at-show = at-trail .before .before .before .before in
-    put-is (put-then (at-show .show .ensures) (put-then (at-trail .trail .ensures) (put-then (at-byte .byte .ensures) (c .before .before .each .ensures)))) (rw (at-if1 .if1 .taken))
-
-returns-2 : tie.Need-returns-2
-unfolding lineOf
-returns-2 c =
-    let at-byte = c .before .before .before in
-    let at-trail = at-byte .before .before .before .before in
-    let at-show = at-trail .before .before .before .before in
-    put-is (put-then (at-show .show .ensures) (put-then (at-trail .trail .ensures) (at-byte .byte .ensures))) (rw (c .if1 .left))
+    let at-beginning = c .before .before in
+    put-then (at-beginning .before .before .before .before .show .ensures) (at-beginning .beginning .ensures)
 
 pub whole-spec : {M : Type 1} → statement M
 whole-spec =
@@ -28,10 +17,6 @@ whole-spec =
     (tie.spec
     (λ c. search needs)  -- slice-aggregate-show
     (λ c κs. search needs)  -- show-requires
-    (λ c κs. search needs)  -- trail-requires
-    (λ c κs. search needs)  -- byte-requires
-    (λ c κs. search needs)  -- each-requires
+    (λ c κs. search needs)  -- beginning-requires
     (λ c. search needs)  -- same-length
-    returns
-    (λ c. search needs)  -- same-length-2
-    returns-2)
+    returns)
