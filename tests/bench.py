@@ -4,12 +4,14 @@
 usage: bench.py ORACLE [ROUNDS]     run at the repository's root
 
 ORACLE is the oracle's folder (its ./build.sh builds target/release/oracle; Rust is needed, and no network). What is not there yet is built: the oracle, the
-program bench (`rt check bench`), the library (`rt staticlib bozterrun`), and the programs tests/c/bench.c and rust/examples/bench.rs, anew each time. Each of the
+programs bench and bench_reads (`rt check bench bench_reads`), the library (`rt staticlib bozterrun`), and the programs tests/c/bench.c and rust/examples/bench.rs, anew each time. Each of the
 oracle's five workloads is run ROUNDS times (81, a minute and a half) by turns, ours and the crate's: for all a turn is the same calls, and making the requests is counted in. The
 time of ours is that of the program less that of its start, divided by the calls. Medians are printed, and how many times faster ours is. Where valgrind is at
 hand, the instructions of a call follow, from the difference of two runs.
 
 Below the line: the queue's own turns, called from Rattle: a Disconnect queued and taken (push and pop), and frames of 1 and of 64 keys with their delivery.
+Last, 31 keys and their frame with their delivery: one by one, and gathered in a read that is handed over in one call (from Rattle in an array of 32, by the
+program bench_reads). Both are told for each of the 32 requests. The crate has no such call, and the oracle no such workload.
 """
 import os
 import re
@@ -21,13 +23,17 @@ import time
 
 CALLS = {"keys": 7, "touches": 9, "texts": 5, "eight": 7, "deep": 6}
 OWN = {"push": 2, "frame1": 4, "frame64": 130}
+READS = {"single32": "one by one", "read32": "in a read"}
+READ = 32
 ARCHIVE = "target/staticlib/libbozterrun.a"
 PROGRAMS = {"Rattle": "target/bin/bench", "C": "target/c/bench", "Rust": "rust/target/release/examples/bench"}
+READ_PROGRAMS = dict(PROGRAMS, Rattle="target/bin/bench_reads")
 
 
 def build(oracle):
     made = os.path.join(oracle, "target/release/oracle")
-    for path, command, cwd in [(made, ["./build.sh"], oracle), (PROGRAMS["Rattle"], ["rt", "check", "bench"], None), (ARCHIVE, ["rt", "staticlib", "bozterrun"], None)]:
+    for path, command, cwd in [(made, ["./build.sh"], oracle), (PROGRAMS["Rattle"], ["rt", "check", "bench"], None),
+                               (READ_PROGRAMS["Rattle"], ["rt", "check", "bench_reads"], None), (ARCHIVE, ["rt", "staticlib", "bozterrun"], None)]:
         if not os.path.exists(path):
             subprocess.run(command, cwd=cwd, stdout=subprocess.DEVNULL, check=True)
     os.makedirs("target/c", exist_ok=True)
@@ -78,7 +84,13 @@ def main():
         median = {name: statistics.median(times) for name, times in taken.items()}
         ratios = [f"{median['crate'] / median[name]:.1f}" for name in PROGRAMS]
         print(f"| {workload} | " + " | ".join(f"{median[name]:.1f}" for name in names) + " | " + " | ".join(ratios) + " |", flush=True)
+    read_times = {(name, workload): [] for name in PROGRAMS for workload in READS}
+    for _ in range(rounds):
+        for name, workload in read_times:
+            read_times[name, workload].append(ours(READ_PROGRAMS[name], workload, READ))
     if not shutil.which("valgrind"):
+        for (name, workload), times in read_times.items():
+            print(f"{READ} requests {READS[workload]}, {name}: {statistics.median(times):.1f} ns a request")
         return
     print("\n| workload | " + " | ".join(f"{name} instructions" for name in names) + " |")
     print("|---" * (1 + len(names)) + "|")
@@ -93,6 +105,10 @@ def main():
         a = statistics.median(ours(PROGRAMS["Rattle"], workload, calls) for _ in range(rounds))
         mine = instructions([[PROGRAMS["Rattle"], workload, "1000"], [PROGRAMS["Rattle"], workload, "3000"]], 2000)
         print(f"{workload:10} {a * calls:12.1f} ns a turn of {calls} calls, {mine:.0f} instructions", flush=True)
+    for (name, workload), times in read_times.items():
+        program = READ_PROGRAMS[name]
+        mine = instructions([[program, workload, "1000"], [program, workload, "3000"]], 2000 * READ)
+        print(f"{READ} requests {READS[workload]}, {name}: {statistics.median(times):.1f} ns a request, {mine:.0f} instructions", flush=True)
 
 
 main()

@@ -1,15 +1,15 @@
 #!/usr/bin/env python3
 """Writes the scripts that the gate runs and the trails that are expected of them. The trails are the oracle's, which is the crate's own Rust; from the first
-seat or interface release of a session on they are by hand.
+seat or interface release of a session on, or its first read, they are by hand.
 
 usage: write_trials.py [--check] ORACLE [FOLDER]     run at the repository's root
 
 ORACLE is the oracle's folder (cases/ in it; `./build.sh` there builds target/release/oracle, for which Rust is needed, and no network; or the program is that
-of FOLDER). crates/trials gets the trial lines, the five false friends, the oracle's other cases and the scripts of tests/released, one session behind the
-other; crates/replay gets examples/token.script. Of that script and of rust/tests/every.script, the Rust crate's tests get the trails. The oracle's cases with
-a release are left out, and each has to have its like in tests/released. The lines `#= LINE`, by hand from the scope, stay in the script behind their calls.
-Before a release the oracle's trail is held to them here, and behind one every call has to have its own (releases.py). With --check nothing is written: the
-files have to be what would be written.
+of FOLDER). crates/trials gets the trial lines, the five false friends, the oracle's other cases and the scripts of tests/released and of tests/reads, one
+session behind the other; crates/replay gets examples/token.script. Of that script and of rust/tests/every.script, the Rust crate's tests get the trails. The
+oracle's cases with a release are left out, and each has to have its like in tests/released. The lines `#= LINE`, by hand from the scope, stay in the script
+behind their calls. Before a release or a read the oracle's trail is held to them here, and behind one every call has to have its own (releases.py). With
+--check nothing is written: the files have to be what would be written.
 """
 import glob
 import os
@@ -38,6 +38,20 @@ def held_ids(cases):
     return lines
 
 
+def without_reads(lines):
+    """The lines with a release of no seat in the place of each read and its records: the crate has no such call, and behind a release all is by hand."""
+    kept, left = [], 0
+    for line in lines:
+        if left and releases.is_call(line):
+            left -= 1
+        elif line.startswith("read "):
+            kept.append("seat.release 0")
+            left = int(line.split(" ")[1], 0)
+        else:
+            kept.append(line)
+    return kept
+
+
 def run(oracle, script):
     done = subprocess.run([oracle], input=script.encode(), capture_output=True)
     if done.returncode:
@@ -55,7 +69,7 @@ def main():
     folders = sys.argv[1 + check:]
     if len(folders) not in (1, 2):
         sys.exit(__doc__)
-    cases, own = read(f"{folders[0]}/cases"), read(f"{HERE}/released")
+    cases, own, reads = read(f"{folders[0]}/cases"), read(f"{HERE}/released"), read(f"{HERE}/reads")
     oracle = f"{folders[-1]}/target/release/oracle"
     scripts = {number: open(path).read().splitlines() for number, path in cases.items()}
     for number in [number for number, script in scripts.items() if releases.within(script)]:
@@ -64,18 +78,20 @@ def main():
         del scripts[number]
     scripts[24] = held_ids(cases)
     parts = [(part, [(number, scripts[number]) for number in sorted(filter(chosen, scripts))]) for part, chosen in PARTS]
-    parts.append(("Releases", [(number, open(own[number]).read().splitlines()) for number in sorted(own)]))
+    for part, paths in (("Releases", own), ("Reads", reads)):
+        parts.append((part, [(number, open(paths[number]).read().splitlines()) for number in sorted(paths)]))
     lines = ["# Written by tests/write_trials.py. A line that begins with #= is what the call above it answers, by hand from the scope; stdout is what the crate's own "
-             "Rust answers and, from the first seat or interface release of a session on, what these lines say."]
+             "Rust answers and, from the first seat or interface release of a session on, or its first read, what these lines say."]
     one_by_one = []
     for part, chosen in parts:
         lines += ["", f"# ---- {part}"]
         for number, script in chosen:
             title = script[0].replace("* ", "").replace("# ", "")
             lines += ["", f"# {number:02}: {title}"] + SETTINGS + script[1:]
-            one_by_one += releases.expected(script, run(oracle, "\n".join(script) + "\n"))[0]
-    text = "\n".join(lines) + "\n"
-    trail, hand = releases.expected(lines, run(oracle, text))
+            plain = without_reads(script)
+            one_by_one += releases.expected(plain, run(oracle, "\n".join(plain) + "\n"))[0]
+    plain = without_reads(lines)
+    trail, hand = releases.expected(plain, run(oracle, "\n".join(plain) + "\n"))
     if one_by_one != trail:
         sys.exit("the trail is not that of the scripts one by one")
     token, every = open("examples/token.script").read(), open("rust/tests/every.script").read()
@@ -89,7 +105,7 @@ def main():
         if not check:
             with open(path, "w") as f:
                 f.write(content)
-    print(f"{len(scripts) + len(own)} scripts, {len(trail)} calls, {hand} lines by hand")
+    print(f"{len(scripts) + len(own) + len(reads)} scripts, {len(trail)} calls, {hand} lines by hand")
 
 
 main()

@@ -179,6 +179,113 @@ static void try_numbers(void)
     TRY("has_capability", capability, 0, 3, 5, 127, 128, 192, HIGH, 1ULL << 32, 1ULL << 63, UINT64_MAX);
 }
 
+/* ---- Reads ---- */
+
+static void put_number(size_t record, size_t place, uint64_t n)
+{
+    memcpy(slice_data(RECORDS) + 8 * (BOZTERRUN_RECORD_LENGTH * record + place), &n, 8);
+}
+
+/* The usual read, each time with one thing wrong, alone and together with a session that is too short. */
+static void try_bad_read(const char *what, uint64_t n, uint32_t answer, void (*spoil)(uint64_t))
+{
+    const size_t k = call_named("handle_requests");
+    for (size_t j = 0; j < 2; j++) {
+        snprintf(where, sizeof where, "handle_requests with %s %" PRIu64 "%s", what, n,
+                 j == 0 ? "" : " and short slices");
+        slices_lend();
+        spoil(n);
+        if (j == 1) {
+            slice_lend(CONTROL, 3);
+            slice_lend(OUT, 0);
+        }
+        refused(k, j == 1 && answer != BOZTERRUN_BAD_ARGUMENT ? BOZTERRUN_BAD_STATE : answer);
+    }
+}
+
+enum { AT_REQUEST, AT_OBJECT, AT_VERSION, AT_FIRST, AT_SECOND, AT_THIRD, AT_START, AT_LENGTH };
+
+static void first_request(uint64_t n) { put_number(READ_SYNC, AT_REQUEST, n); }
+static void last_request(uint64_t n) { put_number(READ_TEXT, AT_REQUEST, n); }
+static void key_state(uint64_t n) { put_number(READ_KEY, AT_SECOND, n); }
+
+static void button_state(uint64_t n)
+{
+    put_number(READ_KEY, AT_REQUEST, BOZTERRUN_READ_BUTTON_BUTTON);
+    put_number(READ_KEY, AT_SECOND, n);
+}
+
+static void keysym_state(uint64_t n)
+{
+    put_number(READ_KEY, AT_REQUEST, BOZTERRUN_READ_TEXT_KEYSYM);
+    put_number(READ_KEY, AT_SECOND, n);
+}
+
+/* Slices of other lengths: the records are whole and as many as the points, or nothing is tried. */
+static void words_of_records(uint64_t n) { slice_lend(RECORDS, (size_t)n); }
+static void reals_of_points(uint64_t n) { slice_lend(POINTS, (size_t)n); }
+
+/* The text comes first, with a part past the end of the 20 bytes. */
+static void text_first(uint64_t start, uint64_t length)
+{
+    put_number(READ_SYNC, AT_REQUEST, BOZTERRUN_READ_TEXT_UTF8);
+    put_number(READ_SYNC, AT_START, start);
+    put_number(READ_SYNC, AT_LENGTH, length);
+}
+
+static void part_from(uint64_t n) { text_first(n, 2); }
+static void part_of(uint64_t n) { text_first(2, n); }
+
+static void try_reads(void)
+{
+    static const uint64_t requests[] = {36, 37, 255, 256, 1ULL << 32, (1ULL << 32) + 5, 1ULL << 63, UINT64_MAX};
+    static const uint64_t states[] = {2, 3, 255, 256, 1ULL << 32, (1ULL << 32) + 1, 1ULL << 63, UINT64_MAX};
+    static const uint64_t starts[] = {19, 20, 21, 1ULL << 32, UINT64_MAX - 1, UINT64_MAX};
+    static const uint64_t lengths[] = {19, 20, 1ULL << 32, UINT64_MAX - 1, UINT64_MAX};
+    for (size_t i = 0; i < sizeof requests / sizeof requests[0]; i++) {
+        try_bad_read("a first request", requests[i], BOZTERRUN_BAD_ARGUMENT, first_request);
+        try_bad_read("a last request", requests[i], BOZTERRUN_BAD_ARGUMENT, last_request);
+    }
+    for (size_t i = 0; i < sizeof states / sizeof states[0]; i++) {
+        try_bad_read("the state of a key", states[i], BOZTERRUN_BAD_ARGUMENT, key_state);
+        try_bad_read("the state of a button", states[i], BOZTERRUN_BAD_ARGUMENT, button_state);
+        try_bad_read("the state of a keysym", states[i], BOZTERRUN_BAD_ARGUMENT, keysym_state);
+    }
+    for (size_t n = 0; n <= 48; n++) {
+        if (n != 24) {
+            try_bad_read("words of records", n, BOZTERRUN_BAD_ARGUMENT, words_of_records);
+        }
+    }
+    for (size_t n = 0; n <= 12; n++) {
+        if (n != 6) {
+            try_bad_read("reals of points", n, BOZTERRUN_BAD_ARGUMENT, reals_of_points);
+        }
+    }
+    for (size_t i = 0; i < sizeof starts / sizeof starts[0]; i++) {
+        try_bad_read("a part that begins at", starts[i], BOZTERRUN_BAD_PART, part_from);
+    }
+    for (size_t i = 0; i < sizeof lengths / sizeof lengths[0]; i++) {
+        try_bad_read("a part of so many bytes:", lengths[i], BOZTERRUN_BAD_PART, part_of);
+    }
+    /* Numbers that are no state may be any. */
+    snprintf(where, sizeof where, "handle_requests with numbers that say nothing");
+    slices_lend();
+    for (size_t place = AT_VERSION; place <= AT_LENGTH; place++) {
+        if (place != AT_FIRST && place != AT_SECOND) {
+            put_number(READ_SYNC, place, UINT64_MAX);
+        }
+    }
+    check(call_handle_requests() == BOZTERRUN_ACCEPTED && number_at(VALUE) == READ_RECORDS, "the answer");
+    /* No record at all. */
+    snprintf(where, sizeof where, "handle_requests with no record");
+    slices_lend();
+    slice_lend(RECORDS, 0);
+    slice_lend(POINTS, 0);
+    slices_keep();
+    check(call_handle_requests() == BOZTERRUN_ACCEPTED && number_at(VALUE) == 0, "the answer");
+    check(slices_changed() == SLICES, "a slice has changed");
+}
+
 /* A call with a text of this length in place of its usual one. */
 static void try_text(const char *name, const char *what, const void *text, size_t length, uint32_t answer)
 {
@@ -300,6 +407,7 @@ static void try_no_session(void)
     NO_SESSION(bz_pingpong_done(s));
     NO_SESSION(bz_unexpected_handshake(s, 9, 1, "a", 1));
     NO_SESSION(bz_next_request(s, &request, out, sizeof out));
+    NO_SESSION(bz_handle_requests(s, NULL, 1, out, sizeof out, NULL, NULL, NULL, NULL));
 #define NO_SESSION_WRITES(...) \
     do { \
         count = 99; \
@@ -455,6 +563,7 @@ int main(void)
         try_short_out(k);
     }
     try_numbers();
+    try_reads();
     try_texts();
     try_no_session();
     try_no_out();

@@ -7,6 +7,9 @@
  *   texts    one device: a text of 20 digits, frame, next_request 3 times (5 calls)
  *   eight    as keys, on each of eight devices in turn, every device with all seven interfaces (7 calls)
  *   deep     as keys, while 198 requests stay queued: next_request 3 times (6 calls)
+ * and two of its own, over the same 32 requests:
+ *   single32 one device: 31 keys and their frame, each a call, next_request 33 times
+ *   read32   the same 32 gathered in a read and handed over in one call, next_request 33 times
  * The last next_request of a turn finds none, but for deep. What is left is taken at the end. Time is measured from
  * outside, by the difference of two N.
  */
@@ -67,6 +70,31 @@ static void deep(uint64_t i)
     take(3);
 }
 
+static void single32(uint64_t i)
+{
+    for (uint32_t k = 0; k < 31; k++) {
+        bz_keyboard_key(&session, device + 1, (uint32_t)(i + k) % 256,
+                        k % 2 == 0 ? BOZTERRUN_PRESS : BOZTERRUN_RELEASED);
+    }
+    bz_device_frame(&session, device, 7, i);
+    take(33);
+}
+
+static void read32(uint64_t i)
+{
+    static bozterrun_record records[32];
+    static bozterrun_point points[32];
+    bozterrun_read read;
+    bz_read_begin(&read, records, points, 32, NULL, 0);
+    for (uint32_t k = 0; k < 31; k++) {
+        bz_read_keyboard_key(&read, device + 1, (uint32_t)(i + k) % 256,
+                             k % 2 == 0 ? BOZTERRUN_PRESS : BOZTERRUN_RELEASED);
+    }
+    bz_read_device_frame(&read, device, 7, i);
+    bz_handle_requests(&session, &read, 5, NULL, 0, NULL, NULL, NULL, NULL);
+    take(33);
+}
+
 static const struct {
     const char *name;
     void (*turn)(uint64_t);
@@ -75,7 +103,8 @@ static const struct {
 } workloads[] = {
     {"keys", keys, 1, BOZTERRUN_CAPABILITY_KEYBOARD}, {"touches", touches, 1, BOZTERRUN_CAPABILITY_TOUCH},
     {"texts", texts, 1, BOZTERRUN_CAPABILITY_TEXT},   {"eight", eight, 8, 127},
-    {"deep", deep, 1, BOZTERRUN_CAPABILITY_KEYBOARD},
+    {"deep", deep, 1, BOZTERRUN_CAPABILITY_KEYBOARD}, {"single32", single32, 1, BOZTERRUN_CAPABILITY_KEYBOARD},
+    {"read32", read32, 1, BOZTERRUN_CAPABILITY_KEYBOARD},
 };
 
 int main(int count, char **words)
@@ -96,6 +125,6 @@ int main(int count, char **words)
         printf("%s: %llu requests given\n", words[1], (unsigned long long)given);
         return 0;
     }
-    fprintf(stderr, "usage: bench keys|touches|texts|eight|deep N\n");
+    fprintf(stderr, "usage: bench keys|touches|texts|eight|deep|single32|read32 N\n");
     return 2;
 }

@@ -217,6 +217,21 @@ static void try_fields(void)
     check(r.flag == 0x66666666ffffffff && r.stop_y == r.flag && r.state == r.flag, "flag, stop_y and state", 0);
     check(r.sequence == 0xffffffff, "sequence", 0);
     check(r.x >= 1.5F && r.x <= 1.5F && r.y >= -2.5F && r.y <= -2.5F, "x and y", 0);
+
+    /* A record's fields are its numbers in their order, and the records lie one behind another. */
+    bozterrun_record records[2];
+    bozterrun_point points[2];
+    for (uint64_t i = 0; i < 8; i++) {
+        records[1].numbers[i] = 100 + i;
+    }
+    check(records[1].request == 100 && records[1].object == 101 && records[1].version == 102, "request to version", 0);
+    check(records[1].first == 103 && records[1].second == 104 && records[1].third == 105, "the arguments", 0);
+    check(records[1].start == 106 && records[1].length == 107, "the part", 0);
+    points[1].coordinates[0] = 1.5F;
+    points[1].coordinates[1] = -2.5F;
+    check(points[1].x >= 1.5F && points[1].x <= 1.5F && points[1].y >= -2.5F && points[1].y <= -2.5F, "a point", 0);
+    check((uint8_t *)&records[1] - (uint8_t *)&records[0] == 8 * BOZTERRUN_RECORD_LENGTH, "records", 0);
+    check((uint8_t *)&points[1] - (uint8_t *)&points[0] == 4 * BOZTERRUN_POINT_LENGTH, "points", 0);
 }
 
 int main(void)
@@ -232,7 +247,7 @@ int main(void)
     try_fields();
     for (uint32_t n = 0; n <= 66; n++) {
         printf("refusal %" PRIu32 " %s\n", n, bz_refusal_name(n));
-        check((n > 21 && n != 64 && n != 65) == (strcmp(bz_refusal_text(n), bz_refusal_text(1000)) == 0), "text", n);
+        check((n > 22 && n != 64 && n != 65) == (strcmp(bz_refusal_text(n), bz_refusal_text(1000)) == 0), "text", n);
     }
     for (uint32_t n = 0; n <= 13; n++) {
         printf("interface %" PRIu32 " %s\n", n, bz_interface_name(n));

@@ -12,12 +12,13 @@
 #include <string.h>
 #include <sys/types.h>
 
-enum { LINE_LIMIT = 65536, OUT_LIMIT = 4096, WORDS_LIMIT = 4 };
+/* A read of 65,535 requests writes 18 bytes for each Sync, so no call writes as many bytes as OUT_LIMIT. */
+enum { LINE_LIMIT = 65536, OUT_LIMIT = 1 << 21, OUT_USUAL = 4096, WORDS_LIMIT = 4, READ_LIMIT = 65535 };
 
 /*
  * The calls, by where they may be made, with a letter for each word behind the name: L a number of 64 bits, I one of
- * 32, A a signed amount, F an f32, T a text, O a text or `none`, S a press state, C a context type, D a device type,
- * R a reason, M one capability.
+ * 32, N how many lines a read has, A a signed amount, F an f32, T a text, O a text or `none`, S a press state, C a
+ * context type, D a device type, R a reason, M one capability.
  */
 #define SETTINGS(X) X(NOW, "now", "L") X(OUT, "out", "L") X(BUFFER, "buffer", "L") X(START, "start", "I")
 #define CLIENT(X) \
@@ -59,6 +60,7 @@ enum { LINE_LIMIT = 65536, OUT_LIMIT = 4096, WORDS_LIMIT = 4 };
     X(TEXT_UTF8, "text.utf8", "LT")
 #define STATION(X) \
     X(NEXT_REQUEST, "next_request", "") \
+    X(READ, "read", "NT") \
     X(ADD_SEAT, "add_seat", "OL") \
     X(ADD_DEVICE, "add_device", "LODL") \
     X(REMOVE_SEAT, "remove_seat", "L") \
@@ -89,6 +91,7 @@ static struct {
     int32_t amount[WORDS_LIMIT];
     const uint8_t *text;
     size_t length;
+    uint64_t start, part; /* in a read a text is a part of the read's: where it begins, and how long it is */
 } line;
 
 static struct {
@@ -96,9 +99,20 @@ static struct {
     uint64_t clock, out_length, buffer_length;
     bozterrun_handshake handshake;
     bozterrun_session session;
-} run = {.out_length = OUT_LIMIT, .buffer_length = BOZTERRUN_NAME_LENGTH};
+} run = {.out_length = OUT_USUAL, .buffer_length = BOZTERRUN_NAME_LENGTH};
 
 static uint8_t out[OUT_LIMIT], buffer[OUT_LIMIT], text_bytes[LINE_LIMIT / 2];
+
+/* A read that is being gathered: how many requests it lacks, and what it has. */
+static struct {
+    bool on;
+    uint64_t lacking;
+    bozterrun_read read;
+} reading;
+
+static bozterrun_record records[READ_LIMIT];
+static bozterrun_point points[READ_LIMIT];
+static uint8_t read_texts[LINE_LIMIT / 2];
 
 /* ---- Reading ---- */
 
@@ -171,6 +185,17 @@ static bool read_text(const char *word, size_t length)
     return true;
 }
 
+/* `p:START:LENGTH`. */
+static bool read_part(const char *word, size_t length)
+{
+    const char *const colon = length > 2 ? memchr(word + 2, ':', length - 2) : NULL;
+    if (colon == NULL || memcmp(word, "p:", 2) != 0) {
+        return false;
+    }
+    return read_number(word + 2, (size_t)(colon - word) - 2, &line.start) &&
+           read_number(colon + 1, (size_t)(word + length - colon) - 1, &line.part);
+}
+
 /* The word at a place, by its letter. */
 static bool read_word(char letter, size_t place, const char *word, size_t length)
 {
@@ -187,7 +212,7 @@ static bool read_word(char letter, size_t place, const char *word, size_t length
         }
         return read_text(word, length);
     case 'T':
-        return read_text(word, length);
+        return reading.on ? read_part(word, length) : read_text(word, length);
     }
     if (!read_number(word, length, n)) {
         return false;
@@ -195,6 +220,8 @@ static bool read_word(char letter, size_t place, const char *word, size_t length
     switch (letter) {
     case 'I':
         return *n <= UINT32_MAX;
+    case 'N':
+        return *n <= READ_LIMIT;
     case 'S':
         return *n <= 1;
     case 'C':
@@ -362,14 +389,20 @@ typedef struct {
     uint32_t interface, version; /* that refusal 2 tells */
 } told;
 
+static void write_refusal(const told *t)
+{
+    printf("refused %" PRIu32, t->answer);
+    if (t->answer == BOZTERRUN_INVALID_INTERFACE_VERSION) {
+        printf(" interface=%" PRIu32 " version=%" PRIu32, t->interface, t->version);
+    }
+}
+
 static void write_answer(const told *t)
 {
     if (t->answer == BOZTERRUN_NONE) {
         printf("none");
-    } else if (t->answer == BOZTERRUN_INVALID_INTERFACE_VERSION) {
-        printf("refused 2 interface=%" PRIu32 " version=%" PRIu32, t->interface, t->version);
     } else if (t->answer != BOZTERRUN_ACCEPTED) {
-        printf("refused %" PRIu32, t->answer);
+        write_refusal(t);
     } else if (line.verb == ADD_SEAT || line.verb == ADD_DEVICE) {
         printf("%s 0x%016" PRIx64, line.verb == ADD_SEAT ? "seat" : "device", t->value);
     } else if (line.verb == LAST_SERIAL || line.verb == INTERFACE_VERSION) {
@@ -596,10 +629,128 @@ static told call(void)
     return t;
 }
 
+/* Adds the line's request to the read; false where it is no client's. A text has its part, so no byte is copied. */
+static bool gather(void)
+{
+    bozterrun_read *const r = &reading.read;
+    const uint64_t id = line.n[0];
+    bozterrun_record with_part = {{{0}}};
+    with_part.object = line.verb == TEXT_UTF8 ? id : 0;
+    with_part.first = line.verb == HANDSHAKE_INTERFACE_VERSION ? line.n[1] : 0;
+    with_part.start = line.start;
+    with_part.length = line.part;
+    switch (line.verb) {
+    case HANDSHAKE_VERSION:
+        return bz_read_handshake_handshake_version(r, N32(0));
+    case HANDSHAKE_NAME:
+        with_part.request = BOZTERRUN_READ_HANDSHAKE_NAME;
+        return bz_read_record(r, &with_part, 0, 0);
+    case HANDSHAKE_CONTEXT_TYPE:
+        return bz_read_handshake_context_type(r, N32(0));
+    case HANDSHAKE_INTERFACE_VERSION:
+        with_part.request = BOZTERRUN_READ_HANDSHAKE_INTERFACE_VERSION;
+        return bz_read_record(r, &with_part, 0, 0);
+    case HANDSHAKE_FINISH:
+        return bz_read_handshake_finish(r);
+    case CONNECTION_SYNC:
+        return bz_read_connection_sync(r, id, N32(1));
+    case CONNECTION_DISCONNECT:
+        return bz_read_connection_disconnect(r);
+    case PINGPONG_DONE:
+        return bz_read_pingpong_done(r);
+    case SEAT_RELEASE:
+        return bz_read_seat_release(r, id);
+    case SEAT_BIND:
+        return bz_read_seat_bind(r, id, line.n[1]);
+    case SEAT_REQUEST_DEVICE:
+        return bz_read_seat_request_device(r, id, line.n[1]);
+    case DEVICE_RELEASE:
+        return bz_read_device_release(r, id);
+    case DEVICE_START_EMULATING:
+        return bz_read_device_start_emulating(r, id, N32(1), N32(2));
+    case DEVICE_STOP_EMULATING:
+        return bz_read_device_stop_emulating(r, id, N32(1));
+    case DEVICE_FRAME:
+        return bz_read_device_frame(r, id, N32(1), line.n[2]);
+    case DEVICE_READY:
+        return bz_read_device_ready(r, id);
+    case POINTER_RELEASE:
+        return bz_read_pointer_release(r, id);
+    case POINTER_MOTION_RELATIVE:
+        return bz_read_pointer_motion_relative(r, id, line.f[1], line.f[2]);
+    case POINTER_ABSOLUTE_RELEASE:
+        return bz_read_pointer_absolute_release(r, id);
+    case POINTER_ABSOLUTE_MOTION_ABSOLUTE:
+        return bz_read_pointer_absolute_motion_absolute(r, id, line.f[1], line.f[2]);
+    case SCROLL_RELEASE:
+        return bz_read_scroll_release(r, id);
+    case SCROLL_SCROLL:
+        return bz_read_scroll_scroll(r, id, line.f[1], line.f[2]);
+    case SCROLL_SCROLL_DISCRETE:
+        return bz_read_scroll_scroll_discrete(r, id, line.amount[1], line.amount[2]);
+    case SCROLL_SCROLL_STOP:
+        return bz_read_scroll_scroll_stop(r, id, N32(1), N32(2), N32(3));
+    case BUTTON_RELEASE:
+        return bz_read_button_release(r, id);
+    case BUTTON_BUTTON:
+        return bz_read_button_button(r, id, N32(1), N32(2));
+    case KEYBOARD_RELEASE:
+        return bz_read_keyboard_release(r, id);
+    case KEYBOARD_KEY:
+        return bz_read_keyboard_key(r, id, N32(1), N32(2));
+    case TOUCHSCREEN_RELEASE:
+        return bz_read_touchscreen_release(r, id);
+    case TOUCHSCREEN_DOWN:
+        return bz_read_touchscreen_down(r, id, N32(1), line.f[2], line.f[3]);
+    case TOUCHSCREEN_MOTION:
+        return bz_read_touchscreen_motion(r, id, N32(1), line.f[2], line.f[3]);
+    case TOUCHSCREEN_UP:
+        return bz_read_touchscreen_up(r, id, N32(1));
+    case TOUCHSCREEN_CANCEL:
+        return bz_read_touchscreen_cancel(r, id, N32(1), N32(2));
+    case TEXT_RELEASE:
+        return bz_read_text_release(r, id);
+    case TEXT_KEYSYM:
+        return bz_read_text_keysym(r, id, N32(1), N32(2));
+    case TEXT_UTF8:
+        with_part.request = BOZTERRUN_READ_TEXT_UTF8;
+        return bz_read_record(r, &with_part, 0, 0);
+    default:
+        return false;
+    }
+}
+
+/* Hands the read over, if it lacks no request. */
+static void hand_over(void)
+{
+    told t = {0, 0, 0, 0, 0};
+    size_t accepted;
+    if (reading.lacking > 0) {
+        return;
+    }
+    reading.on = false;
+    t.answer = bz_handle_requests(&run.session, &reading.read, run.clock, out, at_most(run.out_length), &accepted,
+                                  &t.count, &t.interface, &t.version);
+    printf("accepted %zu", accepted);
+    if (t.answer != BOZTERRUN_ACCEPTED) {
+        printf(" ");
+        write_refusal(&t);
+    }
+    write_records(t.count);
+}
+
 /* Does what the line asks for; false where no such call can be made here. */
 static bool play(void)
 {
     told t = {0, 0, 0, 0, 0};
+    if (reading.on) {
+        if (!gather()) {
+            return false;
+        }
+        reading.lacking--;
+        hand_over();
+        return true;
+    }
     switch (line.verb) {
     case NOW:
         run.clock = line.n[0];
@@ -620,10 +771,27 @@ static bool play(void)
         if (run.phase == BEFORE || (run.phase == SHAKING && line.verb >= NEXT_REQUEST)) {
             return false;
         }
+        if (line.verb == READ) {
+            bz_read_begin(&reading.read, records, points, READ_LIMIT, read_texts, sizeof read_texts);
+            memcpy(read_texts, line.text, line.length);
+            reading.read.texts_length = line.length;
+            reading.lacking = line.n[0];
+            reading.on = true;
+            hand_over();
+            return true;
+        }
         t = run.phase == RUNNING ? call() : shake();
     }
     write_answer(&t);
     return true;
+}
+
+static int no_call(uintmax_t number, char *bytes)
+{
+    printf("error line %" PRIuMAX "\n", number);
+    fprintf(stderr, "line %" PRIuMAX ": no call\n", number);
+    free(bytes);
+    return 2;
 }
 
 int main(void)
@@ -631,18 +799,19 @@ int main(void)
     char *bytes = NULL;
     size_t room = 0;
     ssize_t length;
-    for (uintmax_t number = 1; (length = getline(&bytes, &room, stdin)) > 0; number++) {
+    uintmax_t number = 1;
+    for (; (length = getline(&bytes, &room, stdin)) > 0; number++) {
         length -= bytes[length - 1] == '\n';
         length -= length > 0 && bytes[length - 1] == '\r';
         if (length == 0 || (bytes[0] == '#' && length <= LINE_LIMIT)) {
             continue;
         }
         if (length > LINE_LIMIT || !read_line(bytes, (size_t)length) || !play()) {
-            printf("error line %" PRIuMAX "\n", number);
-            fprintf(stderr, "line %" PRIuMAX ": no call\n", number);
-            free(bytes);
-            return 2;
+            return no_call(number, bytes);
         }
+    }
+    if (reading.on) {
+        return no_call(number, bytes); /* the script ends within a read, at the line behind its last */
     }
     free(bytes);
     return 0;

@@ -83,6 +83,9 @@ static void make(size_t k, bool keep)
     if (!keep || answer == BOZTERRUN_ACCEPTED) {
         return;
     }
+    if (c->make == call_handle_requests && number_at(VALUE) > 0) {
+        return; /* what was accepted before the refused record stays */
+    }
     const size_t changed = slices_changed();
     if (answer == BOZTERRUN_MISSING_INTERFACE && changed == OUT) {
         /* the one refusal that writes: the interface versions, and no byte behind them */

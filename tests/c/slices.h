@@ -20,11 +20,14 @@
 /* ---- Slices ---- */
 
 enum {
-    HANDSHAKE, NAME, CONTROL, WORDS, REALS, TEXTS, OUT, BUFFER, TEXT, /* slices */
-    NUMBERS, COORDINATES,                                             /* arrays */
-    COUNT, VALUE, FIRST, SECOND,                                      /* one number each */
+    HANDSHAKE, NAME, CONTROL, WORDS, REALS, TEXTS, OUT, BUFFER, TEXT, RECORDS, POINTS, /* slices */
+    NUMBERS, COORDINATES,                                                              /* arrays */
+    COUNT, VALUE, FIRST, SECOND,                                                       /* one number each */
     SLICES
 };
+
+/* The records of the read that is handed over: a Sync, a key, and a text that is a part of TEXT. */
+enum { READ_SYNC, READ_KEY, READ_TEXT, READ_RECORDS };
 
 enum { PAGE = 4096, BEFORE_BYTE = 0xa5, LENT_BYTE = 0xee };
 
@@ -47,6 +50,8 @@ static slice slices[SLICES] = {
     {"out", 1, BOZTERRUN_OUT_LENGTH, 0, NULL, NULL, NULL, NULL},
     {"buffer", 1, BOZTERRUN_NAME_LENGTH, 0, NULL, NULL, NULL, NULL},
     {"text", 1, 20, 0, NULL, NULL, NULL, NULL},
+    {"records", 8, READ_RECORDS * BOZTERRUN_RECORD_LENGTH, 0, NULL, NULL, NULL, NULL},
+    {"points", 4, READ_RECORDS * BOZTERRUN_POINT_LENGTH, 0, NULL, NULL, NULL, NULL},
     {"numbers", 8, 5, 0, NULL, NULL, NULL, NULL},
     {"coordinates", 4, 2, 0, NULL, NULL, NULL, NULL},
     {"count", 8, 1, 0, NULL, NULL, NULL, NULL},
@@ -224,6 +229,8 @@ CALL(connection_sync, L_CONTROL, 9, with.version - 1, L_OUT, PLACE_OF(uint32_t, 
 CALL(connection_disconnect, L_ROWS)
 CALL(pingpong_done, L_CONTROL)
 CALL(unexpected_handshake, L_CONTROL, with.opcode, 1, BYTES(TEXT))
+CALL(handle_requests, L_SESSION, WORDS_OF(RECORDS), REALS_OF(POINTS), BYTES(TEXT), 506, BYTES(OUT),
+     PLACE_OF(size_t, VALUE), PLACE_OF(size_t, COUNT), PLACE_OF(uint32_t, FIRST), PLACE_OF(uint32_t, SECOND))
 CALL(next_request, L_SESSION, PLACE_OF(uint64_t, NUMBERS), PLACE_OF(float, COORDINATES), BYTES(BUFFER))
 CALL(add_seat, L_CONTROL, with.given, BYTES(TEXT), with.mask, L_OUT, PLACE_OF(uint64_t, VALUE))
 CALL(add_device, L_CONTROL, with.seat, with.given, BYTES(TEXT), with.device_type, with.mask, L_OUT,
@@ -253,7 +260,7 @@ enum {
  * The calls. `good` is what each answers on the session with two devices that session_make makes, `writes` how many
  * bytes it then writes to out (next_request: to its buffer), by the table of records in docs/REFERENCE.md: a seat or a
  * device with a name of 20 bytes and seven capabilities, a seat with one device of seven interfaces. `told` are the
- * numbers that it tells.
+ * numbers that it tells; the value of a read is how many were accepted. What it writes, its first record writes.
  */
 enum { TELLS_COUNT = 1, TELLS_VALUE = 2, TELLS_TWO = 4 };
 
@@ -302,6 +309,7 @@ static const call calls[] = {
     ROW(connection_disconnect, M_ROWS, 0, 0, 0),
     ROW(pingpong_done, M_CONTROL, 0, 0, 0),
     ROW(unexpected_handshake, M_CONTROL, BOZTERRUN_UNEXPECTED_HANDSHAKE_EVENT, 0, 0),
+    ROW(handle_requests, M_SESSION, 0, 18, TELLS_COUNT | TELLS_VALUE | TELLS_TWO),
     ROW(next_request, M_SESSION, 0, 20, 0),
     ROW(add_seat, M_CONTROL, 0, 22 + 30 + 7 * 19 + 10, TELLS_COUNT | TELLS_VALUE),
     ROW(add_device, M_CONTROL, 0, 22 + 30 + 14 + 7 * 23 + 10, TELLS_COUNT | TELLS_VALUE),
@@ -327,6 +335,8 @@ static const char text_usual[] = "01234567890123456789";
 /* A handshake that knows every interface; neither name nor context type was said. */
 static bozterrun_handshake handshake_image;
 static bozterrun_session session_image;
+static bozterrun_record records_image[READ_RECORDS];
+static bozterrun_point points_image[READ_RECORDS];
 
 static void must(const char *what, uint32_t answer)
 {
@@ -379,6 +389,15 @@ static void session_make(unsigned devices, unsigned place)
                             .device_type = BOZTERRUN_DEVICE_TYPE_PHYSICAL, .reason = BOZTERRUN_REASON_PROTOCOL,
                             .given = 1, .opcode = BOZTERRUN_OPCODE_NAME, .version = 2, .touch = 9};
     with = good;
+    bozterrun_read read;
+    bz_read_begin(&read, records_image, points_image, READ_RECORDS, NULL, 0);
+    bz_read_connection_sync(&read, 9, 1);
+    bz_read_keyboard_key(&read, interface_of(2), 30, BOZTERRUN_PRESS);
+    bz_read_text_utf8(&read, interface_of(6), NULL, 0);
+    records_image[READ_TEXT].start = 3;
+    records_image[READ_TEXT].length = 5;
+    slices[RECORDS].image = records_image;
+    slices[POINTS].image = points_image;
     slices[HANDSHAKE].image = handshake_image.words;
     slices[NAME].image = handshake_image.name;
     slices[CONTROL].image = s->control;

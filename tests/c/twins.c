@@ -1,6 +1,6 @@
 /*
- * twins SEED LENGTH: a session of 40 rounds over every timed request, which is the same for every SEED but for its
- * payload. It prints every answer without the payload, so two seeds must print the same.
+ * twins SEED LENGTH: a session of 40 rounds over every timed request, one by one and then in a read, which is the same
+ * for every SEED but for its payload. It prints every answer without the payload, so two seeds must print the same.
  *
  * Payload is what docs/PROMISES.md and model/specs/Payload have for it: keys, buttons, keysyms and their states,
  * coordinates, amounts, the axes of a stop, and the bytes of a text. Texts have LENGTH bytes (1 to 254); those of an
@@ -67,6 +67,36 @@ static void send_round(unsigned round, const char *makeup, size_t length)
     tell("frame", bz_device_frame(s, device, 7, 1000 + round));
 }
 
+/* The same again in a read, but for the cancel: the touch of the round before goes up. */
+static void read_round(unsigned round, const char *makeup, size_t length)
+{
+    static bozterrun_record records[16];
+    static bozterrun_point points[16];
+    static uint8_t texts[BOZTERRUN_NAME_LENGTH];
+    bozterrun_read r;
+    uint8_t text[BOZTERRUN_NAME_LENGTH];
+    size_t accepted, written;
+    const float x = random_real();
+    bz_read_begin(&r, records, points, 16, texts, sizeof texts);
+    bz_read_keyboard_key(&r, device + 3, random_32(), random_state_of_press());
+    bz_read_button_button(&r, device + 6, random_32(), random_state_of_press());
+    bz_read_pointer_motion_relative(&r, device + 1, x, random_real());
+    bz_read_pointer_absolute_motion_absolute(&r, device + 2, random_real(), x);
+    bz_read_scroll_scroll(&r, device + 5, x, random_real());
+    bz_read_scroll_scroll_discrete(&r, device + 5, (int32_t)random_32(), (int32_t)random_32());
+    bz_read_scroll_scroll_stop(&r, device + 5, (uint32_t)below(3), (uint32_t)below(3), round % 2);
+    bz_read_text_keysym(&r, device + 7, random_32(), random_state_of_press());
+    bz_read_touchscreen_down(&r, device + 4, 50 + round, x, random_real());
+    bz_read_touchscreen_motion(&r, device + 4, 50 + round, random_real(), x);
+    bz_read_touchscreen_up(&r, device + 4, 49 + round);
+    fill_text(text, length, makeup);
+    bz_read_text_utf8(&r, device + 7, text, length);
+    bz_read_connection_sync(&r, round, 1);
+    bz_read_device_frame(&r, device, 7, 2000 + round);
+    tell("read", bz_handle_requests(&session, &r, 5, out, sizeof out, &accepted, &written, NULL, NULL));
+    printf("accepted %zu, %zu bytes\n", accepted, written);
+}
+
 /* What is given, but for its payload. */
 static void take_round(void)
 {
@@ -97,7 +127,10 @@ int main(int count, char **words)
     random_state = seed;
     device = begin_session(1, 127);
     for (unsigned round = 0; round < 40; round++) {
-        send_round(round, seed % 2 == 0 ? "ascii" : "mixed", length);
+        const char *const makeup = seed % 2 == 0 ? "ascii" : "mixed";
+        send_round(round, makeup, length);
+        take_round();
+        read_round(round, makeup, length);
         take_round();
         tell("last_serial", bz_last_serial(&session, &serial));
         printf("serial %" PRIu64 "\n", serial);
