@@ -7,20 +7,6 @@ use session::REALS_LENGTH;
 use session::TEXTS_LENGTH;
 use session::WORDS_LENGTH;
 
-// The number that a word is: at most nine digits count.
-fn number(word: &[u8], n: usize) -> u64 {
-    let mut total: u64 = 0;
-    let mut i: usize = 0;
-    while i < word.len() {
-        if n <= i || 8 < i {
-            return total;
-        }
-        total = 10 * (total % 1000000000) + (word[i] % 16) as u64;
-        i += 1;
-    }
-    total
-}
-
 fn tell(given: u64) {
     io::print_decimal(STDOUT_FILENO, given);
     io::write_all(STDOUT_FILENO, b"\n");
@@ -35,7 +21,7 @@ fn main() {
     let mut count = [0u8; 16];
     os::arg(1, &mut word);
     let m = os::arg(2, &mut count);
-    let times = number(&count, m);
+    let times = bench_calls::number(&count, m);
     tell(turns::run(
         &mut control,
         &mut words,

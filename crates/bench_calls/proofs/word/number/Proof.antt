@@ -1,7 +1,7 @@
--- `bench::number` is safe and ends: a remainder keeps the number from growing too large. Assumes nothing.
+-- `bench_calls::word::number` is safe and ends: a remainder keeps the number from growing too large. Assumes nothing.
 use Prim.Native.Nat.{_≤_, _-_}
-use Rattle.bench.proofs.number.Statement.{statement}
-use Rattle.bench.proofs.number.Tie as tie
+use Rattle.bench_calls.proofs.word.number.Statement.{statement}
+use Rattle.bench_calls.proofs.word.number.Tie as tie
 use borrow.Author.Needs.{needs}
 use lib.ListN.{length}
 
