@@ -1,8 +1,8 @@
 -- What an exported function tells: an answer that the module's own call promises, as numbers. Assumes nothing.
 use Prim.Native.Nat.{ℕ, _≤_}
 use mathlib.Core.Path.{_≡_}
-use mathlib.Core.Bool.{cond}
-use mathlib.Core.List.{List, []}
+use mathlib.Core.Bool.{Bool, cond}
+use mathlib.Core.List.{List, [], map}
 use mathlib.Core.Option.{Option}
 use denote.Ref.{RefT}
 use denote.Triple.Both.{Both}
@@ -16,6 +16,9 @@ use Rattle.answers.specs.declared.Answer.{Answer}
 use Rattle.client_calls.specs.Request.{AsksRows}
 use Rattle.reads.specs.declared.First.{First}
 use Rattle.reads.specs.declared.ReadAnswer.{ReadAnswer}
+use Rattle.reads.specs.Record.{entryOf}
+use Rattle.reads.specs.Handed.{HandsOver}
+use Rattle.lent_read.specs.Numbers.{recordsIn, areRequests}
 use Rattle.bozterrun.specs.declared.answer.RefusedVersion.{RefusedVersion}
 
 -- ---- numbers
@@ -140,6 +143,15 @@ Unsent c out count value = Kept c × (Kept out × ((count .exit .now ≡ 0) × (
 
 abbrev pub UnsentRows : (control words : Numbers) (reals : Reals) (out : Numbers) (count : Number) → Type 0
 UnsentRows c w r out count = KeptRows c w r × (Kept out × (count .exit .now ≡ 0))
+
+-- whether the two slices of a read hold whole records and each is a request's
+abbrev pub ofRequests : (records : Numbers) (points : Reals) → Bool
+ofRequests records points = areRequests (records .entry .now) (points .entry .now)
+
+-- a whole read of the records that the two slices hold, with the texts lent beside them
+abbrev pub ReadsIn : (control words : Numbers) (reals : Reals) (texts records : Numbers) (points : Reals) (lent : Numbers) (clock : ℕ) (out : Numbers) → ReadAnswer → Type 0
+ReadsIn c w r t records points lent clock out a =
+    HandsOver c w r t out (map (entryOf (lent .entry .now)) (recordsIn (records .entry .now) (points .entry .now))) clock a
 
 -- of a whole read nothing is tried
 abbrev pub Unread : (control words : Numbers) (reals : Reals) (texts out : Numbers) (accepted count interface version : Number) → Type 0

@@ -3,11 +3,7 @@ use crate::answer;
 use crate::answer::BAD_ARGUMENT;
 ghost use mathlib.Core.Path.{_≡_};
 ghost use mathlib.Core.Bool.{true, false};
-ghost use mathlib.Core.List.{map};
-ghost use Rattle.reads.specs.Record.{entryOf};
-ghost use Rattle.reads.specs.Handed.{HandsOver};
-ghost use Rattle.lent_read.specs.Numbers.{recordsIn, areRequests};
-ghost use Rattle.bozterrun.specs.Reply.{badArgument, ToldRead, Unread};
+ghost use Rattle.bozterrun.specs.Reply.{badArgument, ofRequests, ReadsIn, ToldRead, Unread};
 
 // Each record is eight words and two reals. Refusal 2 tells the interface and the version.
 #[no_mangle]
@@ -26,8 +22,8 @@ pub extern "C" fn bozterrun_handle_requests(
     refused_interface: &mut u32,
     refused_version: &mut u32,
 ) -> u32
-    ensures { λ r. ⌜ (areRequests (now (records .entry)) (now (points .entry)) ≡ true → ToldRead (HandsOver control words reals texts out (map (entryOf (now (lent .entry))) (recordsIn (now (records .entry)) (now (points .entry)))) clock) r accepted count «refused_interface» «refused_version») ⌝ }
-    ensures { λ r. ⌜ (areRequests (now (records .entry)) (now (points .entry)) ≡ false → (r ≡ badArgument) × Unread control words reals texts out accepted count «refused_interface» «refused_version») ⌝ }
+    ensures { λ r. ⌜ (ofRequests records points ≡ true → ToldRead (ReadsIn control words reals texts records points lent clock out) r accepted count «refused_interface» «refused_version») ⌝ }
+    ensures { λ r. ⌜ (ofRequests records points ≡ false → (r ≡ badArgument) × Unread control words reals texts out accepted count «refused_interface» «refused_version») ⌝ }
 {
     if !lent_read::are_requests(records, points) {
         *accepted = 0;
