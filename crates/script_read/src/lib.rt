@@ -16,10 +16,9 @@ use script_run::Why;
 ghost use mathlib.Core.Path.{_≡_};
 ghost use mathlib.Core.List.{[], _∷_, _++_};
 ghost use Prim.Native.Nat.{_+_, _≤_, _<_};
-ghost use Rattle.session.specs.Slices.{before, after};
 ghost use Rattle.lent_read.specs.Numbers.{recordCount};
-ghost use Rattle.script_read.specs.Read.{noRead, opened, onward, gathered, textsOf, Fits, ending, handed, asRecord, closing};
-ghost use Rattle.script_read.specs.Read.{HandsIn, Settles, Begins, Opens, GoesOn, Takes};
+ghost use Rattle.script_read.specs.Read.{noRead, onward, gathered, Fits, ending, handed, asRecord, closing};
+ghost use Rattle.script_read.specs.Read.{HandsLent, SettlesLent, BeginsLent, OpensLent, GoesOnLent, TakesLent};
 
 // How many lines of a read are still to come, 0 where none is open; how many records stand in the slices; and how long its texts are.
 pub struct Reading {
@@ -83,7 +82,7 @@ fn hand_over(
     out: &mut [u8],
 ) -> ReadAnswer
     requires { ⌜ Fits reading (now records) (now points) (now lent) ⌝ }
-    ensures { λ r. ⌜ HandsIn run (gathered reading (now (records .entry)) (now (points .entry))) (textsOf reading (now (lent .entry))) (before control words reals texts) (after control words reals texts) (now (out .entry)) (now (out .exit)) r ⌝ }
+    ensures { λ r. ⌜ HandsLent run reading control words reals texts records points lent out r ⌝ }
 {
     let from: usize = 0;
     let w = reading.held * record::RECORD_WORDS;
@@ -117,7 +116,7 @@ fn settle(
     out: &mut [u8],
 ) -> Taken
     requires { ⌜ Fits reading (now records) (now points) (now lent) ⌝ }
-    ensures { λ r. ⌜ Settles run reading (gathered reading (now (records .entry)) (now (points .entry))) (textsOf reading (now (lent .entry))) (before control words reals texts) (after control words reals texts) (now (out .entry)) (now (out .exit)) r ⌝ }
+    ensures { λ r. ⌜ SettlesLent run reading control words reals texts records points lent out r ⌝ }
 {
     if reading.left == 0 {
         let a = hand_over(
@@ -192,7 +191,7 @@ fn go_on(
     out: &mut [u8],
 ) -> Taken
     requires { ⌜ (0 < reading .left) × Fits reading (now records) (now points) (now lent) ⌝ }
-    ensures { λ r. ⌜ GoesOn run reading cut (now (line .entry)) (before control words reals texts) (after control words reals texts) (now (out .entry)) (now (out .exit)) (now (records .entry)) (now (records .exit)) (now (points .entry)) (now (points .exit)) (now (lent .entry)) r ⌝ }
+    ensures { λ r. ⌜ GoesOnLent run reading cut line control words reals texts records points lent out r ⌝ }
 {
     let here = script_run::counted(run);
     match script_run::record_in(line, cut) {
@@ -246,7 +245,7 @@ fn begin(
     line: &[u8],
     out: &mut [u8],
 ) -> Taken
-    ensures { λ r. ⌜ Begins run count (now (line .entry)) (before control words reals texts) (after control words reals texts) (now (out .entry)) (now (out .exit)) (now (records .entry)) (now (points .entry)) (now (lent .entry)) (now (lent .exit)) r ⌝ }
+    ensures { λ r. ⌜ BeginsLent run count line control words reals texts records points lent out r ⌝ }
 {
     let left = count as usize;
     if lent_read::record_count(records, points) < left {
@@ -288,7 +287,7 @@ fn open(
     cut: bool,
     out: &mut [u8],
 ) -> Taken
-    ensures { λ r. ⌜ Opens run cut (now (line .entry)) (before control words reals texts) (after control words reals texts) (now (out .entry)) (now (out .exit)) (now (records .entry)) (now (points .entry)) (now (lent .entry)) (now (lent .exit)) r ⌝ }
+    ensures { λ r. ⌜ OpensLent run cut line control words reals texts records points lent out r ⌝ }
 {
     let took = script_run::take(run, control, words, reals, texts, line, cut, out);
     let told = took.told;
@@ -330,7 +329,7 @@ pub fn take(
     out: &mut [u8],
 ) -> Taken
     requires { ⌜ Fits reading (now records) (now points) (now lent) ⌝ }
-    ensures { λ r. ⌜ Takes run reading cut (now (line .entry)) (before control words reals texts) (after control words reals texts) (now (out .entry)) (now (out .exit)) (now (records .entry)) (now (records .exit)) (now (points .entry)) (now (points .exit)) (now (lent .entry)) (now (lent .exit)) r ⌝ }
+    ensures { λ r. ⌜ TakesLent run reading cut line control words reals texts records points lent out r ⌝ }
 {
     if reading.left == 0 {
         return open(
