@@ -1,7 +1,7 @@
 -- Stores into the control words, as changes of what they mean. Assumes nothing.
 use Prim.Native.Nat.{ℕ, _+_, _%_, _^_, _≤_, _<_}
 use mathlib.Core.Path.{_≡_, refl, ap, ap₂, sym, _∙_}
-use mathlib.Core.Bool.{false, cond}
+use mathlib.Core.Bool.{Bool, true, false, not, cond}
 use mathlib.Core.List.{List, [], _∷_, _++_}
 use native.Mathlib.Omega.{arith}
 use lib.Dec.{eqb}
@@ -10,14 +10,14 @@ use lib.Seq.{getD-set-same, getD-set-other}
 use Rattle.eiproto.specs.Bits.{bit, common}
 use Rattle.eiproto.proofs.Bits.{common-self}
 use Rattle.model.specs.Session.{Interface}
-use Rattle.model.specs.Edit.{connectionWith, interfacesWithout}
+use Rattle.model.specs.Edit.{connectionWith, objectsWith, interfacesWithout}
 use Rattle.touches.specs.Touches.{touchesLimit}
 use Rattle.control.specs.Table.{tab}
-use Rattle.control.specs.Control.{seatsLimit, devicesLimit, pendingLimit, queueLimit, seatWords, versionPlace, seatPlace, devicePlace, seatCount, deviceCount, deviceWord, capabilitiesAt, listedAt, seatAt, connectionOf, interfacesOn, coreAt}
+use Rattle.control.specs.Control.{seatsLimit, devicesLimit, pendingLimit, queueLimit, seatWords, peerPlace, gonePlace, versionPlace, seatPlace, devicePlace, seatCount, deviceCount, deviceWord, capabilitiesAt, listedAt, seatAt, connectionOf, interfacesOn, coreAt}
 use Rattle.control.specs.Sound.{Sound}
 use Rattle.control.proofs.Tables.{case-eq, tab-ext, tab-push}
-use Rattle.control.specs.Change.{Reconnected, Amended, Appended, Requeued, newCore, withPending, withInterfaces, withSeats, withSerial, withNextId}
-use Rattle.control.proofs.Views.{seat-ext, seats-ext, connection-with, reconnected, amended, appended, requeued}
+use Rattle.control.specs.Change.{Reconnected, Amended, Appended, Requeued, newCore, withPending, withInterfaces, withSeats, withSerial, withNextId, withPeer, ended}
+use Rattle.control.proofs.Views.{seat-ext, versions-ext, seats-ext, connection-with, reconnected, amended, appended, requeued}
 use Rattle.control.proofs.Unlisted.{clear, unlisted-bit, shared-bit}
 
 -- the first n values of v now stand at i and after; no other word changed
@@ -59,7 +59,7 @@ module _ (c : List ℕ) (ok : Sound c) where
     word-set s n not is at =
         reconnected c (set c p v) (connectionWith (connectionOf c .seats) s n (connectionOf c)) ok (length-set c p v ∙ ok .long)
         (omega (arith, ok .seats, rest 3 (λ z. omega arith))) (λ j a b. rest j (λ z. omega arith)) (λ j a. rest j (λ z. omega arith))
-        (connection-with c (set c p v) (connectionOf c .seats) s n (rest 0 (λ z. not (omega arith))) (λ i l. rest (versionPlace i) (λ z. omega arith)) seats-same is at)
+        (connection-with c (set c p v) (connectionOf c .seats) s n (rest 0 (λ z. not (omega arith))) (λ i l. rest (versionPlace i) (λ z. omega arith)) (rest peerPlace (λ z. omega arith)) (rest gonePlace (λ z. omega arith)) seats-same is at)
 
   pub serial-set : (serial v : ℕ) → serial < 2 ^ 32 → v ≡ serial → Reconnected c (set c 1 v) (withSerial serial (connectionOf c))
   unfolding connectionOf
@@ -72,6 +72,40 @@ module _ (c : List ℕ) (ok : Sound c) where
   next-set id =
       word-set 2 id (omega arith) (connectionOf c .lastSerial) id (λ z. omega arith)
       (ap (λ (x : ℕ). x % 2 ^ 32) (rest 2 id (omega arith) 1 (λ z. omega arith))) (getD-set-same c 2 id 0 (omega (arith, ok .long)))
+
+  -- a word of what is known of the objects set
+  module _ (p v : ℕ) (low : (j : ℕ) → j < peerPlace → j ≡ p → ⊥) (aside : (j : ℕ) → versionPlace 0 ≤ j → j < seatPlace seatsLimit → j ≡ p → ⊥)
+      (high : (j : ℕ) → devicePlace 0 ≤ j → j ≡ p → ⊥) where
+    off : (j : ℕ) → (j ≡ p → ⊥) → getD (set c p v) j 0 ≡ getD c j 0
+    off j n = getD-set-other c p j v 0 n
+
+    objects-set : (id : ℕ) (gone : Bool) → getD (set c p v) peerPlace 0 ≡ id → not (eqb (getD (set c p v) gonePlace 0) 0) ≡ gone
+        → Reconnected c (set c p v) (objectsWith id gone (connectionOf c))
+    unfolding connectionOf objectsWith
+    objects-set id gone peer is =
+        reconnected c (set c p v) (objectsWith id gone (connectionOf c)) ok (length-set c p v ∙ ok .long)
+        (omega (arith, ok .seats, off 3 (low 3 (omega arith)))) (λ j a b. off j (low j b)) (λ j a. off j (high j a))
+        (λ t. record {
+          id = off 0 (low 0 (omega arith)) t;
+          versions = versions-ext c (set c p v) (λ i l. off (versionPlace i) (aside (versionPlace i) (omega arith) (omega arith))) t;
+          seats = seats-ext c (set c p v) (ok .seats) (off 3 (low 3 (omega arith))) (λ j a b. off j (aside j (omega arith) b)) t;
+          lastSerial = off 1 (low 1 (omega arith)) t % 2 ^ 32;
+          nextId = off 2 (low 2 (omega arith)) t;
+          lastPeerId = peer t;
+          gone = is t;
+        })
+
+  pub peer-set : (id : ℕ) → Reconnected c (set c peerPlace id) (withPeer id (connectionOf c))
+  unfolding connectionOf
+  peer-set id =
+      objects-set peerPlace id (λ j l z. omega arith) (λ j a b z. omega arith) (λ j a z. omega arith) id (connectionOf c .gone)
+      (getD-set-same c peerPlace id 0 (omega (arith, ok .long))) (ap (λ (x : ℕ). not (eqb x 0)) (getD-set-other c peerPlace gonePlace id 0 (λ z. omega arith)))
+
+  pub gone-set : Reconnected c (set c gonePlace 1) (ended (connectionOf c))
+  unfolding connectionOf
+  gone-set =
+      objects-set gonePlace 1 (λ j l z. omega arith) (λ j a b z. omega arith) (λ j a z. omega arith) (connectionOf c .lastPeerId) true
+      (getD-set-other c gonePlace peerPlace 1 0 (λ z. omega arith)) (ap (λ (x : ℕ). not (eqb x 0)) (getD-set-same c gonePlace 1 0 (omega (arith, ok .long))))
 
   pub queue-set : (head queued : ℕ) → head < queueLimit → queued ≤ queueLimit → Requeued c (set (set c 5 head) 6 queued) head queued
   queue-set head queued h q =
@@ -110,6 +144,7 @@ module _ (c d : List ℕ) (ok : Sound c) (id caps : ℕ) (room : seatCount c < s
       (λ j a. seat-off j (λ z. omega arith) (λ p q. omega arith))
       (connection-with c seated (tab (seatCount c) (seatAt c) ++ (record { id = id; capabilities = caps % 128 } ∷ [])) (getD c 1 0 % 2 ^ 32) (getD c 2 0)
       (seat-off 0 (λ z. omega arith) (λ p q. omega arith)) (λ i l. seat-off (versionPlace i) (λ z. omega arith) (λ p q. omega arith))
+      (seat-off peerPlace (λ z. omega arith) (λ p q. omega arith)) (seat-off gonePlace (λ z. omega arith) (λ p q. omega arith))
       (tab-push (seatCount c) (seatCount seated) (seatAt c) (seatAt seated) (record { id = id; capabilities = caps % 128 }) seat-count seat-here
       (λ j l. seat-ext c seated j j (λ f q. seat-off (seatPlace j + f) (λ z. omega arith) (λ p r. omega arith))))
       (ap (λ (x : ℕ). x % 2 ^ 32) (seat-off 1 (λ z. omega arith) (λ p q. omega arith))) (seat-off 2 (λ z. omega arith) (λ p q. omega arith)))

@@ -9,7 +9,7 @@ use lib.ListN.{length, getD, set, length-set}
 use lib.Seq.{getD-set-same, getD-set-other}
 use Rattle.touches.specs.Touches.{touchesLimit}
 use Rattle.control.specs.Table.{tab, cutAt}
-use Rattle.control.specs.Control.{devicesLimit, pendingLimit, seatWords, deviceWords, versionPlace, seatPlace, devicePlace, seatCount, deviceCount, deviceWord, seatAt, connectionOf}
+use Rattle.control.specs.Control.{devicesLimit, pendingLimit, seatWords, deviceWords, peerPlace, gonePlace, versionPlace, seatPlace, devicePlace, seatCount, deviceCount, deviceWord, seatAt, connectionOf}
 use Rattle.control.specs.Sound.{Sound}
 use Rattle.control.proofs.Tables.{tab-cut}
 use Rattle.control.specs.Shift.{valueAt, Shifted}
@@ -43,6 +43,7 @@ module _ (c d : List ℕ) (ok : Sound c) (long : length d ≡ length c) (k m : �
       (λ j a. seat-off j (λ z. omega arith) (λ p q. omega (arith, ok .seats)))
       (connection-with c fewer (cutAt k (tab (seatCount c) (seatAt c))) (getD c 1 0 % 2 ^ 32) (getD c 2 0)
       (seat-off 0 (λ z. omega arith) (λ p q. omega arith)) (λ i l. seat-off (versionPlace i) (λ z. omega arith) (λ p q. omega arith))
+      (seat-off peerPlace (λ z. omega arith) (λ p q. omega arith)) (seat-off gonePlace (λ z. omega arith) (λ p q. omega (arith, ok .seats)))
       (tab-cut (seatCount c) (seatCount fewer) k (seatAt c) (seatAt fewer) (omega (arith, seat-count)) (omega arith)
       (λ j l. seat-ext c fewer j j (λ f q. seat-off (seatPlace j + f) (λ z. omega arith) (λ p r. omega arith))) seat-behind)
       (ap (λ (x : ℕ). x % 2 ^ 32) (seat-off 1 (λ z. omega arith) (λ p q. omega arith))) (seat-off 2 (λ z. omega arith) (λ p q. omega arith)))

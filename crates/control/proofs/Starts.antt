@@ -1,15 +1,17 @@
 -- A fresh session's words, and its versions. Assumes nothing.
 use Prim.Native.Nat.{ℕ, _+_, _-_, _%_, _^_, _≤_, _<_}
 use mathlib.Core.Path.{_≡_, ap, _∙_}
+use mathlib.Core.Bool.{not}
 use mathlib.Core.List.{List, [], _∷_}
 use mathlib.Core.Option.{none, some}
 use native.Mathlib.Omega.{arith}
 use borrow.Author.Tests.{ne-eqb}
+use lib.Dec.{eqb}
 use lib.ListN.{length, getD, set, length-set}
 use lib.Seq.{getD-set-same, getD-set-other}
 use Rattle.model.specs.Session.{fresh}
 use Rattle.control.specs.Table.{tab}
-use Rattle.control.specs.Control.{versionPlace, controlLength, versionIn, versionsOf, seatAt, connectionOf}
+use Rattle.control.specs.Control.{peerPlace, gonePlace, versionPlace, controlLength, versionIn, versionsOf, seatAt, connectionOf}
 use Rattle.control.specs.Sound.{Sound}
 use Rattle.control.proofs.Tables.{tab-ext, tab-set}
 use Rattle.control.specs.Change.{Reconnected, Fresh, withVersions}
@@ -38,6 +40,8 @@ version-set c ok p v w h small is =
       seats = seats-ext c e (ok .seats) (off 3 (λ z. omega arith)) (λ j a b. off j (λ z. omega arith)) t;
       lastSerial = off 1 (λ z. omega arith) t % 2 ^ 32;
       nextId = off 2 (λ z. omega arith) t;
+      lastPeerId = off peerPlace (λ z. omega arith) t;
+      gone = not (eqb (off gonePlace (λ z. omega arith) t) 0);
     })
 
 -- three words written to a slice of zeros
@@ -58,6 +62,8 @@ module _ (c e : List ℕ) (long : length c ≡ controlLength) (blank : (j : ℕ)
               seats = tab (zero-at 3 (omega arith) (omega arith) t) (seatAt e);
               lastSerial = (let z : getD e 1 0 % 2 ^ 32 ≡ serial = omega (arith, w .here 1 (omega arith)) in z) t;
               nextId = w .here 2 (omega arith) t;
+              lastPeerId = zero-at peerPlace (omega arith) (omega arith) t;
+              gone = not (eqb (zero-at gonePlace (omega arith) (omega arith) t) 0);
             };
         devices = zero-at 4 (omega arith) (omega arith);
         queued = zero-at 6 (omega arith) (omega arith);

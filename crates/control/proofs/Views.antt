@@ -1,16 +1,18 @@
 -- The views depend on their own words only, and each kind of change on few. Assumes nothing.
 use Prim.Native.Nat.{ℕ, _+_, _%_, _^_, _≤_, _<_}
 use mathlib.Core.Path.{_≡_, ap, _∙_}
+use mathlib.Core.Bool.{not}
 use mathlib.Core.List.{List}
 use native.Mathlib.Omega.{arith}
 use borrow.Author.Count.{below-more}
+use lib.Dec.{eqb}
 use lib.ListN.{length, getD, take}
 use Rattle.eiproto.specs.Bits.{common}
 use Rattle.model.specs.Session.{Seat, Connection}
 use Rattle.model.specs.Edit.{connectionWith}
 use Rattle.touches.specs.Touches.{touchesLimit}
 use Rattle.control.specs.Table.{tab}
-use Rattle.control.specs.Control.{seatsLimit, devicesLimit, pendingLimit, queueLimit, seatWords, deviceWords, versionPlace, seatPlace, devicePlace, controlLength, seatCount, deviceCount, queueHead, queueLength, deviceWord, pendingAt, heldAt, versionIn, seatAt, versionsOf, connectionOf, interfacesOn, Core, coreAt}
+use Rattle.control.specs.Control.{seatsLimit, devicesLimit, pendingLimit, queueLimit, seatWords, deviceWords, peerPlace, gonePlace, versionPlace, seatPlace, devicePlace, controlLength, seatCount, deviceCount, queueHead, queueLength, deviceWord, pendingAt, heldAt, versionIn, seatAt, versionsOf, connectionOf, interfacesOn, Core, coreAt}
 use Rattle.control.specs.Sound.{Sound}
 use Rattle.control.proofs.Tables.{case-eq, tab-ext, tab-same}
 use Rattle.control.specs.Change.{Reconnected, Amended, Appended, Requeued}
@@ -47,27 +49,31 @@ module _ (c e : List ℕ) where
   seats-ext l n h =
       tab-same (seatCount e) (seatCount c) (seatAt e) (seatAt c) n (λ j q. seat-ext j j (λ f r. h (seatPlace j + f) (omega arith) (omega arith)))
 
-  -- the id and the versions as they were
+  -- the id, the versions and what is known of the objects as they were
   pub connection-with : (ss : List Seat) (s n : ℕ) → getD e 0 0 ≡ getD c 0 0 → ((i : ℕ) → i < 12 → getD e (versionPlace i) 0 ≡ getD c (versionPlace i) 0)
+      → getD e peerPlace 0 ≡ getD c peerPlace 0 → getD e gonePlace 0 ≡ getD c gonePlace 0
       → tab (seatCount e) (seatAt e) ≡ ss → getD e 1 0 % 2 ^ 32 ≡ s → getD e 2 0 ≡ n → connectionOf e ≡ connectionWith ss s n (connectionOf c)
   unfolding connectionOf connectionWith
-  connection-with ss s n i v a b d = λ t. record { id = i t; versions = versions-ext v t; seats = a t; lastSerial = b t; nextId = d t }
+  connection-with ss s n i v p g a b d =
+      λ t. record { id = i t; versions = versions-ext v t; seats = a t; lastSerial = b t; nextId = d t; lastPeerId = p t; gone = not (eqb (g t) 0) }
 
-  pub connection-ext : seatCount c ≤ seatsLimit → ((j : ℕ) → j < 4 → getD e j 0 ≡ getD c j 0) → ((j : ℕ) → versionPlace 0 ≤ j → j < seatPlace seatsLimit → getD e j 0 ≡ getD c j 0)
+  pub connection-ext : seatCount c ≤ seatsLimit → ((j : ℕ) → j < 4 → getD e j 0 ≡ getD c j 0) → ((j : ℕ) → peerPlace ≤ j → j < devicePlace 0 → getD e j 0 ≡ getD c j 0)
       → connectionOf e ≡ connectionOf c
   unfolding connectionOf
   connection-ext l h r =
       λ t. record {
         id = h 0 (omega arith) t;
         versions = versions-ext (λ i q. r (versionPlace i) (omega arith) (omega arith)) t;
-        seats = seats-ext l (h 3 (omega arith)) (λ j p q. r j (omega arith) q) t;
+        seats = seats-ext l (h 3 (omega arith)) (λ j p q. r j (omega arith) (omega arith)) t;
         lastSerial = h 1 (omega arith) t % 2 ^ 32;
         nextId = h 2 (omega arith) t;
+        lastPeerId = r peerPlace (omega arith) (omega arith) t;
+        gone = not (eqb (r gonePlace (omega arith) (omega arith) t) 0);
       }
 
-  -- the words behind the seats as they were, and the counts
-  pub reconnected : (to : Connection) → Sound c → length e ≡ controlLength → seatCount e ≤ seatsLimit → ((j : ℕ) → 4 ≤ j → j < versionPlace 0 → getD e j 0 ≡ getD c j 0)
-      → ((j : ℕ) → seatPlace seatsLimit ≤ j → getD e j 0 ≡ getD c j 0) → connectionOf e ≡ to → Reconnected c e to
+  -- the words of the devices as they were, their count and the queue's place
+  pub reconnected : (to : Connection) → Sound c → length e ≡ controlLength → seatCount e ≤ seatsLimit → ((j : ℕ) → 4 ≤ j → j < peerPlace → getD e j 0 ≡ getD c j 0)
+      → ((j : ℕ) → devicePlace 0 ≤ j → getD e j 0 ≡ getD c j 0) → connectionOf e ≡ to → Reconnected c e to
   reconnected to ok long few low high is =
       record {
         connection = is;

@@ -1,11 +1,12 @@
 -- What each kind of change makes of the control words: c are the words before it, e those after it. Assumes nothing.
 use Prim.Native.Nat.{ℕ, suc, _+_, _≤_, _<_}
 use mathlib.Core.Path.{_≡_}
+use mathlib.Core.Bool.{true}
 use mathlib.Core.List.{List, []}
 use mathlib.Core.Option.{Option, none}
 use lib.ListN.{replicate}
 use Rattle.model.specs.Session.{Interface, Seat, Connection, fresh}
-use Rattle.model.specs.Edit.{connectionWith}
+use Rattle.model.specs.Edit.{connectionWith, objectsWith}
 use Rattle.control.specs.Control.{deviceCount, queueHead, queueLength, connectionOf, interfacesOn, Core, coreAt}
 use Rattle.control.specs.Sound.{Sound}
 
@@ -100,4 +101,11 @@ abbrev pub withNextId : ℕ → Connection → Connection
 withNextId id n = connectionWith (n .seats) (n .lastSerial) id n
 
 abbrev pub withVersions : List (Option ℕ) → Connection → Connection
-withVersions vs n = record { id = n .id; versions = vs; seats = n .seats; lastSerial = n .lastSerial; nextId = n .nextId }
+withVersions vs n =
+    record { id = n .id; versions = vs; seats = n .seats; lastSerial = n .lastSerial; nextId = n .nextId; lastPeerId = n .lastPeerId; gone = n .gone }
+
+abbrev pub withPeer : ℕ → Connection → Connection
+withPeer id n = objectsWith id (n .gone) n
+
+abbrev pub ended : Connection → Connection
+ended n = objectsWith (n .lastPeerId) true n

@@ -1,6 +1,6 @@
 -- What the control words of a session mean: connection, seats and devices, all but the requests. Every list of words means something. Assumes nothing.
 use Prim.Native.Nat.{ℕ, _+_, _-_, _*_, _%_, _^_}
-use mathlib.Core.Bool.{cond}
+use mathlib.Core.Bool.{not, cond}
 use mathlib.Core.List.{List, map}
 use mathlib.Core.Option.{Option, none, some}
 use lib.Dec.{eqb}
@@ -27,12 +27,19 @@ queueLimit = 256
 -- ---- the layout
 
 -- 0 the connection's id, 1 the last serial, 2 the next id, 3 the seats that stand, 4 the devices, 5 the place of the oldest queued request, 6 the queued requests,
--- 8 to 19 the versions, from 20 the rows of the seats, from 32 the rows of the devices. The words between are free
+-- 7 the last id that the client gave, 8 to 19 the versions, from 20 the rows of the seats, 28 whether the connection is gone (0 for no), from 32 the rows of the
+-- devices. The words between are free
 abbrev pub seatWords : ℕ
 seatWords = 2
 
 abbrev pub deviceWords : ℕ
 deviceWords = 24
+
+abbrev pub peerPlace : ℕ
+peerPlace = 7
+
+abbrev pub gonePlace : ℕ
+gonePlace = 28
 
 abbrev pub versionPlace : ℕ → ℕ
 versionPlace i = 8 + i
@@ -99,6 +106,8 @@ connectionOf c =
       seats = tab (seatCount c) (seatAt c);
       lastSerial = getD c 1 0 % 2 ^ 32;
       nextId = getD c 2 0;
+      lastPeerId = getD c peerPlace 0;
+      gone = not (eqb (getD c gonePlace 0) 0);
     }
 
 -- "a device's interface ids follow its own id in order of capability bits"

@@ -17,7 +17,7 @@ ghost use Rattle.touches.specs.Touches.{touchesLimit, held};
 ghost use Rattle.touches.specs.Changes.{Holds};
 ghost use Rattle.control.specs.Shift.{valueAt, Shifted};
 ghost use Rattle.control.specs.Change.{Reconnects, Amends, Appended, Removed, Requeued, Fresh};
-ghost use Rattle.control.specs.Change.{newCore, withPending, withTouches, withInterfaces, withSeats, withSerial, withNextId, withVersions};
+ghost use Rattle.control.specs.Change.{newCore, withPending, withTouches, withInterfaces, withSeats, withSerial, withNextId, withVersions, withPeer, ended};
 
 fn wide(x: u32) -> u64
     ensures { λ r. ⌜ (r ≡ x) × (r < 2 ^ 32) ⌝ }
@@ -37,6 +37,22 @@ pub fn set_next_id(control: &mut [u64], id: u64)
     ensures { λ _. ⌜ Reconnects (now (control .entry)) (now (control .exit)) (withNextId id) ⌝ }
 {
     control[layout::NEXT_ID] = id;
+}
+
+// An object that the client made: its id is the last that it gave.
+pub fn set_last_peer_id(control: &mut [u64], id: u64)
+    requires { ⌜ Sound (now control) ⌝ }
+    ensures { λ _. ⌜ Reconnects (now (control .entry)) (now (control .exit)) (withPeer id) ⌝ }
+{
+    control[layout::LAST_PEER_ID] = id;
+}
+
+// The connection's own object is destroyed.
+pub fn end_connection(control: &mut [u64])
+    requires { ⌜ Sound (now control) ⌝ }
+    ensures { λ _. ⌜ Reconnects (now (control .entry)) (now (control .exit)) ended ⌝ }
+{
+    control[layout::GONE] = 1;
 }
 
 pub fn set_queue(control: &mut [u64], head: usize, queued: usize)

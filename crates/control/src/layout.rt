@@ -15,6 +15,9 @@ pub const QUEUE_HEAD: usize = 5;
 
 pub const QUEUE_LENGTH: usize = 6;
 
+// The last id that the client gave to an object of its own.
+pub const LAST_PEER_ID: usize = 7;
+
 // The twelve versions, each one more than it is, 0 for none.
 pub const VERSIONS: usize = 8;
 
@@ -24,6 +27,9 @@ pub const SEATS: usize = 20;
 pub const SEAT_WORDS: usize = 2;
 
 pub const SEAT_CAPABILITIES: usize = 1;
+
+// Whether the connection's own object is destroyed: 0 for no.
+pub const GONE: usize = 28;
 
 // The rows of the devices: the id, and behind it these. The words behind the sixteen touches are free.
 pub const DEVICES: usize = 32;

@@ -123,6 +123,8 @@ module _ {P Q : Type 0} (f : P → Q) where
   enact-map (Edit.frame k serial time) p s = rw (at-map emptied emptied emptied-map k (s .devices)) (simp (map-append, framedAt-map))
   enact-map (Edit.queue r) p s = simp map-append
   enact-map Edit.deliver p s = simp rest-map
+  enact-map (Edit.peerObject id) p s = refl
+  enact-map Edit.endConnection p s = refl
 
   enactAll-map : (es : List Edit) (p : P) (s : Session P) → enactAll es (f p) (mapSession f s) ≡ mapSession f (enactAll es p s)
   unfolding enactAll
@@ -147,6 +149,8 @@ module _ {P Q : Type 0} (f : P → Q) where
   gave-map (Edit.frame k serial time) s = refl
   gave-map (Edit.queue r) s = refl
   gave-map Edit.deliver s = oldest-map (s .requests)
+  gave-map (Edit.peerObject id) s = refl
+  gave-map Edit.endConnection s = refl
 
   gaveAll-map : (es : List Edit) (p : P) (s : Session P) → gaveAll es (f p) (mapSession f s) ≡ map (mapQueued f) (gaveAll es p s)
   unfolding gaveAll

@@ -104,6 +104,8 @@ still (Edit.pend k sight) = true
 still (Edit.frame k serial time) = true
 still (Edit.queue r) = true
 still Edit.deliver = true
+still (Edit.peerObject id) = true
+still Edit.endConnection = true
 
 unfoldable allStill : List Edit → Bool
 unfolding still
@@ -193,6 +195,8 @@ module _ {P : Type 0} (x : ℕ) where
   edit-still (Edit.frame k serial time) p s h = rw (ids-at emptied (λ d. refl) k (s .devices))
   edit-still (Edit.queue r) p s h = refl
   edit-still Edit.deliver p s h = refl
+  edit-still (Edit.peerObject id) p s h = refl
+  edit-still Edit.endConnection p s h = refl
 
   edits-still : (es : List Edit) (p : P) (s : Session P) → allStill es ≡ true → alive (enactAll es p s) ≡ alive s
   unfolding allStill enactAll
@@ -357,6 +361,7 @@ module _ {P : Type 0} (x : ℕ) where
     leaf-adds (Leaf.pended {x = y} f amends e g t) = pend-adds f y t
     leaf-adds (Leaf.answered o m) = answer-adds o (modest-ids o m)
     leaf-adds (Leaf.synced callback) = calm _ refl refl refl
+    leaf-adds (Leaf.syncedMessage callback) = calm _ refl refl refl
     leaf-adds (Leaf.noted object event edits m h) = calm _ refl (rw (m _)) (noted-still h)
     leaf-adds (Leaf.released cap id f e) =
         record { sum = omega (arith, found-unlisted x cap id (s .devices) f (ok .bits) e) }
@@ -372,7 +377,7 @@ module _ {P : Type 0} (x : ℕ) where
         let last = destroyed (s .connection .lastSerial) os in
         record {
           sum = rw (destroyed-append last _, destroyed-is (s .connection .lastSerial) os, append-nil os)
-              (omega (arith, all-taken x (s .connection .seats) p (enact (Edit.raise (length os)) p s) refl (ok .ordered .seats)));
+              (omega (arith, all-taken x (s .connection .seats) p (enact Edit.endConnection p (enact (Edit.raise (length os)) p s)) refl (ok .ordered .seats)));
         }
     leaf-adds (Leaf.queued u) = calm _ refl refl refl
     leaf-adds (Leaf.flushed id f u e) = calm _ refl refl refl

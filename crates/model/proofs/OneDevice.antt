@@ -42,6 +42,8 @@ module _ {P : Type 0} (d : ℕ) where
   took (Edit.frame k serial time) p s = []
   took (Edit.queue r) p s = []
   took Edit.deliver p s = []
+  took (Edit.peerObject id) p s = []
+  took Edit.endConnection p s = []
 
   unfoldable pub tookAll : List Edit → P → Session P → List (Item P)
   unfolding took enact

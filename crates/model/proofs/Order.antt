@@ -169,6 +169,8 @@ module _ {P : Type 0} (d : ℕ) where
   edit-keeps (Edit.queue r) p s T G k =
       calm s T G k (enact (Edit.queue r) p s) (items-append d (s .requests) (Queued.untimed r ∷ []) ∙ append-nil (itemsOf d (s .requests))) refl refl (omega arith)
   edit-keeps Edit.deliver p s T G k = deliver s T G k
+  edit-keeps (Edit.peerObject id) p s T G k = calm s T G k (enact (Edit.peerObject id) p s) refl refl refl (omega arith)
+  edit-keeps Edit.endConnection p s T G k = calm s T G k (enact Edit.endConnection p s) refl refl refl (omega arith)
 
   pub edits-keep : (es : List Edit) (p : P) (s : Session P) (T G : List (Item P)) → Keeps s T G →
       Keeps (enactAll es p s) (T ++ tookAll d es p s) (G ++ itemsOf d (gaveAll es p s))

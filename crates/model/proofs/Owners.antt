@@ -114,6 +114,8 @@ module _ (d : ℕ) where
     edit-owned timed (Edit.frame k serial time) p s ms h o = others s _ ms (omega arith) o (all-at emptied (λ x w. w) k (o .told))
     edit-owned timed (Edit.queue r) p s ms h o = others s _ ms (omega arith) o (o .told)
     edit-owned timed Edit.deliver p s ms h o = others s _ ms (omega arith) o (o .told)
+    edit-owned timed (Edit.peerObject id) p s ms h o = others s _ ms (omega arith) o (o .told)
+    edit-owned timed Edit.endConnection p s ms h o = others s _ ms (omega arith) o (o .told)
 
     edits-owned : (timed : Bool) (es : List Edit) (p : P) (s : Session P) (ms : List MadeInterface) → allowsAll timed es ≡ true → Owned s ms → Owned (enactAll es p s) ms
     unfolding enactAll

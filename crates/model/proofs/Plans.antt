@@ -27,6 +27,8 @@ allows timed (Edit.pend k sight) = timed
 allows timed (Edit.frame k serial time) = true
 allows timed (Edit.queue r) = true
 allows timed Edit.deliver = true
+allows timed (Edit.peerObject id) = true
+allows timed Edit.endConnection = true
 
 unfoldable pub allowsAll : (timed : Bool) → List Edit → Bool
 unfolding allows
@@ -89,6 +91,7 @@ leaf-formed (Leaf.passed h) = answers Result.accepted
 leaf-formed (Leaf.pended {x = x} f amends e g t) = acts Result.accepted [] _ refl refl (pend-allowed amends f x)
 leaf-formed (Leaf.answered o m) = answers o
 leaf-formed (Leaf.synced callback) = acts Result.accepted _ _ refl refl refl
+leaf-formed (Leaf.syncedMessage callback) = acts Result.accepted _ _ refl refl refl
 leaf-formed (Leaf.noted object event edits m h) = acts Result.accepted _ _ refl refl (noted-allowed h)
 leaf-formed (Leaf.released cap id f e) = acts Result.accepted _ _ refl refl refl
 leaf-formed (Leaf.deviceGone id f e) = acts Result.accepted _ _ refl refl refl

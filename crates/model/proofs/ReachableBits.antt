@@ -61,6 +61,8 @@ module _ {P : Type 0} where
   edit-by-bit (Edit.frame k serial time) p s h = all-at emptied (λ d w. w) k h
   edit-by-bit (Edit.queue r) p s h = h
   edit-by-bit Edit.deliver p s h = h
+  edit-by-bit (Edit.peerObject id) p s h = h
+  edit-by-bit Edit.endConnection p s h = h
 
   pub edits-by-bit : (es : List Edit) (p : P) (s : Session P) → All ByBit (s .devices) → All ByBit (enactAll es p s .devices)
   unfolding enactAll

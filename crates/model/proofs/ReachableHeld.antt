@@ -29,6 +29,8 @@ quiet (Edit.pend k sight) = true
 quiet (Edit.frame k serial time) = true
 quiet (Edit.queue r) = true
 quiet Edit.deliver = true
+quiet (Edit.peerObject id) = true
+quiet Edit.endConnection = true
 
 unfoldable pub allQuiet : List Edit → Bool
 unfolding quiet
@@ -93,6 +95,8 @@ module _ {P : Type 0} where
   edit-held (Edit.frame k serial time) p s q h = held-at emptied (λ d. omega arith) k (s .devices) h
   edit-held (Edit.queue r) p s q h = h
   edit-held Edit.deliver p s q h = h
+  edit-held (Edit.peerObject id) p s q h = h
+  edit-held Edit.endConnection p s q h = h
 
   pub edits-held : (es : List Edit) (p : P) (s : Session P) → allQuiet es ≡ true → Held (s .devices) → Held (enactAll es p s .devices)
   unfolding enactAll allQuiet

@@ -120,6 +120,8 @@ module _ {P : Type 0} where
   edit-ordered (Edit.frame k serial time) p s o = at-ordered emptied (λ d. Sublistᴰ·refl (objectsOf d)) k (s .devices) o
   edit-ordered (Edit.queue r) p s o = o
   edit-ordered Edit.deliver p s o = o
+  edit-ordered (Edit.peerObject id) p s o = o
+  edit-ordered Edit.endConnection p s o = o
 
   pub edits-ordered : (es : List Edit) (p : P) (s : Session P) → Ordered s → Ordered (enactAll es p s)
   unfolding enactAll
@@ -139,6 +141,8 @@ module _ {P : Type 0} where
   edit-nextId (Edit.frame k serial time) p s = omega arith
   edit-nextId (Edit.queue r) p s = omega arith
   edit-nextId Edit.deliver p s = omega arith
+  edit-nextId (Edit.peerObject id) p s = omega arith
+  edit-nextId Edit.endConnection p s = omega arith
 
   pub edits-nextId : (es : List Edit) (p : P) (s : Session P) → s .connection .nextId ≤ enactAll es p s .connection .nextId
   unfolding enactAll

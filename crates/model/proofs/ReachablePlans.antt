@@ -116,6 +116,7 @@ module _ {P : Type 0} (s : Session P) (p : P) where
   leaf-fits (Leaf.pended {i = i} {x = x} f amends e g t) = pend-fits f x (found-touches (capabilityIndex (handler (x .kind) .capability)) i f e) t
   leaf-fits (Leaf.answered o m) = answer-fits o m
   leaf-fits (Leaf.synced callback) = fits-quiet _ refl refl
+  leaf-fits (Leaf.syncedMessage callback) = fits-quiet _ refl refl
   leaf-fits (Leaf.noted object event edits m h) = fits-quiet _ refl (noted-quiet h)
   leaf-fits (Leaf.released cap id f e) = fits-quiet _ refl refl
   leaf-fits (Leaf.deviceGone id f e) = fits-quiet _ refl refl

@@ -34,6 +34,7 @@ leaf-own (Leaf.passed h) = refl
 leaf-own (Leaf.pended f amends e g t) = refl
 leaf-own (Leaf.answered o m) = modest-own o m
 leaf-own (Leaf.synced callback) = refl
+leaf-own (Leaf.syncedMessage callback) = refl
 leaf-own (Leaf.noted object event edits m h) = refl
 leaf-own (Leaf.released cap id f e) = refl
 leaf-own (Leaf.deviceGone id f e) = refl

@@ -58,6 +58,8 @@ module _ {P : Type 0} (d : ℕ) where
   quiet-took (Edit.frame k serial time) p s h = refl
   quiet-took (Edit.queue r) p s h = refl
   quiet-took Edit.deliver p s h = refl
+  quiet-took (Edit.peerObject id) p s h = refl
+  quiet-took Edit.endConnection p s h = refl
 
   quiet-tookAll : (es : List Edit) (p : P) (s : Session P) → allowsAll false es ≡ true → tookAll d es p s ≡ []
   unfolding tookAll

@@ -1,4 +1,4 @@
--- THE WALK: every plan of `decide` is one of sixteen. What is to hold of every plan is shown of these, and the calls are gone over here and nowhere
+-- THE WALK: every plan of `decide` is one of seventeen. What is to hold of every plan is shown of these, and the calls are gone over here and nowhere
 -- else. Assumes nothing.
 use Prim.Native.Nat.{ℕ, _≤_, _<_}
 use mathlib.Core.Path.{_≡_, refl, ap}
@@ -21,7 +21,7 @@ use Rattle.model.specs.Call.{Sight, HandshakeRequest, Plain, Call}
 use Rattle.model.specs.Session.{Untimed, Queued, Seat, View}
 use Rattle.model.specs.Edit.{Amend, Edit}
 use Rattle.model.specs.Plan.{on, Result, Plan, answer, refuse, ignore, edit, send}
-use Rattle.model.specs.Decide.{Found, Rule, handler, deviceForInterface, deviceOf, seatOf, checkUtf8, checkName, checkOptional, checkCapabilities, onFound, sendNext, pendAfter, ifHeld, handle, handleTimed, handleHandshake, handleSync, handleSeat, handleDevice, handleFrame, handleRelease, handleSeatRelease, nextOf, seatAdded, addSeat, deviceAdded, addDevice, objectsOf, seatsObjects, sendDestroyed, removeDevice, retireSeat, removeSeat, removeSeats, farewell, disconnected, notify, negotiated, versionAnswer, decidePlain, decide}
+use Rattle.model.specs.Decide.{Found, Rule, handler, deviceForInterface, deviceOf, seatOf, checkUtf8, checkName, checkOptional, checkCapabilities, onFound, sendNext, pendAfter, ifHeld, handle, handleTimed, handleHandshake, handleSync, isPeerId, handleSyncMessage, handleSeat, handleDevice, handleFrame, handleRelease, handleSeatRelease, nextOf, seatAdded, addSeat, deviceAdded, addDevice, objectsOf, seatsObjects, sendDestroyed, removeDevice, retireSeat, removeSeat, removeSeats, farewell, disconnected, notify, negotiated, versionAnswer, decidePlain, decide}
 use Rattle.model.specs.Step.{refuses}
 use Rattle.model.specs.Refusals.{ofSession}
 use Rattle.model.specs.Demand3.{wantsHeld, ignoredOn, ignored}
@@ -62,6 +62,8 @@ pub data Leaf (v : View) (now : ℕ) : Call Sight → Plan → Type 0 where
   -- any other call: an answer and nothing else; events; requests queued; a request given; something new
   answered : {c : Plain} (o : Result) → modest o ≡ true → Leaf v now (Call.plain c) (answer o)
   synced : {c : Plain} (callback : ℕ) → Leaf v now (Call.plain c) (send (on callback (Event.CallbackDone 0) ∷ []) [])
+  syncedMessage : {c : Plain} (callback : ℕ) →
+      Leaf v now (Call.plain c) (send (on callback (Event.CallbackDone 0) ∷ []) (Edit.peerObject callback ∷ []))
   noted : {c : Plain} (object : ℕ) (event : ℕ → Event) (edits : List Edit) → Mild event → Noted edits →
       Leaf v now (Call.plain c) (sendNext v object event edits)
   released : {c : Plain} (cap id : ℕ) (f : Found) → deviceForInterface cap id v ≡ some f →
@@ -71,7 +73,7 @@ pub data Leaf (v : View) (now : ℕ) : Call Sight → Plan → Type 0 where
   seatGone : {c : Plain} (id : ℕ) (x : Seat) → seatOf id v ≡ some x → Leaf v now (Call.plain c) (retireSeat v id)
   allGone : {c : Plain} (reason : ℕ) (explanation : Option (List ℕ)) →
       Leaf v now (Call.plain c)
-      (send (farewell v reason explanation) (Edit.raise (length (seatsObjects (v .connection .seats) (v .devices))) ∷ removeSeats (v .connection .seats)))
+      (send (farewell v reason explanation) (Edit.raise (length (seatsObjects (v .connection .seats) (v .devices))) ∷ Edit.endConnection ∷ removeSeats (v .connection .seats)))
   queued : {c : Plain} (u : Untimed) → Leaf v now (Call.plain c) (edit (Edit.queue u ∷ []))
   flushed : {c : Plain} (id : ℕ) (f : Found) (u : Untimed) → deviceOf id v ≡ some f →
       Leaf v now (Call.plain c) (edit (Edit.frame (f .slot) (v .connection .lastSerial) now ∷ Edit.queue u ∷ []))
@@ -209,9 +211,11 @@ module _ {v : View} {now : ℕ} {c : Plain} where
   notify-leaf id event edits m h = onFound-leaf (deviceOf id v) (refuse-leaf 12 refl) λ f e. noted id event (edits (f .slot)) m (h (f .slot))
 
 plain-leaf : (v : View) (now : ℕ) (c : Plain) → Leaf v now (Call.plain c) (decidePlain v now c)
-unfolding decidePlain handleSync handleFrame handleRelease handleSeatRelease addSeat addDevice removeDevice removeSeat disconnected modest layout
+unfolding decidePlain handleSync handleSyncMessage handleFrame handleRelease handleSeatRelease addSeat addDevice removeDevice removeSeat disconnected modest layout
 plain-leaf v now (Plain.handshake r) = handshake-leaf r
 plain-leaf v now (Plain.sync callback ver) = cond-leaf (eqb ver 1) (synced callback) (answered (Result.refusedVersion eiCallback ver) refl)
+plain-leaf v now (Plain.syncMessage callback ver) =
+    cond-leaf (isPeerId v callback) (cond-leaf (eqb ver 1) (syncedMessage callback) (answered (Result.refusedVersion eiCallback ver) refl)) (refuse-leaf 25 refl)
 plain-leaf v now Plain.disconnect = queued Untimed.Disconnect
 plain-leaf v now Plain.pingpongDone = ignore-leaf
 plain-leaf v now (Plain.seatRelease seat) = onFound-leaf (seatOf seat v) ignore-leaf λ x e. seatGone seat x e

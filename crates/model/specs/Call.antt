@@ -106,6 +106,8 @@ pub data HandshakeRequest : Type 0 where
 pub data Plain : Type 0 where
   handshake : HandshakeRequest → Plain
   sync : (callback version : ℕ) → Plain
+  -- the same from the protocol's bytes, whose reader makes the callback's object
+  syncMessage : (callback version : ℕ) → Plain
   disconnect : Plain
   pingpongDone : Plain
   seatRelease : (seat : ℕ) → Plain

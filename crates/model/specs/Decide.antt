@@ -188,6 +188,18 @@ unfoldable pub handleSync : (callback version : ℕ) → Plan
 unfolding send answer
 handleSync callback ver = cond (eqb ver 1) (send (on callback (Event.CallbackDone 0) ∷ []) []) (answer (Result.refusedVersion eiCallback ver))
 
+-- "25 INVALID_ID, exactly when `new_peer_object` refuses": an id that is not above the last that the client gave, or one of the server's
+unfoldable pub isPeerId : View → ℕ → Bool
+isPeerId v id = ltb (v .connection .lastPeerId) id && ltb id 0xff00_0000_0000_0000
+
+-- Sync as a message: its object is made where the id is the client's to give, and "A callback whose version was refused is not kept."
+unfoldable pub handleSyncMessage : View → (callback version : ℕ) → Plan
+unfolding isPeerId refuse send answer
+handleSyncMessage v callback ver =
+    cond (isPeerId v callback)
+    (cond (eqb ver 1) (send (on callback (Event.CallbackDone 0) ∷ []) (Edit.peerObject callback ∷ [])) (answer (Result.refusedVersion eiCallback ver)))
+    (refuse 25)
+
 -- Bind and RequestDevice: "3 INVALID_CAPABILITIES: .. on a known seat with a bit above bit 6, or a bit not in the seat's set"
 unfoldable pub handleSeat : View → (seat capabilities : ℕ) → Untimed → Plan
 unfolding onFound seatOf contains edit refuse ignore
@@ -355,7 +367,7 @@ unfolding checkOptional send destroyed seatsObjects raised explained explanation
 disconnected v reason explanation =
     let c = v .connection in
     checkOptional explanation
-    (send (farewell v reason explanation) (Edit.raise (length (seatsObjects (c .seats) (v .devices))) ∷ removeSeats (c .seats)))
+    (send (farewell v reason explanation) (Edit.raise (length (seatsObjects (c .seats) (v .devices))) ∷ Edit.endConnection ∷ removeSeats (c .seats)))
 
 -- one event on a known device, with the next serial
 unfoldable pub notify : View → (device : ℕ) → (ℕ → Event) → (ℕ → List Edit) → Plan
@@ -373,9 +385,10 @@ lists cap (i ∷ is) = eqb (i .capability) cap || lists cap is
 -- ---- every call
 
 unfoldable pub decidePlain : View → (now : ℕ) → Plain → Plan
-unfolding handleHandshake handleSync handleSeat handleDevice handleFrame handleRelease nextOf addSeat addDevice removeDevice removeSeat handleSeatRelease disconnected notify edit ignore refuse answer checkUtf8 isSome negotiated lookup versionAnswer lists onFound deviceOf
+unfolding handleHandshake handleSync handleSyncMessage handleSeat handleDevice handleFrame handleRelease nextOf addSeat addDevice removeDevice removeSeat handleSeatRelease disconnected notify edit ignore refuse answer checkUtf8 isSome negotiated lookup versionAnswer lists onFound deviceOf
 decidePlain v now (Plain.handshake r) = handleHandshake r
 decidePlain v now (Plain.sync callback ver) = handleSync callback ver
+decidePlain v now (Plain.syncMessage callback ver) = handleSyncMessage v callback ver
 decidePlain v now Plain.disconnect = edit (Edit.queue Untimed.Disconnect ∷ [])
 -- "Pingpong Done does nothing."
 decidePlain v now Plain.pingpongDone = ignore

@@ -1,6 +1,6 @@
 -- The edits that a session changes by. Only `enact` and what it calls touch a payload. Assumes nothing.
 use Prim.Native.Nat.{ℕ, zero, suc, _+_, _%_}
-use mathlib.Core.Bool.{cond}
+use mathlib.Core.Bool.{Bool, true, cond}
 use mathlib.Core.List.{List, [], _∷_, _++_, map}
 use lib.Dec.{eqb}
 use lib.ListN.{length}
@@ -29,6 +29,10 @@ pub data Edit : Type 0 where
   frame : (slot lastSerial time : ℕ) → Edit
   queue : Untimed → Edit
   deliver : Edit
+  -- an object that the client made
+  peerObject : (id : ℕ) → Edit
+  -- the connection's own object destroyed
+  endConnection : Edit
 
 -- "The serial of an event is the last plus one, and after 4294967295 comes 0."
 unfoldable pub nextSerial : ℕ → ℕ
@@ -60,7 +64,13 @@ seatsWithout id (s ∷ ss) = cond (eqb (s .id) id) ss (s ∷ seatsWithout id ss)
 
 -- seats, last serial and next id changed, all else as it was
 unfoldable pub connectionWith : (seats : List Seat) (lastSerial nextId : ℕ) → Connection → Connection
-connectionWith ss s n c = record { id = c .id; versions = c .versions; seats = ss; lastSerial = s; nextId = n }
+connectionWith ss s n c =
+    record { id = c .id; versions = c .versions; seats = ss; lastSerial = s; nextId = n; lastPeerId = c .lastPeerId; gone = c .gone }
+
+-- the last id that the client gave and the connection's own object changed, all else as it was
+unfoldable pub objectsWith : (lastPeerId : ℕ) (gone : Bool) → Connection → Connection
+objectsWith p g c =
+    record { id = c .id; versions = c .versions; seats = c .seats; lastSerial = c .lastSerial; nextId = c .nextId; lastPeerId = p; gone = g }
 
 module _ {P : Type 0} where
   unfoldable pub deviceWith : (interfaces : List Interface) (downTouchIds : List ℕ) (pending : List (Item P)) → Device P → Device P
@@ -130,7 +140,7 @@ module _ {P : Type 0} where
 
   -- an edit, with the payload of the call
   unfoldable pub enact : Edit → P → Session P → Session P
-  unfolding connectionWith withConnection withDevices withRequests raised seatsWithout newDevice withoutSlot withoutSeat at amended item pended emptied framedAt rest
+  unfolding connectionWith objectsWith withConnection withDevices withRequests raised seatsWithout newDevice withoutSlot withoutSeat at amended item pended emptied framedAt rest
   enact (Edit.raise n) p s = withConnection (connectionWith (s .connection .seats) (raised n (s .connection .lastSerial)) (s .connection .nextId) (s .connection)) s
   enact (Edit.addSeat caps) p s =
       withConnection
@@ -154,6 +164,8 @@ module _ {P : Type 0} where
       record { connection = s .connection; devices = at emptied k (s .devices); requests = s .requests ++ framedAt k serial time (s .devices) }
   enact (Edit.queue r) p s = withRequests (s .requests ++ (Queued.untimed r ∷ [])) s
   enact Edit.deliver p s = withRequests (rest (s .requests)) s
+  enact (Edit.peerObject id) p s = withConnection (objectsWith id (s .connection .gone) (s .connection)) s
+  enact Edit.endConnection p s = withConnection (objectsWith (s .connection .lastPeerId) true (s .connection)) s
 
   -- edits, one after another
   unfoldable pub enactAll : List Edit → P → Session P → Session P

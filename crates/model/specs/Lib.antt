@@ -12,3 +12,4 @@ pub mod Reachable
 pub mod Kept
 pub mod Destroyed
 pub mod Trials
+pub mod Live

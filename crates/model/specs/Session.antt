@@ -1,5 +1,6 @@
 -- A session as the source holds it: lists of any length, ids for `Arc` and `Weak`. `P` is the payload of a request. Assumes nothing.
 use Prim.Native.Nat.{ℕ}
+use mathlib.Core.Bool.{Bool, false}
 use mathlib.Core.List.{List, [], map}
 use mathlib.Core.Option.{Option}
 use Rattle.model.specs.Call.{Kind}
@@ -52,6 +53,10 @@ pub record Connection : Type 0 where
   pub seats : List Seat
   pub lastSerial : ℕ
   pub nextId : ℕ
+  -- the last id that the client gave to an object of its own, 0 for none (`next_peer_id` of the source is one more)
+  pub lastPeerId : ℕ
+  -- whether `disconnected` was sent, the event that destroys the connection's own object
+  pub gone : Bool
 
 pub record Session (P : Type 0) : Type 0 where
   pub connection : Connection
@@ -61,7 +66,12 @@ pub record Session (P : Type 0) : Type 0 where
 
 -- a session as a successful Finish leaves it
 unfoldable pub fresh : {P : Type 0} → (connection serial nextId : ℕ) (versions : List (Option ℕ)) → Session P
-fresh c s n vs = record { connection = record { id = c; versions = vs; seats = []; lastSerial = s; nextId = n }; devices = []; requests = [] }
+fresh c s n vs =
+    record {
+      connection = record { id = c; versions = vs; seats = []; lastSerial = s; nextId = n; lastPeerId = 0; gone = false };
+      devices = [];
+      requests = [];
+    }
 
 -- another payload in the place of each
 module _ {P Q : Type 0} (f : P → Q) where

@@ -36,6 +36,8 @@ module _ {P : Type 0} where
   gave (Edit.frame k serial time) s = []
   gave (Edit.queue r) s = []
   gave Edit.deliver s = oldest (s .requests)
+  gave (Edit.peerObject id) s = []
+  gave Edit.endConnection s = []
 
   unfoldable pub gaveAll : List Edit → P → Session P → List (Queued P)
   unfolding gave enact

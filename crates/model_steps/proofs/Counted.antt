@@ -114,6 +114,8 @@ quietOne (Edit.pend k i) = false
 quietOne (Edit.frame k serial time) = false
 quietOne (Edit.queue r) = false
 quietOne Edit.deliver = false
+quietOne (Edit.peerObject id) = true
+quietOne Edit.endConnection = true
 
 unfoldable pub quietAll : List Edit → Bool
 unfolding quietOne
@@ -168,6 +170,8 @@ removes (Edit.pend k i) = false
 removes (Edit.frame k serial time) = false
 removes (Edit.queue r) = false
 removes Edit.deliver = false
+removes (Edit.peerObject id) = true
+removes Edit.endConnection = true
 
 unfoldable pub removesAll : List Edit → Bool
 unfolding removes
@@ -362,7 +366,7 @@ module _ {P : Type 0} where
   -- ---- edits that change nothing of what is counted
 
   quiet-one : (e : Edit) (p : P) (s : Session P) → quietOne e ≡ true → (counts (enact e p s) ≡ counts s) × (gave e s ≡ [])
-  unfolding quietOne gave
+  unfolding quietOne gave enact counts
   quiet-one (Edit.raise n) p s h = (counts-raise n p s, refl)
   quiet-one (Edit.addSeat caps) p s h = absurd (false≢true h)
   quiet-one (Edit.removeSeat seat) p s h = absurd (false≢true h)
@@ -374,6 +378,8 @@ module _ {P : Type 0} where
   quiet-one (Edit.frame k serial time) p s h = absurd (false≢true h)
   quiet-one (Edit.queue r) p s h = absurd (false≢true h)
   quiet-one Edit.deliver p s h = absurd (false≢true h)
+  quiet-one (Edit.peerObject id) p s h = (refl, refl)
+  quiet-one Edit.endConnection p s h = (refl, refl)
 
   pub quiet : (es : List Edit) (p : P) (s : Session P) → quietAll es ≡ true → (counts (enactAll es p s) ≡ counts s) × (gaveAll es p s ≡ [])
   unfolding quietAll enactAll gaveAll
@@ -435,7 +441,7 @@ module _ {P : Type 0} where
       }
 
   removed-one : (e : Edit) (p : P) (s : Session P) → removes e ≡ true → Lessens (counts s) (counts (enact e p s)) × (gave e s ≡ [])
-  unfolding removes enact gave
+  unfolding removes enact gave counts
   removed-one (Edit.raise n) p s h = (lessens-raise n p s, refl)
   removed-one (Edit.addSeat caps) p s h = absurd (false≢true h)
   removed-one (Edit.removeSeat seat) p s h = (lessens-removeSeat seat p s, refl)
@@ -447,6 +453,8 @@ module _ {P : Type 0} where
   removed-one (Edit.frame k serial time) p s h = absurd (false≢true h)
   removed-one (Edit.queue r) p s h = absurd (false≢true h)
   removed-one Edit.deliver p s h = absurd (false≢true h)
+  removed-one (Edit.peerObject id) p s h = (lessens-same _, refl)
+  removed-one Edit.endConnection p s h = (lessens-same _, refl)
 
   pub removed : (es : List Edit) (p : P) (s : Session P) → removesAll es ≡ true → Lessens (counts s) (counts (enactAll es p s)) × (gaveAll es p s ≡ [])
   unfolding removesAll enactAll gaveAll

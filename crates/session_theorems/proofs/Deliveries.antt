@@ -67,6 +67,7 @@ leaf-tells (Leaf.passed h) = Tells.silent Result.accepted [] [] refl
 leaf-tells (Leaf.pended {x = x} f amends e g t) = Tells.silent Result.accepted [] _ (pend-silent amends f x)
 leaf-tells (Leaf.answered o m) = Tells.silent o [] [] refl
 leaf-tells (Leaf.synced callback) = Tells.silent _ _ _ refl
+leaf-tells (Leaf.syncedMessage callback) = Tells.silent _ _ _ refl
 leaf-tells (Leaf.noted object event edits m h) = Tells.silent _ _ _ (noted-silent h)
 leaf-tells (Leaf.released cap id f e) = Tells.silent _ _ _ refl
 leaf-tells (Leaf.deviceGone id f e) = Tells.silent _ _ _ refl

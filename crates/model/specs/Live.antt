@@ -1,0 +1,87 @@
+-- WHICH OBJECTS LIVE, "each until the event by which the protocol destroys it, and of which interface and version": they follow from the tables, and nothing is
+-- stored twice. proofs/Live.antt proves the statement. Assumes nothing.
+use Prim.Native.Nat.{ℕ, _<_}
+use mathlib.Core.Path.{_≡_}
+use mathlib.Core.Bool.{Bool, true, false, _&&_, _||_, not, cond}
+use mathlib.Core.List.{List, [], _∷_, map}
+use mathlib.Core.Option.{Option, none, some}
+use lib.Dec.{eqb}
+use Rattle.eiproto.specs.Capability.{interfaceOfBit}
+use Rattle.eiproto.specs.Interface.{eiConnection, eiSeat, eiDevice}
+use Rattle.wire.specs.Record.{layout}
+use Rattle.model.specs.Call.{Load, Turn, split}
+use Rattle.model.specs.Session.{Interface, Device, Connection, View, fresh, view}
+use Rattle.model.specs.Plan.{Sent}
+use Rattle.model.specs.Decide.{version, versionOr1, deviceOf, seatOf}
+use Rattle.model.specs.Step.{Step}
+use Rattle.model.specs.Demand3.{trail}
+use Rattle.model.specs.Reachable.{countOf, sessionAfter, idsIn}
+use Rattle.model.specs.Destroyed.{destroyedIn}
+
+pub record Object : Type 0 where
+  -- by its number
+  pub interface : ℕ
+  pub version : ℕ
+
+unfoldable pub isFound : {A : Type 0} → Option A → Bool
+isFound none = false
+isFound (some x) = true
+
+-- the capability for which a device lists an interface with this id
+unfoldable pub listedAs : (id : ℕ) → List Interface → Option ℕ
+listedAs id [] = none
+listedAs id (i ∷ is) = cond (eqb (i .id) id) (some (i .capability)) (listedAs id is)
+
+unfoldable pub orElse : Option ℕ → Option ℕ → Option ℕ
+orElse none other = other
+orElse (some b) other = some b
+
+-- or some device
+unfoldable pub listedIn : (id : ℕ) → List (Device (Unit {0})) → Option ℕ
+unfolding listedAs orElse
+listedIn id [] = none
+listedIn id (d ∷ ds) = orElse (listedAs id (d .interfaces)) (listedIn id ds)
+
+-- "An interface with no negotiated version gets 1."
+unfoldable pub objectOf : Connection → (interface : ℕ) → Object
+unfolding versionOr1 version
+objectOf c i = record { interface = i; version = versionOr1 (version c i) }
+
+unfoldable pub interfaceObject : Connection → Option ℕ → Option Object
+unfolding objectOf interfaceOfBit
+interfaceObject c none = none
+interfaceObject c (some b) = some (objectOf c (interfaceOfBit b))
+
+-- THE OBJECT OF AN ID: the connection until its `disconnected`, a seat, a device, an interface that a device lists. (A callback is destroyed by the call that it is
+-- made by, and a pingpong is never made)
+unfoldable pub live : View → (id : ℕ) → Option Object
+unfolding isFound objectOf seatOf deviceOf interfaceObject listedIn
+live v id =
+    let c = v .connection in
+    cond (eqb (c .id) id && not (c .gone)) (some (record { interface = eiConnection; version = 1 }))
+    (cond (isFound (seatOf id v)) (some (objectOf c eiSeat))
+    (cond (isFound (deviceOf id v)) (some (objectOf c eiDevice)) (interfaceObject c (listedIn id (v .devices)))))
+
+-- ---- an id is alive exactly when an event of the trail announced it and none of its own destroyed it
+
+-- whether `disconnected` is among some events: it is of kind 14
+unfoldable pub hasDisconnected : List Sent → Bool
+unfolding layout
+hasDisconnected [] = false
+hasDisconnected (e ∷ es) = eqb (layout (e .event) .kind) 14 || hasDisconnected es
+
+unfoldable pub disconnectedIn : {P : Type 0} → List (Step P) → Bool
+unfolding hasDisconnected
+disconnectedIn [] = false
+disconnectedIn (r ∷ rs) = hasDisconnected (r .events) || disconnectedIn rs
+
+-- The connection is alive until a `disconnected` is sent; any other id is alive when it was given, as a seat's, a device's or an interface's, and its `destroyed`
+-- was not sent. (The connection's id is below those that the session gives; a callback's id may be any, and its `done` destroys no object that the tables hold)
+unfoldable pub Live-is-announced : Type 0
+unfolding live isFound countOf idsIn destroyedIn disconnectedIn trail sessionAfter fresh view
+Live-is-announced =
+    (c s n : ℕ) (vs : List (Option ℕ)) (ts : List Turn) (id : ℕ) → c < n →
+    let steps = trail c s n vs ts in
+    let after = sessionAfter (map split ts) (fresh {P = Load} c s n vs) in
+    isFound (live (view after) id)
+    ≡ (eqb c id && not (disconnectedIn steps)) || (eqb (countOf id (idsIn steps)) 1 && eqb (countOf id (destroyedIn steps)) 0)
