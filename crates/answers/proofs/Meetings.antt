@@ -143,3 +143,4 @@ error-refuses Error.ShortOut = refl
 error-refuses Error.IdsSpent = refl
 error-refuses Error.BadState = refl
 error-refuses Error.BadPart = refl
+error-refuses Error.InvalidId = refl

@@ -25,6 +25,7 @@ errorOf Error.ShortOut = plan.Result.refused 19
 errorOf Error.IdsSpent = plan.Result.refused 20
 errorOf Error.BadState = plan.Result.refused 21
 errorOf Error.BadPart = plan.Result.refused 22
+errorOf Error.InvalidId = plan.Result.refused 25
 
 -- the number of a refusal
 unfoldable pub numberOf : Error → ℕ

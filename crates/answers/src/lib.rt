@@ -28,6 +28,7 @@ pub enum Error {
     IdsSpent,
     BadState,
     BadPart,
+    InvalidId,
 }
 
 // How a call ends.
@@ -77,6 +78,7 @@ impl Error {
             Error::IdsSpent => 20,
             Error::BadState => 21,
             Error::BadPart => 22,
+            Error::InvalidId => 25,
         }
     }
 }

@@ -1,3 +1,4 @@
 pub mod Decisions
 pub mod Enactings
 pub mod Handling
+pub mod Peers

@@ -1,11 +1,13 @@
 // The requests that are not timed: what is queued at once, what is answered at once, and the flush of a device's pending requests.
 use answers::Answer;
 use answers::Error;
+use answers::Outcome;
 use control::Slot;
 use eiproto::eiproto_eis::CALLBACK;
 use eiproto::event::DeviceCapability;
 use events::Mark;
 use requests::request::EisRequest;
+use wire::backend::FIRST_SERVER_ID;
 use wire::event;
 use wire::event::Event;
 ghost use Prim.Native.Nat.{ℕ};
@@ -49,6 +51,22 @@ pub fn sync(callback: u64, version: u32, out: &mut [u8]) -> Answer
         return Answer::refused(Error::ShortOut);
     }
     Answer::sent(events::send(out, 0, callback, done, b""))
+}
+
+// Sync as a message: its callback is an object of the client's own, whose id is above the last that it gave and none of the server's.
+pub fn sync_message(control: &mut [u64], callback: u64, version: u32, out: &mut [u8]) -> Answer
+    requires { ⌜ Sound (now control) ⌝ }
+    ensures { λ r. ⌜ ((clock : ℕ) → HandlesControl control out (Call.plain (Plain.syncMessage callback version)) clock r) ⌝ }
+{
+    if callback <= control::last_peer_id(control) || FIRST_SERVER_ID <= callback {
+        return Answer::refused(Error::InvalidId);
+    }
+    let answer = sync(callback, version, out);
+    let outcome = answer.outcome;
+    if let Outcome::Accepted = outcome {
+        session::new_peer_object(control, callback);
+    }
+    answer
 }
 
 // "A released seat takes its devices with it .. Seat Release for an unknown seat sends nothing."

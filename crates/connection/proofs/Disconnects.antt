@@ -14,7 +14,7 @@ use Rattle.wire.specs.Bits.{splice, widths}
 use Rattle.wire.specs.Record.{layout, textOf, fixedLength, recordLength, eventRecord}
 use Rattle.model.specs.Call.{Input, Load, Plain, Call, Split, mapCall, split}
 use Rattle.model.specs.Session.{Connection, Session, view}
-use Rattle.model.specs.Edit.{Edit, raised, connectionWith, withConnection, enact, enactAll}
+use Rattle.model.specs.Edit.{Edit, raised, connectionWith, objectsWith, withConnection, enact, enactAll}
 use Rattle.model.specs.Plan.{Sent, records, refusal, Plan, send}
 use Rattle.model.specs.Decide.{destroyed, seatsObjects, removeSeats, explanationText, explained, disconnected, decidePlain, decide}
 use Rattle.model.specs.Step.{refuses, step}
@@ -63,9 +63,9 @@ pub end-fits : (given : Bool) (text : List ℕ) (serial reason : ℕ) {at gone n
     → at ≡ gone → k ≡ n → at + recordLength (Event.Disconnected serial reason given) text ≤ k
 end-fits given text serial reason room a l = omega (arith, sample-length given text serial reason)
 
--- the seats are not the serial's matter
-raised-seats : {c d : List ℕ} {n : ℕ} → EnactedControl c d (Edit.raise n ∷ []) → connectionOf d .seats ≡ connectionOf c .seats
-unfolding session sessionIn enactAll enact withConnection connectionWith
+-- the seats are neither the serial's matter nor that of the connection's own object
+raised-seats : {c d : List ℕ} {n : ℕ} → EnactedControl c d (Edit.raise n ∷ Edit.endConnection ∷ []) → connectionOf d .seats ≡ connectionOf c .seats
+unfolding session sessionIn enactAll enact withConnection connectionWith objectsWith
 raised-seats done = ap (λ (s : Session Load). s .connection .seats) (done [] [] [] Load.None .view)
 
 -- ---- the call
@@ -75,7 +75,7 @@ planOf reason explanation c gone =
     send
     (destroyed (c .lastSerial) gone
     ++ (record { object = c .id; event = Event.Disconnected (raised (length gone) (c .lastSerial)) reason (explained explanation); text = explanationText explanation } ∷ []))
-    (Edit.raise (length gone) ∷ removeSeats (c .seats))
+    (Edit.raise (length gone) ∷ Edit.endConnection ∷ removeSeats (c .seats))
 
 module _ (s : Store) (w : Whole s) (out : List ℕ) (clock : ℕ) (reason : DisconnectReason) (given : Bool) (text : List ℕ) where
   abbrev call : Call Input
@@ -105,7 +105,7 @@ module _ (s : Store) (w : Whole s) (out : List ℕ) (clock : ℕ) (reason : Disc
     told = destroyed (connection .lastSerial) gone ++ ends
 
     abbrev edits : List Edit
-    edits = Edit.raise (length gone) ∷ removeSeats (connection .seats)
+    edits = Edit.raise (length gone) ∷ Edit.endConnection ∷ removeSeats (connection .seats)
 
     abbrev t : Split Load
     t = split (turn call clock out)
@@ -150,7 +150,7 @@ module _ (s : Store) (w : Whole s) (out : List ℕ) (clock : ℕ) (reason : Disc
 
       pub disconnected-done : {later d c f : List ℕ} {g : List Float} {object n : ℕ} {r : Answer} → object ≡ connection .id
           → Sends m later (v .at) (record { object = object; event = Event.Disconnected (v .serial) number given; text = text } ∷ []) n
-          → EnactedControl (s .control) d (Edit.raise (length gone) ∷ []) → EnactedRows d (s .words) (s .reals) c f g (removeSeats (connectionOf d .seats))
+          → EnactedControl (s .control) d (Edit.raise (length gone) ∷ Edit.endConnection ∷ []) → EnactedRows d (s .words) (s .reals) c f g (removeSeats (connectionOf d .seats))
           → length f ≡ length (s .words) → length g ≡ length (s .reals) → (r .outcome ≡ Outcome.Accepted) × (r .count ≡ n)
           → Handled s (store c f g (s .texts)) out later call clock r
       unfolding split send refuses refusal

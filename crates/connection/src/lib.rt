@@ -117,7 +117,7 @@ fn disconnected_at(
         explained: given,
     };
     let count = events::send(out, last.at, connection, told, explanation);
-    session::raise(control, last.serial);
+    session::end_connection(control, last.serial);
     removal::remove_seats(control, words, reals);
     Answer::sent(count)
 }

@@ -186,7 +186,7 @@ pub removes-seat : (n seat : ℕ) → removesAll (Edit.raise n ∷ Edit.removeDe
 unfolding removesAll
 removes-seat n seat = refl
 
-pub removes-seats : (n : ℕ) (ss : List Seat) → removesAll (Edit.raise n ∷ removeSeats ss) ≡ true
+pub removes-seats : (n : ℕ) (ss : List Seat) → removesAll (Edit.raise n ∷ Edit.endConnection ∷ removeSeats ss) ≡ true
 unfolding removesAll removeSeats
 removes-seats n [] = refl
 removes-seats n (s ∷ ss) = removes-seats n ss

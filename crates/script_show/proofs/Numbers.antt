@@ -90,6 +90,7 @@ error-most Error.ShortOut = lit≤ tt
 error-most Error.IdsSpent = lit≤ tt
 error-most Error.BadState = lit≤ tt
 error-most Error.BadPart = lit≤ tt
+error-most Error.InvalidId = lit≤ tt
 
 pub handshake-most : (e : HandshakeError) → number e ≤ 22
 handshake-most HandshakeError.NonHandshakeEvent = lit≤ tt
@@ -122,6 +123,7 @@ plain-error Error.ShortOut o = refl
 plain-error Error.IdsSpent o = refl
 plain-error Error.BadState o = refl
 plain-error Error.BadPart o = refl
+plain-error Error.InvalidId o = refl
 plain-error (Error.InvalidInterfaceVersion i v) (inl e) = absurd (omega (arith, e))
 plain-error (Error.InvalidInterfaceVersion i v) (inr o) = absurd (omega (arith, among 2 17 1 o .0))
 

@@ -24,7 +24,7 @@ use Rattle.control.specs.Sound.{Sound}
 use Rattle.control.proofs.Tables.{tab-same, tab-push}
 use Rattle.control.proofs.Interfaces.{new-length}
 use Rattle.control.proofs.Models.{seats-without}
-use Rattle.control.specs.Change.{SameQueue, Reconnected, Amended, Appended, newCore, withTouches, withInterfaces, withSeats, withSerial, withNextId}
+use Rattle.control.specs.Change.{SameQueue, Reconnected, Amended, Appended, newCore, withTouches, withInterfaces, withSeats, withSerial, withNextId, withPeer, ended}
 use Rattle.control.proofs.Lists.{amended-devices, reconnected-twice, new-core}
 use Rattle.session.specs.View.{lastId, pendingRow, itemAt, deviceIn, queueIn, sessionIn, session}
 use Rattle.session.specs.Enact.{EnactedControl}
@@ -89,6 +89,14 @@ module _ {c e : List ℕ} where
       (λ load s q.
       ap (λ (x : Connection). withConnection (connectionWith (x .seats) (raised n (x .lastSerial)) (x .nextId) x) s) q
       ∙ ap (λ (x : ℕ). withConnection (withSerial x (connectionOf c)) s) (sym h))
+
+  pub peer-made : {id : ℕ} → Reconnected c e (withPeer id (connectionOf c)) → EnactedControl c e (Edit.peerObject id ∷ [])
+  unfolding enact
+  peer-made {id} r = reconnects (Edit.peerObject id) r (λ load s q. ap (λ (x : Connection). withConnection (withPeer id x) s) q)
+
+  pub connection-ended : Reconnected c e (ended (connectionOf c)) → EnactedControl c e (Edit.endConnection ∷ [])
+  unfolding enact
+  connection-ended r = reconnects Edit.endConnection r (λ load s q. ap (λ (x : Connection). withConnection (ended x) s) q)
 
   pub seat-added : {m : List ℕ} (id caps : ℕ) → id ≡ connectionOf c .nextId → caps < 128
       → Reconnected c m (withSeats (connectionOf c .seats ++ (record { id = id; capabilities = caps % 128 } ∷ [])) (connectionOf c))

@@ -52,6 +52,8 @@ held : session (store control words reals texts)
             seats = record { id = 8; capabilities = 127 } ∷ [];
             lastSerial = 7;
             nextId = 100;
+            lastPeerId = 0;
+            gone = false;
           };
       devices =
           record {

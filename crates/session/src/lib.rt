@@ -66,6 +66,23 @@ pub fn raise(control: &mut [u64], serial: u32)
     control::edits::set_last_serial(control, serial);
 }
 
+// The same after the last events of a connection, whose own object is destroyed by them.
+pub fn end_connection(control: &mut [u64], serial: u32)
+    requires { ⌜ Sound (now control) ⌝ }
+    ensures { λ _. ⌜ ((n : ℕ) → serial ≡ raised n (connectionOf (now (control .entry)) .lastSerial) → EnactsControl control (Edit.raise n ∷ Edit.endConnection ∷ [])) ⌝ }
+{
+    control::edits::set_last_serial(control, serial);
+    control::edits::end_connection(control);
+}
+
+// An object that the client made, with this id.
+pub fn new_peer_object(control: &mut [u64], id: u64)
+    requires { ⌜ Sound (now control) ⌝ }
+    ensures { λ _. ⌜ EnactsControl control (Edit.peerObject id ∷ []) ⌝ }
+{
+    control::edits::set_last_peer_id(control, id);
+}
+
 // A seat more, with the next id.
 pub fn add_seat(control: &mut [u64], capabilities: u64)
     requires { ⌜ Sound (now control) × ((seatCount (now control) < seatsLimit) × ((capabilities < 128) × (connectionOf (now control) .nextId + 1 ≤ lastId))) ⌝ }

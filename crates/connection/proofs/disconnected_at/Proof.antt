@@ -55,7 +55,7 @@ send-requires c κs =
 remove-seats-requires : tie.Need-remove-seats-requires
 remove-seats-requires c κs =
     let w = c .before .before .before .before .before .before .before .before .before .before .before .before .before in
-    lent-after (w .before .before .before .before .before .before .before .before .before .before .before .before .before .before .before .before .before .pre .0) (c .before .before .before .before .before .raise .ensures _ (last w))
+    lent-after (w .before .before .before .before .before .before .before .before .before .before .before .before .before .before .before .before .before .pre .0) (c .before .before .before .before .before .end-connection .ensures _ (last w))
 
 -- told
 returns-2 : tie.Need-returns-2
@@ -65,7 +65,7 @@ returns-2 c =
     λ clock texts whole.
     disconnected-done (store (a .control .now) (a .words .now) (a .reals .now) texts) whole (a .out .now) clock (a .reason) (a .given) (a .explanation .now) (w .before .before .before .before .before .before .before .before .before .before .before .before .before .before .before .before .before .pre .1)
     _ (w .before .before .before .before .before .before .before .before .before .before .before .number .ensures) (room w) (w .destroy-seats .ensures) refl (w .before .before .before .before .before .before .before .last-serial .ensures) (omega (arith, w .destroy-seats .kept .1 .0))
-    (w .before .before .before .connection-id .ensures) (c .before .before .before .before .before .before .before .before .before .before .before .before .before .before .before .before .before .send .ensures) (c .before .before .before .before .before .before .before .before .before .before .before .before .before .raise .ensures _ (last w)) (c .before .before .before .before .before .before .before .remove-seats .ensures)
+    (w .before .before .before .connection-id .ensures) (c .before .before .before .before .before .before .before .before .before .before .before .before .before .before .before .before .before .send .ensures) (c .before .before .before .before .before .before .before .before .before .before .before .before .before .end-connection .ensures _ (last w)) (c .before .before .before .before .before .before .before .remove-seats .ensures)
     (omega (arith, c .before .before .before .before .before .before .before .remove-seats .kept)) (omega (arith, c .before .before .before .before .before .before .before .remove-seats .kept)) (c .sent .ensures)
 
 pub disconnected-at-spec : {M : Type 1} → statement M
@@ -84,7 +84,7 @@ disconnected-at-spec =
     (λ c κs. search needs)  -- connection-id-requires
     (λ c κs. search needs)  -- destroy-seats-requires
     send-requires
-    (λ c κs. search needs)  -- raise-requires
+    (λ c κs. search needs)  -- end-connection-requires
     remove-seats-requires
     (λ c κs. search needs)  -- sent-requires
     (λ c. search needs)  -- same-length-2

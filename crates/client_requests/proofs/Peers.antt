@@ -1,0 +1,147 @@
+-- Sync as a message is Sync; where it is accepted, the callback's id is kept. Assumes nothing.
+use Prim.Native.Nat.{ℕ, _≤_, _<_}
+use mathlib.Core.Path.{_≡_, refl, sym, ap, _∙_}
+use mathlib.Core.Bool.{Bool, true, false, cond, false≢true}
+use mathlib.Core.List.{List, [], _∷_}
+use mathlib.Core.Logic.{_⊎_, inl, inr}
+use native.Mathlib.Omega.{arith}
+use borrow.Author.Tests.{eqb-true, leb-true, leb-false}
+use lib.Dec.{eqb, leb}
+use lib.ListN.{length}
+use Rattle.eiproto.specs.Interface.{eiCallback}
+use Rattle.wire.specs.declared.event.Event.{Event}
+use Rattle.model.specs.Call.{Load, Plain, Call, Split, mapCall, split}
+use Rattle.model.specs.Session.{Session, view}
+use Rattle.model.specs.Edit.{Edit, enact, enactAll}
+use Rattle.model.specs.Plan as plan
+use Rattle.model.specs.Plan.{Sent, on, records, answer, refuse, send, refusal}
+use Rattle.model.specs.Decide.{isPeerId, handleSync, handleSyncMessage, decidePlain, decide}
+use Rattle.model.specs.Step.{Step, refuses, unchanged, gave, gaveAll, carriedOut, step}
+use Rattle.model_steps.proofs.Counted.{quietOne, quietAll, quiet-none}
+use Rattle.model_steps.proofs.Steps.{step-answer, step-sent, step-sent-short}
+use Rattle.session.specs.View.{Store, session, Whole}
+use Rattle.session.specs.Enact.{Enacted}
+use Rattle.answers.specs.Answer.{outcomeOf}
+use Rattle.answers.specs.Meets.{Meets, turn, Handled}
+use Rattle.answers.specs.declared.Error.{Error}
+use Rattle.answers.specs.declared.Outcome.{Outcome}
+use Rattle.answers.specs.declared.Answer.{Answer}
+use Rattle.answers.proofs.Meetings.{told-handled, error-refuses}
+
+-- an accepted call with the client's object besides
+unfoldable peered : ℕ → Step Load → Step Load
+peered id r =
+    cond (refuses (r .outcome)) r
+    (record { session = enact (Edit.peerObject id) Load.None (r .session); outcome = r .outcome; events = r .events; gave = r .gave })
+
+module _ (s : Session Load) (callback version clock : ℕ) (out : List ℕ) (mine : isPeerId (view s) callback ≡ true) where
+  abbrev plainly : Split Load
+  plainly = split (turn (Call.plain (Plain.sync callback version)) clock out)
+
+  abbrev message : Split Load
+  message = split (turn (Call.plain (Plain.syncMessage callback version)) clock out)
+
+  abbrev done : List Sent
+  done = on callback (Event.CallbackDone 0) ∷ []
+
+  -- what becomes of the one and of the other
+  record Both : Type 0 where
+    is : step message s ≡ peered callback (step plainly s)
+    ends : (refuses (step plainly s .outcome) ≡ true) ⊎ (step plainly s .outcome ≡ plan.Result.accepted)
+
+  both-refused : (o : plan.Result) → refuses o ≡ true → step plainly s ≡ unchanged s o → step message s ≡ unchanged s o → Both
+  unfolding peered unchanged
+  both-refused o h p m = record { is = m ∙ sym (ap (peered callback) p ∙ rw h); ends = inl (ap (λ (x : Step Load). refuses (x .outcome)) p ∙ h) }
+
+  both-done : step plainly s ≡ carriedOut (send done []) Load.None s → step message s ≡ carriedOut (send done (Edit.peerObject callback ∷ [])) Load.None s → Both
+  unfolding peered carriedOut send refuses refusal enactAll gaveAll gave
+  both-done p m = record { is = m ∙ sym (ap (peered callback) p); ends = inr (ap (λ (x : Step Load). x .outcome) p) }
+
+  pub both : Both
+  unfolding split mapCall decide decidePlain handleSync handleSyncMessage quietAll quietOne refuses refusal
+  both = by-version (eqb version 1) refl
+    where
+      by-room : (b : Bool) → leb (length (records done)) (length out) ≡ b → eqb version 1 ≡ true → Both
+      by-room true l e =
+          let room = leb-true (length (records done)) (length out) l in
+          both-done (step-sent plainly s done [] (rw e) quiet-none room) (step-sent message s done (Edit.peerObject callback ∷ []) (rw (mine, e)) refl room)
+      by-room false l e =
+          let room = leb-false (length (records done)) (length out) l in
+          both-refused (plan.Result.refused 19) refl (step-sent-short plainly s done [] (rw e) quiet-none room)
+          (step-sent-short message s done (Edit.peerObject callback ∷ []) (rw (mine, e)) refl room)
+
+      by-version : (b : Bool) → eqb version 1 ≡ b → Both
+      by-version true e = by-room (leb (length (records done)) (length out)) refl e
+      by-version false e =
+          let o = plan.Result.refusedVersion eiCallback version in
+          both-refused o refl (step-answer plainly s o (rw e)) (step-answer message s o (rw (mine, e)))
+
+-- ---- the call
+
+unfoldable isAccepted : plan.Result → Bool
+isAccepted plan.Result.accepted = true
+isAccepted (plan.Result.refused n) = false
+isAccepted (plan.Result.refusedVersion i v) = false
+isAccepted (plan.Result.seat id) = false
+isAccepted (plan.Result.device id) = false
+isAccepted (plan.Result.value n) = false
+isAccepted (plan.Result.truth b) = false
+isAccepted plan.Result.none = false
+isAccepted plan.Result.given = false
+
+accepted-is : (o : Outcome) → outcomeOf o ≡ plan.Result.accepted → o ≡ Outcome.Accepted
+unfolding isAccepted refuses refusal
+accepted-is Outcome.Accepted e = refl
+accepted-is (Outcome.Refused x) e = absurd (false≢true (sym (ap refuses e) ∙ error-refuses x))
+accepted-is (Outcome.Seat id) e = absurd (false≢true (ap isAccepted e))
+accepted-is (Outcome.Device id) e = absurd (false≢true (ap isAccepted e))
+accepted-is (Outcome.Value n) e = absurd (false≢true (ap isAccepted e))
+accepted-is (Outcome.Truth b) e = absurd (false≢true (ap isAccepted e))
+accepted-is Outcome.None e = absurd (false≢true (ap isAccepted e))
+
+module _ (s : Store) (out : List ℕ) (callback version clock : ℕ) (r : Answer) where
+  abbrev asked : Call _
+  asked = Call.plain (Plain.syncMessage callback version)
+
+  -- 25
+  pub not-peer : Whole s → isPeerId (view (session s)) callback ≡ false → (r .outcome ≡ Outcome.Refused Error.InvalidId) × (r .count ≡ 0) → Handled s s out out asked clock r
+  unfolding decidePlain handleSyncMessage refuse
+  not-peer w h told = told-handled s out (Plain.syncMessage callback version) clock (Outcome.Refused Error.InvalidId) r w (rw h) told
+
+  module _ (mine : isPeerId (view (session s)) callback ≡ true) {later : List ℕ} (h : Handled s s out later (Call.plain (Plain.sync callback version)) clock r) where
+    abbrev sync : Step Load
+    sync = step (plainly (session s) callback version clock out mine) (session s)
+
+    abbrev pair : Both (session s) callback version clock out mine
+    pair = both (session s) callback version clock out mine
+
+    is-refused : refuses (sync .outcome) ≡ true → step (message (session s) callback version clock out mine) (session s) ≡ sync
+    unfolding peered
+    is-refused e = pair .is ∙ rw e
+
+    is-made : refuses (sync .outcome) ≡ false
+        → step (message (session s) callback version clock out mine) (session s)
+        ≡ record { session = enact (Edit.peerObject callback) Load.None (sync .session); outcome = sync .outcome; events = sync .events; gave = sync .gave }
+    unfolding peered
+    is-made e = pair .is ∙ rw e
+
+    pub peer-refused : (r .outcome ≡ Outcome.Accepted → ⊥) → Handled s s out later asked clock r
+    peer-refused no = go (pair .ends)
+      where
+        go : (refuses (sync .outcome) ≡ true) ⊎ (sync .outcome ≡ plan.Result.accepted) → Handled s s out later asked clock r
+        go (inl e) = rw (is-refused e) h
+        go (inr e) = absurd (no (accepted-is (r .outcome) (h .outcome ∙ e)))
+
+    pub peer-made : r .outcome ≡ Outcome.Accepted → {e : Store} → Whole e → Enacted s e (Edit.peerObject callback ∷ []) Load.None → Handled s e out later asked clock r
+    unfolding enactAll refuses refusal
+    peer-made yes {e} w done =
+        let fine : refuses (sync .outcome) ≡ false = ap refuses (sym (h .outcome) ∙ ap outcomeOf yes) in
+        rw (is-made fine)
+        (record {
+          whole = w;
+          view = done .view ∙ ap (enact (Edit.peerObject callback) Load.None) (h .view);
+          outcome = h .outcome;
+          count = h .count;
+          bytes = h .bytes;
+          kept = λ z. absurd (false≢true (sym fine ∙ z));
+        })
