@@ -135,6 +135,22 @@ pub fn next_id(control: &[u64]) -> u64
     control[layout::NEXT_ID]
 }
 
+// The last id that the client gave to an object of its own.
+pub fn last_peer_id(control: &[u64]) -> u64
+    requires { ⌜ length (now control) ≡ controlLength ⌝ }
+    ensures { λ r. ⌜ r ≡ connectionOf (now (control .entry)) .lastPeerId ⌝ }
+{
+    control[layout::LAST_PEER_ID]
+}
+
+// Whether the connection's own object is destroyed: `disconnected` was sent.
+pub fn connection_gone(control: &[u64]) -> bool
+    requires { ⌜ length (now control) ≡ controlLength ⌝ }
+    ensures { λ r. ⌜ r ≡ connectionOf (now (control .entry)) .gone ⌝ }
+{
+    control[layout::GONE] != 0
+}
+
 // The version at a place among the twelve.
 fn version_at(control: &[u64], place: usize) -> Negotiated
     requires { ⌜ (length (now control) ≡ controlLength) × (place < 12) ⌝ }
