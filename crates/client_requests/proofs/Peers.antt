@@ -1,16 +1,18 @@
 -- Sync as a message is Sync; where it is accepted, the callback's id is kept. Assumes nothing.
 use Prim.Native.Nat.{ℕ, _≤_, _<_}
-use mathlib.Core.Path.{_≡_, refl, sym, ap, _∙_}
-use mathlib.Core.Bool.{Bool, true, false, cond, false≢true}
+use mathlib.Core.Path.{_≡_, refl, sym, ap, subst, _∙_}
+use mathlib.Core.Bool.{Bool, true, false, _&&_, cond, false≢true}
 use mathlib.Core.List.{List, [], _∷_}
 use mathlib.Core.Logic.{_⊎_, inl, inr}
 use native.Mathlib.Omega.{arith}
-use borrow.Author.Tests.{eqb-true, leb-true, leb-false}
-use lib.Dec.{eqb, leb}
+use borrow.Author.Tests.{leb-true, leb-false, lt-ltb, le-ltb}
+use types.Run.{OneOf}
+use denote.Enum.Declared.{tagOf}
+use lib.Dec.{eqb, leb, ltb}
 use lib.ListN.{length}
 use Rattle.eiproto.specs.Interface.{eiCallback}
 use Rattle.wire.specs.declared.event.Event.{Event}
-use Rattle.model.specs.Call.{Load, Plain, Call, Split, mapCall, split}
+use Rattle.model.specs.Call.{Input, Load, Plain, Call, Split, mapCall, split}
 use Rattle.model.specs.Session.{Session, view}
 use Rattle.model.specs.Edit.{Edit, enact, enactAll}
 use Rattle.model.specs.Plan as plan
@@ -19,14 +21,18 @@ use Rattle.model.specs.Decide.{isPeerId, handleSync, handleSyncMessage, decideP
 use Rattle.model.specs.Step.{Step, refuses, unchanged, gave, gaveAll, carriedOut, step}
 use Rattle.model_steps.proofs.Counted.{quietOne, quietAll, quiet-none}
 use Rattle.model_steps.proofs.Steps.{step-answer, step-sent, step-sent-short}
-use Rattle.session.specs.View.{Store, session, Whole}
+use Rattle.control.specs.Control.{connectionOf}
+use Rattle.session.specs.View.{Store, store, session, Whole}
+use Rattle.session.proofs.Views.{view-connection}
+use Rattle.requests.proofs.Arms.{among}
 use Rattle.session.specs.Enact.{Enacted}
 use Rattle.answers.specs.Answer.{outcomeOf}
 use Rattle.answers.specs.Meets.{Meets, turn, Handled}
 use Rattle.answers.specs.declared.Error.{Error}
 use Rattle.answers.specs.declared.Outcome.{Outcome}
+use Rattle.answers.proofs.Outcome as outcome
 use Rattle.answers.specs.declared.Answer.{Answer}
-use Rattle.answers.proofs.Meetings.{told-handled, error-refuses}
+use Rattle.answers.proofs.Meetings.{whole-after, told-handled, error-refuses}
 
 -- an accepted call with the client's object besides
 unfoldable peered : ℕ → Step Load → Step Load
@@ -57,7 +63,7 @@ module _ (s : Session Load) (callback version clock : ℕ) (out : List ℕ) (min
   unfolding peered carriedOut send refuses refusal enactAll gaveAll gave
   both-done p m = record { is = m ∙ sym (ap (peered callback) p); ends = inr (ap (λ (x : Step Load). x .outcome) p) }
 
-  pub both : Both
+  both : Both
   unfolding split mapCall decide decidePlain handleSync handleSyncMessage quietAll quietOne refuses refusal
   both = by-version (eqb version 1) refl
     where
@@ -76,7 +82,37 @@ module _ (s : Session Load) (callback version clock : ℕ) (out : List ℕ) (min
           let o = plan.Result.refusedVersion eiCallback version in
           both-refused o refl (step-answer plainly s o (rw e)) (step-answer message s o (rw (mine, e)))
 
+-- ---- whose id it is
+
+module _ (s : Store) (id : ℕ) where
+  pub peer-id : connectionOf (s .control) .lastPeerId < id → id < 0xff00_0000_0000_0000 → isPeerId (view (session s)) id ≡ true
+  unfolding isPeerId
+  peer-id l h = rw (view-connection s, lt-ltb (connectionOf (s .control) .lastPeerId) id l, lt-ltb id 0xff00_0000_0000_0000 h)
+
+  pub low-id : id ≤ connectionOf (s .control) .lastPeerId → isPeerId (view (session s)) id ≡ false
+  unfolding isPeerId
+  low-id l = rw (view-connection s, le-ltb (connectionOf (s .control) .lastPeerId) id l)
+
+  pub high-id : 0xff00_0000_0000_0000 ≤ id → isPeerId (view (session s)) id ≡ false
+  unfolding isPeerId
+  high-id l = rw (le-ltb id 0xff00_0000_0000_0000 l) (never (ltb (view (session s) .connection .lastPeerId) id))
+    where
+      never : (b : Bool) → b && false ≡ false
+      never true = refl
+      never false = refl
+
 -- ---- the call
+
+-- the tags of the arm that has no accepted outcome
+pub not-accepted : (o : Outcome) → OneOf (1 ∷ 2 ∷ 3 ∷ 4 ∷ 5 ∷ 6 ∷ []) (tagOf outcome.the-type o) → o ≡ Outcome.Accepted → ⊥
+not-accepted o k e = go (subst (λ (x : Outcome). OneOf (1 ∷ 2 ∷ 3 ∷ 4 ∷ 5 ∷ 6 ∷ []) (tagOf outcome.the-type x)) e k)
+  where
+    go : OneOf (1 ∷ 2 ∷ 3 ∷ 4 ∷ 5 ∷ 6 ∷ []) 0 → ⊥
+    go o = let b = among 1 6 0 o in omega (arith, b .0)
+
+pub whole-made : {s : Store} {c : List ℕ} {edits : List Edit} {load : Load} → Whole s → Enacted s (store c (s .words) (s .reals) (s .texts)) edits load
+    → Whole (store c (s .words) (s .reals) (s .texts))
+whole-made {s} w made = whole-after s w (made .sound) refl refl
 
 unfoldable isAccepted : plan.Result → Bool
 isAccepted plan.Result.accepted = true
@@ -100,7 +136,7 @@ accepted-is (Outcome.Truth b) e = absurd (false≢true (ap isAccepted e))
 accepted-is Outcome.None e = absurd (false≢true (ap isAccepted e))
 
 module _ (s : Store) (out : List ℕ) (callback version clock : ℕ) (r : Answer) where
-  abbrev asked : Call _
+  abbrev asked : Call Input
   asked = Call.plain (Plain.syncMessage callback version)
 
   -- 25
@@ -126,20 +162,20 @@ module _ (s : Store) (out : List ℕ) (callback version clock : ℕ) (r : Answer
     is-made e = pair .is ∙ rw e
 
     pub peer-refused : (r .outcome ≡ Outcome.Accepted → ⊥) → Handled s s out later asked clock r
-    peer-refused no = go (pair .ends)
+    peer-refused other = go (pair .ends)
       where
         go : (refuses (sync .outcome) ≡ true) ⊎ (sync .outcome ≡ plan.Result.accepted) → Handled s s out later asked clock r
         go (inl e) = rw (is-refused e) h
-        go (inr e) = absurd (no (accepted-is (r .outcome) (h .outcome ∙ e)))
+        go (inr e) = absurd (other (accepted-is (r .outcome) (h .outcome ∙ e)))
 
     pub peer-made : r .outcome ≡ Outcome.Accepted → {e : Store} → Whole e → Enacted s e (Edit.peerObject callback ∷ []) Load.None → Handled s e out later asked clock r
     unfolding enactAll refuses refusal
-    peer-made yes {e} w done =
-        let fine : refuses (sync .outcome) ≡ false = ap refuses (sym (h .outcome) ∙ ap outcomeOf yes) in
+    peer-made told {e} w made =
+        let fine : refuses (sync .outcome) ≡ false = ap refuses (sym (h .outcome) ∙ ap outcomeOf told) in
         rw (is-made fine)
         (record {
           whole = w;
-          view = done .view ∙ ap (enact (Edit.peerObject callback) Load.None) (h .view);
+          view = made .view ∙ ap (enact (Edit.peerObject callback) Load.None) (h .view);
           outcome = h .outcome;
           count = h .count;
           bytes = h .bytes;

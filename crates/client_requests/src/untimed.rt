@@ -58,7 +58,10 @@ pub fn sync_message(control: &mut [u64], callback: u64, version: u32, out: &mut 
     requires { ⌜ Sound (now control) ⌝ }
     ensures { λ r. ⌜ ((clock : ℕ) → HandlesControl control out (Call.plain (Plain.syncMessage callback version)) clock r) ⌝ }
 {
-    if callback <= control::last_peer_id(control) || FIRST_SERVER_ID <= callback {
+    if callback <= control::last_peer_id(control) {
+        return Answer::refused(Error::InvalidId);
+    }
+    if FIRST_SERVER_ID <= callback {
         return Answer::refused(Error::InvalidId);
     }
     let answer = sync(callback, version, out);
