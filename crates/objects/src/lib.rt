@@ -32,15 +32,12 @@ fn listed_among(device: u64, capabilities: u64, listed: u64, id: u64) -> Listed
     ensures { λ r. ⌜ listedTold r ≡ listedAs id (interfacesOn device capabilities listed) ⌝ }
 {
     let mut mask = listed;
-    let mut bit: u32 = 0;
     while mask != 0 {
-        if mask % 2 == 1 {
-            if control::interface_id(device, capabilities, bit) == id {
-                return Listed::For(bit);
-            }
+        let bit = DeviceCapability::lowest(mask);
+        if control::interface_id(device, capabilities, bit) == id {
+            return Listed::For(bit);
         }
-        mask = mask / 2;
-        bit += 1;
+        mask = DeviceCapability::without_lowest(mask);
     }
     Listed::Nothing
 }

@@ -1,17 +1,19 @@
+-- The version is that of the interface. Assumes nothing.
+use Prim.Native.Nat.{ℕ}
+use mathlib.Core.Option.{some}
+use Rattle.model.specs.Live.{objectOf}
 use borrow.Author.Needs.{needs}
 use Rattle.objects.proofs.object_of.Statement.{statement}
 use Rattle.objects.proofs.object_of.Tie as tie
-use Rattle.objects.proofs.object_of.Reads as reads
-use Rattle.objects.proofs.object_of.Lts as lts
-use Rattle.control.proofs.version_or_1.Reads as version-or-1-reads
 
--- src/lib.rt:89:9
-version-or-1-requires : tie.Need-version-or-1-requires
-version-or-1-requires c κs = search needs
-
--- src/lib.rt:85:1
 returns : tie.Need-returns
-returns c = ?
+unfolding objectOf
+returns c =
+    λ t. some (record { interface = c .before .before .args .interface; version = c .version-or-1 .ensures t })
 
 pub object-of-spec : {M : Type 1} → statement M
-object-of-spec = tie.close (tie.spec version-or-1-requires returns)
+object-of-spec =
+    tie.close
+    (tie.spec
+    (λ c κs. search needs)  -- version-or-1-requires
+    returns)
