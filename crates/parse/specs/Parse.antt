@@ -1,6 +1,6 @@
 -- A message on an object of a known interface: its request and its arguments, or the first ParseError that the source meets. Assumes nothing.
 use Prim.Native.Nat.{ℕ, _+_, _-_, _*_, _/_}
-use mathlib.Core.Bool.{Bool, true, _&&_, cond}
+use mathlib.Core.Bool.{_&&_, cond}
 use mathlib.Core.List.{List}
 use lib.Dec.{eqb, leb, ltb}
 use lib.Ieee.{Float, binary32, ofBits}
@@ -9,7 +9,7 @@ use Rattle.utf8.specs.Rfc3629.{isUtf8}
 use Rattle.wire.specs.declared.ParseError.{ParseError}
 use Rattle.parse.specs.declared.Argument.{Argument}
 use Rattle.parse.specs.declared.Arguments.{Arguments}
-use Rattle.parse.specs.declared.SignatureOf.{SignatureOf}
+use Rattle.parse.specs.declared.Found.{Found}
 use Rattle.parse.specs.declared.Progress.{Progress}
 use Rattle.parse.specs.declared.Walk.{Walk}
 use Rattle.parse.specs.declared.Parsed.{Parsed}
@@ -59,24 +59,10 @@ withText p next start length =
 unfoldable pub needing : (message : List ℕ) → (at count : ℕ) → Walk → Walk
 needing m at count w = cond (leb (at + count) (length m)) w (Walk.Malformed ParseError.EndOfMessage)
 
--- InvalidVariant: "context_type not 1, 2; button and key states not 0, 1"
-unfoldable pub isVariant : Argument → ℕ → Bool
-isVariant Argument.PressState n = leb n 1
-isVariant Argument.ContextType n = leb 1 n && leb n 2
-isVariant Argument.None n = true
-isVariant Argument.Uint32 n = true
-isVariant Argument.Uint64 n = true
-isVariant Argument.Float n = true
-isVariant Argument.String n = true
-
 -- "32-bit numbers, floats and enums 4 bytes, 64-bit numbers and new_ids 8"
-unfoldable pub wordRead : Argument → (message : List ℕ) → Progress → Walk
-unfolding le32 withNumber needing isVariant
-wordRead kind m p =
-    needing m (p .at) 4
-    (cond (isVariant kind (le32 m (p .at)))
-    (Walk.Reading (withNumber p (p .at + 4) (le32 m (p .at))))
-    (Walk.Malformed (ParseError.InvalidVariant (le32 m (p .at)))))
+unfoldable pub wordRead : (message : List ℕ) → Progress → Walk
+unfolding le32 withNumber needing
+wordRead m p = needing m (p .at) 4 (Walk.Reading (withNumber p (p .at + 4) (le32 m (p .at))))
 
 unfoldable pub doubleWordRead : (message : List ℕ) → Progress → Walk
 unfolding le64 le32 withNumber needing
@@ -108,15 +94,26 @@ textRead m p =
     (Walk.Reading (withText p (start + padded count) start (count - 1)))
     (Walk.Malformed ParseError.Utf8))))
 
+-- an enum's number, from its least to its most: else it is an InvalidVariant
+unfoldable pub variantRead : (least most : ℕ) → (message : List ℕ) → Progress → Walk
+unfolding le32 withNumber needing
+variantRead least most m p =
+    let n = le32 m (p .at) in
+    needing m (p .at) 4
+    (cond (leb least n && leb n most)
+    (Walk.Reading (withNumber p (p .at + 4) n))
+    (Walk.Malformed (ParseError.InvalidVariant n)))
+
+-- "context_type not 1, 2; button and key states not 0, 1" are InvalidVariant
 unfoldable pub readBy : Argument → (message : List ℕ) → Progress → Walk
-unfolding wordRead doubleWordRead realRead textRead
+unfolding wordRead doubleWordRead realRead textRead variantRead
 readBy Argument.None m p = Walk.Reading p
+readBy Argument.Uint32 m p = wordRead m p
 readBy Argument.Uint64 m p = doubleWordRead m p
 readBy Argument.Float m p = realRead m p
 readBy Argument.String m p = textRead m p
-readBy Argument.Uint32 m p = wordRead Argument.Uint32 m p
-readBy Argument.PressState m p = wordRead Argument.PressState m p
-readBy Argument.ContextType m p = wordRead Argument.ContextType m p
+readBy Argument.PressState m p = variantRead 0 1 m p
+readBy Argument.ContextType m p = variantRead 1 2 m p
 
 -- "by argument, in order": behind one that is malformed none is read
 unfoldable pub argumentRead : Argument → (message : List ℕ) → Walk → Walk
@@ -141,10 +138,10 @@ ended m (Walk.Reading p) =
     (Parsed.Read (p .read))
 
 -- "opcode; string; numbers in turn; variant; left over"
-unfoldable pub parsedAs : (interface : ℕ) → (message : List ℕ) → SignatureOf → Parsed
+unfoldable pub parsedAs : (interface : ℕ) → (message : List ℕ) → Found → Parsed
 unfolding le32 argumentRead begun ended
-parsedAs interface m SignatureOf.InvalidOpcode = Parsed.Malformed (ParseError.InvalidOpcode interface (le32 m 12))
-parsedAs interface m (SignatureOf.Request s) =
+parsedAs interface m Found.InvalidOpcode = Parsed.Malformed (ParseError.InvalidOpcode interface (le32 m 12))
+parsedAs interface m (Found.Request s) =
     ended m (argumentRead (s .third) m (argumentRead (s .second) m (argumentRead (s .first) m (begun (s .request)))))
 
 unfoldable pub parsed : (interface : ℕ) → (message : List ℕ) → Parsed

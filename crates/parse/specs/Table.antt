@@ -5,14 +5,14 @@ use lib.ListN.{getD}
 use Rattle.parse.specs.declared.Argument.{Argument}
 use Rattle.parse.specs.declared.Argument.the-variants.{None, Uint32, Uint64, Float, String, PressState, ContextType}
 use Rattle.parse.specs.declared.Signature.{Signature}
-use Rattle.parse.specs.declared.SignatureOf.{SignatureOf}
+use Rattle.parse.specs.declared.Found.{Found}
 
 -- a request's number with its arguments
-abbrev pub row : (request : ℕ) → (first second third : Argument) → SignatureOf
-row n a b c = SignatureOf.Request (record { request = n; first = a; second = b; third = c })
+abbrev pub row : (request : ℕ) → (first second third : Argument) → Found
+row n a b c = Found.Request (record { request = n; first = a; second = b; third = c })
 
 -- interfaces by their numbers, each with its requests by opcode. Requests are numbered through, and an int32 is read as its 32 bits
-abbrev pub table : List (List SignatureOf)
+abbrev pub table : List (List Found)
 table =
     -- handshake: handshake_version, finish, context_type, name, interface_version
     (row 0 Uint32 None None ∷ row 1 None None None ∷ row 2 ContextType None None ∷ row 3 String None None ∷ row 4 String Uint32 None ∷ [])
@@ -43,5 +43,5 @@ table =
     ∷ []
 
 -- the request that an opcode stands for; "opcode not in the table": InvalidOpcode
-unfoldable pub signatureOf : (interface opcode : ℕ) → SignatureOf
-signatureOf interface opcode = getD (getD table interface []) opcode SignatureOf.InvalidOpcode
+unfoldable pub signatureOf : (interface opcode : ℕ) → Found
+signatureOf interface opcode = getD (getD table interface []) opcode Found.InvalidOpcode

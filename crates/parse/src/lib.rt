@@ -7,7 +7,7 @@ ghost use lib.Dec.{leb};
 ghost use lib.Ieee.{binary32, ofBits};
 ghost use lib.ListN.{length};
 ghost use Rattle.parse.specs.Table.{row, signatureOf};
-ghost use Rattle.parse.specs.Parse.{le32, le64, withNumber, withReal, withText, isVariant, wordRead, doubleWordRead, realRead, textRead, argumentRead, begun, ended, parsed};
+ghost use Rattle.parse.specs.Parse.{le32, le64, withNumber, withReal, withText, wordRead, variantRead, doubleWordRead, realRead, textRead, argumentRead, begun, ended, parsed};
 
 // What an argument is. A signed number is read as its 32 bits, and a new object's id as a number.
 pub enum Argument {
@@ -28,7 +28,7 @@ pub struct Signature {
     pub third: Argument,
 }
 
-pub enum SignatureOf {
+pub enum Found {
     Request(Signature),
     InvalidOpcode,
 }
@@ -92,10 +92,10 @@ fn of_bits(bits: u32) -> f32
 }
 
 // Rows of the table, by how many arguments the request has.
-fn three(request: u64, first: Argument, second: Argument, third: Argument) -> SignatureOf
+fn three(request: u64, first: Argument, second: Argument, third: Argument) -> Found
     ensures { λ r. ⌜ r ≡ row request first second third ⌝ }
 {
-    SignatureOf::Request(Signature {
+    Found::Request(Signature {
         request,
         first,
         second,
@@ -103,19 +103,19 @@ fn three(request: u64, first: Argument, second: Argument, third: Argument) -> Si
     })
 }
 
-fn two(request: u64, first: Argument, second: Argument) -> SignatureOf
+fn two(request: u64, first: Argument, second: Argument) -> Found
     ensures { λ r. ⌜ r ≡ row request first second Argument.None ⌝ }
 {
     three(request, first, second, Argument::None)
 }
 
-fn one(request: u64, first: Argument) -> SignatureOf
+fn one(request: u64, first: Argument) -> Found
     ensures { λ r. ⌜ r ≡ row request first Argument.None Argument.None ⌝ }
 {
     two(request, first, Argument::None)
 }
 
-fn none(request: u64) -> SignatureOf
+fn none(request: u64) -> Found
     ensures { λ r. ⌜ r ≡ row request Argument.None Argument.None Argument.None ⌝ }
 {
     one(request, Argument::None)
@@ -125,7 +125,7 @@ fn none(request: u64) -> SignatureOf
 const HANDSHAKE: u8 = 0;
 
 // The requests of an interface, by opcode.
-pub fn signature(interface: u8, opcode: u32) -> SignatureOf
+pub fn signature_of(interface: u8, opcode: u32) -> Found
     ensures { λ r. ⌜ r ≡ signatureOf interface opcode ⌝ }
 {
     match interface {
@@ -135,22 +135,23 @@ pub fn signature(interface: u8, opcode: u32) -> SignatureOf
             2 => one(2, Argument::ContextType),
             3 => one(3, Argument::String),
             4 => two(4, Argument::String, Argument::Uint32),
-            _ => SignatureOf::InvalidOpcode,
+            _ => Found::InvalidOpcode,
         },
         eiproto_eis::CONNECTION => match opcode {
             0 => two(5, Argument::Uint64, Argument::Uint32),
             1 => none(6),
-            _ => SignatureOf::InvalidOpcode,
+            _ => Found::InvalidOpcode,
         },
+        eiproto_eis::CALLBACK => Found::InvalidOpcode,
         eiproto_eis::PINGPONG => match opcode {
             0 => one(7, Argument::Uint64),
-            _ => SignatureOf::InvalidOpcode,
+            _ => Found::InvalidOpcode,
         },
         eiproto_eis::SEAT => match opcode {
             0 => none(8),
             1 => one(9, Argument::Uint64),
             2 => one(10, Argument::Uint64),
-            _ => SignatureOf::InvalidOpcode,
+            _ => Found::InvalidOpcode,
         },
         eiproto_eis::DEVICE => match opcode {
             0 => none(11),
@@ -158,34 +159,34 @@ pub fn signature(interface: u8, opcode: u32) -> SignatureOf
             2 => one(13, Argument::Uint32),
             3 => two(14, Argument::Uint32, Argument::Uint64),
             4 => none(15),
-            _ => SignatureOf::InvalidOpcode,
+            _ => Found::InvalidOpcode,
         },
         eiproto_eis::POINTER => match opcode {
             0 => none(16),
             1 => two(17, Argument::Float, Argument::Float),
-            _ => SignatureOf::InvalidOpcode,
+            _ => Found::InvalidOpcode,
         },
         eiproto_eis::POINTER_ABSOLUTE => match opcode {
             0 => none(18),
             1 => two(19, Argument::Float, Argument::Float),
-            _ => SignatureOf::InvalidOpcode,
+            _ => Found::InvalidOpcode,
         },
         eiproto_eis::SCROLL => match opcode {
             0 => none(20),
             1 => two(21, Argument::Float, Argument::Float),
             2 => two(22, Argument::Uint32, Argument::Uint32),
             3 => three(23, Argument::Uint32, Argument::Uint32, Argument::Uint32),
-            _ => SignatureOf::InvalidOpcode,
+            _ => Found::InvalidOpcode,
         },
         eiproto_eis::BUTTON => match opcode {
             0 => none(24),
             1 => two(25, Argument::Uint32, Argument::PressState),
-            _ => SignatureOf::InvalidOpcode,
+            _ => Found::InvalidOpcode,
         },
         eiproto_eis::KEYBOARD => match opcode {
             0 => none(26),
             1 => two(27, Argument::Uint32, Argument::PressState),
-            _ => SignatureOf::InvalidOpcode,
+            _ => Found::InvalidOpcode,
         },
         eiproto_eis::TOUCHSCREEN => match opcode {
             0 => none(28),
@@ -193,15 +194,15 @@ pub fn signature(interface: u8, opcode: u32) -> SignatureOf
             2 => three(30, Argument::Uint32, Argument::Float, Argument::Float),
             3 => one(31, Argument::Uint32),
             4 => one(32, Argument::Uint32),
-            _ => SignatureOf::InvalidOpcode,
+            _ => Found::InvalidOpcode,
         },
         eiproto_eis::TEXT => match opcode {
             0 => none(33),
             1 => two(34, Argument::Uint32, Argument::PressState),
             2 => one(35, Argument::String),
-            _ => SignatureOf::InvalidOpcode,
+            _ => Found::InvalidOpcode,
         },
-        _ => SignatureOf::InvalidOpcode,
+        _ => Found::InvalidOpcode,
     }
 }
 
@@ -289,32 +290,35 @@ fn with_text(p: Progress, next: usize, start: usize, length: usize) -> Progress
     }
 }
 
-// Whether a number stands for a case, where the argument is an enum's.
-fn is_variant(kind: Argument, number: u32) -> bool
-    ensures { λ r. ⌜ r ≡ isVariant kind number ⌝ }
+// An argument of four bytes that is a whole number, and one that is an enum's, whose cases have these numbers and those between.
+fn word(message: &[u8], p: Progress) -> Walk
+    ensures { λ r. ⌜ r ≡ wordRead (now (message .entry)) p ⌝ }
 {
-    match kind {
-        Argument::PressState => number <= 1,
-        Argument::ContextType => 1 <= number && number <= 2,
-        _ => true,
+    let at = p.at;
+    if !has(message, at, 4) {
+        return Walk::Malformed(ParseError::EndOfMessage);
     }
+    Walk::Reading(with_number(p, at + 4, number32(message, at) as u64))
 }
 
-// An argument of four bytes that is a whole number.
-fn word(kind: Argument, message: &[u8], p: Progress) -> Walk
-    ensures { λ r. ⌜ r ≡ wordRead kind (now (message .entry)) p ⌝ }
+fn variant(message: &[u8], p: Progress, least: u32, most: u32) -> Walk
+    ensures { λ r. ⌜ r ≡ variantRead least most (now (message .entry)) p ⌝ }
 {
     let at = p.at;
     if !has(message, at, 4) {
         return Walk::Malformed(ParseError::EndOfMessage);
     }
     let number = number32(message, at);
-    if !is_variant(kind, number) {
+    if number < least {
+        return Walk::Malformed(ParseError::InvalidVariant { variant: number });
+    }
+    if most < number {
         return Walk::Malformed(ParseError::InvalidVariant { variant: number });
     }
     Walk::Reading(with_number(p, at + 4, number as u64))
 }
 
+// One of eight bytes.
 fn double_word(message: &[u8], p: Progress) -> Walk
     ensures { λ r. ⌜ r ≡ doubleWordRead (now (message .entry)) p ⌝ }
 {
@@ -325,6 +329,7 @@ fn double_word(message: &[u8], p: Progress) -> Walk
     Walk::Reading(with_number(p, at + 8, number64(message, at)))
 }
 
+// A real number.
 fn real(message: &[u8], p: Progress) -> Walk
     ensures { λ r. ⌜ r ≡ realRead (now (message .entry)) p ⌝ }
 {
@@ -360,7 +365,7 @@ fn text(message: &[u8], p: Progress) -> Walk
 }
 
 // One argument, where all before it were read.
-fn argument(kind: Argument, message: &[u8], walk: Walk) -> Walk
+fn read_argument(kind: Argument, message: &[u8], walk: Walk) -> Walk
     ensures { λ r. ⌜ r ≡ argumentRead kind (now (message .entry)) walk ⌝ }
 {
     let Walk::Reading(p) = walk else {
@@ -368,10 +373,12 @@ fn argument(kind: Argument, message: &[u8], walk: Walk) -> Walk
     };
     match kind {
         Argument::None => walk,
+        Argument::Uint32 => word(message, p),
         Argument::Uint64 => double_word(message, p),
         Argument::Float => real(message, p),
         Argument::String => text(message, p),
-        _ => word(kind, message, p),
+        Argument::PressState => variant(message, p, 0, 1),
+        Argument::ContextType => variant(message, p, 1, 2),
     }
 }
 
@@ -412,7 +419,8 @@ fn end(message: &[u8], walk: Walk) -> Parsed
                     header: length as u32,
                 });
             }
-            Parsed::Read(p.read)
+            let read = p.read;
+            Parsed::Read(read)
         }
     }
 }
@@ -423,15 +431,18 @@ pub fn parse(interface: u8, message: &[u8]) -> Parsed
     ensures { λ r. ⌜ r ≡ parsed interface (now (message .entry)) ⌝ }
 {
     let opcode = number32(message, 12);
-    match signature(interface, opcode) {
-        SignatureOf::InvalidOpcode => Parsed::Malformed(ParseError::InvalidOpcode {
+    match signature_of(interface, opcode) {
+        Found::InvalidOpcode => Parsed::Malformed(ParseError::InvalidOpcode {
             interface,
             opcode,
         }),
-        SignatureOf::Request(s) => {
-            let first = argument(s.first, message, begin(s.request));
-            let second = argument(s.second, message, first);
-            end(message, argument(s.third, message, second))
+        Found::Request(s) => {
+            let first = s.first;
+            let second = s.second;
+            let third = s.third;
+            let one = read_argument(first, message, begin(s.request));
+            let two = read_argument(second, message, one);
+            end(message, read_argument(third, message, two))
         }
     }
 }
