@@ -432,10 +432,7 @@ pub fn parse(interface: u8, message: &[u8]) -> Parsed
 {
     let opcode = number32(message, 12);
     match signature_of(interface, opcode) {
-        Found::InvalidOpcode => Parsed::Malformed(ParseError::InvalidOpcode {
-            interface,
-            opcode,
-        }),
+        Found::InvalidOpcode => Parsed::Malformed(ParseError::InvalidOpcode { interface, opcode }),
         Found::Request(s) => {
             let first = s.first;
             let second = s.second;
