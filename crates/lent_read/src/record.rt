@@ -39,7 +39,7 @@ pub struct RequestCell {
 }
 
 // The request that the numbers mean. A number too wide for its field is cut, and a request past the last means Pingpong's Done, which does nothing.
-fn request_of(c: RequestCell) -> Request
+pub fn request_of(c: RequestCell) -> Request
     ensures { λ r. ⌜ r ≡ requestOf c ⌝ }
 {
     let number = c.request;

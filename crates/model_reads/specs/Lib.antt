@@ -1,3 +1,4 @@
+pub mod Message
 pub mod Read
 pub mod Acts
 pub mod Trials
