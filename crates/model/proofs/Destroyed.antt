@@ -38,7 +38,7 @@ use Rattle.model.proofs.Within.{step-by}
 -- ---- counts
 
 module _ (x : ℕ) where
-  count-append : (xs ys : List ℕ) → countOf x (xs ++ ys) ≡ countOf x xs + countOf x ys
+  pub count-append : (xs ys : List ℕ) → countOf x (xs ++ ys) ≡ countOf x xs + countOf x ys
   unfolding countOf
   count-append [] ys = omega arith
   count-append (y ∷ xs) ys = omega (arith, count-append xs ys)
@@ -362,7 +362,7 @@ module _ {P : Type 0} (x : ℕ) where
     leaf-adds (Leaf.answered o m) = answer-adds o (modest-ids o m)
     leaf-adds (Leaf.synced callback) = calm _ refl refl refl
     leaf-adds (Leaf.syncedMessage callback) = calm _ refl refl refl
-    leaf-adds (Leaf.noted object event edits m h) = calm _ refl (rw (m _)) (noted-still h)
+    leaf-adds (Leaf.noted object event edits m h) = calm _ refl (rw (m _ .0)) (noted-still h)
     leaf-adds (Leaf.released cap id f e) =
         record { sum = omega (arith, found-unlisted x cap id (s .devices) f (ok .bits) e) }
     leaf-adds (Leaf.deviceGone id f e) =

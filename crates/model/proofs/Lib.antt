@@ -23,3 +23,4 @@ pub mod ReachablePlans
 pub mod Reachable
 pub mod Destroyed
 pub mod Released
+pub mod Live

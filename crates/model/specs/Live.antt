@@ -1,6 +1,6 @@
 -- WHICH OBJECTS LIVE, "each until the event by which the protocol destroys it, and of which interface and version": they follow from the tables, and nothing is
 -- stored twice. proofs/Live.antt proves the statement. Assumes nothing.
-use Prim.Native.Nat.{ℕ, _<_}
+use Prim.Native.Nat.{ℕ}
 use mathlib.Core.Path.{_≡_}
 use mathlib.Core.Bool.{Bool, true, false, _&&_, _||_, not, cond}
 use mathlib.Core.List.{List, [], _∷_, map}
@@ -76,11 +76,11 @@ disconnectedIn [] = false
 disconnectedIn (r ∷ rs) = hasDisconnected (r .events) || disconnectedIn rs
 
 -- The connection is alive until a `disconnected` is sent; any other id is alive when it was given, as a seat's, a device's or an interface's, and its `destroyed`
--- was not sent. (The connection's id is below those that the session gives; a callback's id may be any, and its `done` destroys no object that the tables hold)
+-- was not sent. (A callback's id may be any, and its `done` destroys no object that the tables hold)
 unfoldable pub Live-is-announced : Type 0
 unfolding live isFound countOf idsIn destroyedIn disconnectedIn trail sessionAfter fresh view
 Live-is-announced =
-    (c s n : ℕ) (vs : List (Option ℕ)) (ts : List Turn) (id : ℕ) → c < n →
+    (c s n : ℕ) (vs : List (Option ℕ)) (ts : List Turn) (id : ℕ) →
     let steps = trail c s n vs ts in
     let after = sessionAfter (map split ts) (fresh {P = Load} c s n vs) in
     isFound (live (view after) id)

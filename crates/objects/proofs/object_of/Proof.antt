@@ -1,5 +1,4 @@
 -- The version is that of the interface. Assumes nothing.
-use Prim.Native.Nat.{ℕ}
 use mathlib.Core.Option.{some}
 use Rattle.model.specs.Live.{objectOf}
 use borrow.Author.Needs.{needs}
