@@ -129,13 +129,13 @@ fn receive_on(
     ensures { λ r. ⌜ ReceivesBy control words reals texts out (readingOn object interface version (now (message .entry))) clock r ⌝ }
 {
     let length = parse::number32(message, 8);
-    if length < HEADER_LENGTH as u32 {
-        return Received::Malformed(ParseError::HeaderLength { length });
-    }
-    if MESSAGE_LENGTH_LIMIT as u32 < length {
-        return Received::Malformed(ParseError::HeaderLength { length });
-    }
     let n = length as usize;
+    if n < HEADER_LENGTH {
+        return Received::Malformed(ParseError::HeaderLength { length });
+    }
+    if MESSAGE_LENGTH_LIMIT < n {
+        return Received::Malformed(ParseError::HeaderLength { length });
+    }
     if message.len() < n {
         return Received::Wait;
     }
