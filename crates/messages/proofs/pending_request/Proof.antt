@@ -1,155 +1,96 @@
+-- 21, then a header, then the object. Assumes nothing.
+use Prim.Native.Nat.{ℕ, _≤_}
+use mathlib.Core.Path.{_≡_, refl, sym, ap, _∙_}
+use mathlib.Core.Bool.{true, false, false≢true}
+use mathlib.Core.List.{List}
+use native.Mathlib.Omega.{arith}
 use borrow.Author.Needs.{needs}
+use Rattle.model.specs.Session.{view}
+use Rattle.session.specs.View.{Store, store, session, isWhole}
+use Rattle.session.proofs.Views.{whole-parts}
+use Rattle.answers.specs.declared.Answer.{Answer}
+use Rattle.answers.proofs.Meetings.{failed, passed}
+use Rattle.objects.specs.Answer.{objectTold}
+use Rattle.messages.specs.Received.{ReceivedAs, ReceivedFrom, Told}
+use Rattle.messages.specs.declared.Received.{Received}
+use Rattle.messages.specs.Reading.{reading}
+use Rattle.messages.proofs.Bytes.{no-header, not-alive, alive}
 use Rattle.messages.proofs.pending_request.Statement.{statement}
 use Rattle.messages.proofs.pending_request.Tie as tie
-use Rattle.messages.proofs.pending_request.Reads as reads
-use Rattle.messages.proofs.pending_request.Lts as lts
-use Rattle.answers.proofs.Answer.refused.Reads as refused-reads
-use Rattle.messages.proofs.receive_on.Reads as receive-on-reads
-use Rattle.objects.proofs.find_object.Reads as find-object-reads
-use Rattle.parse.proofs.number64.Reads as number64-reads
-use Rattle.session.proofs.whole.Reads as whole-reads
 
--- src/lib.rt:177:9
-whole-requires : tie.Need-whole-requires
-whole-requires c κs = search needs
+-- behind 21's test
+whole-received : {s e : Store} {out later bytes : List ℕ} {clock : ℕ} {r : Received} → isWhole s ≡ true → ReceivedAs s e out later (reading (view (session s)) bytes) clock r
+    → ReceivedFrom s e out later bytes clock r
+whole-received w h = record { damaged = λ d. absurd (false≢true (sym d ∙ w)); read = λ _. h }
 
--- src/lib.rt:178:13
-refused-requires : tie.Need-refused-requires
-refused-requires c κs = search needs
+whole : (p : tie.Else1) → let a = p .before .before .before .before .before .before .before .before .before .before .before .args in isWhole (store (a .control .now) (a .words .now) (a .reals .now) (a .texts .now)) ≡ true
+whole p = passed (p .before .whole .ensures) (p .if1 .left)
 
--- src/lib.rt:179:9
-same-length : tie.Need-same-length
-same-length c = search needs
-
--- src/lib.rt:179:9
-same-length-2 : tie.Need-same-length-2
-same-length-2 c = search needs
-
--- src/lib.rt:179:9
-same-length-3 : tie.Need-same-length-3
-same-length-3 c = search needs
-
--- src/lib.rt:179:9
-same-length-4 : tie.Need-same-length-4
-same-length-4 c = search needs
-
--- src/lib.rt:179:9
 returns : tie.Need-returns
-returns c = ?
+returns c =
+    let d = failed (c .before .before .whole .ensures) (c .before .if1 .taken) in
+    let told = c .refused .ensures in
+    record {
+      damaged = λ _. ((λ i. Received.Handed (record { outcome = told .0 i; count = told .1 i }) 0), (refl, refl));
+      read = λ w. absurd (false≢true (sym d ∙ w));
+    }
 
--- src/lib.rt:182:9
-same-length-5 : tie.Need-same-length-5
-same-length-5 c = search needs
-
--- src/lib.rt:182:9
-same-length-6 : tie.Need-same-length-6
-same-length-6 c = search needs
-
--- src/lib.rt:182:9
-same-length-7 : tie.Need-same-length-7
-same-length-7 c = search needs
-
--- src/lib.rt:182:9
-same-length-8 : tie.Need-same-length-8
-same-length-8 c = search needs
-
--- src/lib.rt:182:9
 returns-2 : tie.Need-returns-2
-returns-2 c = ?
+returns-2 c =
+    let a = c .before .before .before .before .before .before .before .before .before .before .before .before .before .args in
+    whole-received (whole (c .before)) (rw (no-header (view (session (store (a .control .now) (a .words .now) (a .reals .now) (a .texts .now)))) (a .message .now) (omega arith)) (refl, (refl, refl)))
 
--- src/lib.rt:184:9
-number64-requires : tie.Need-number64-requires
-number64-requires c κs = search needs
-
--- src/lib.rt:185:11
 find-object-requires : tie.Need-find-object-requires
-find-object-requires c κs = ?
+find-object-requires c κs = whole-parts _ (whole (c .before .before .before)) .sound
 
--- src/lib.rt:186:28
-enum-told : tie.Need-enum-told
-enum-told c = search needs
-
--- src/lib.rt:187:25
-enum-known-interface : tie.Need-enum-known-interface
-enum-known-interface c = search needs
-
--- src/lib.rt:187:49
 receive-on-requires : tie.Need-receive-on-requires
-receive-on-requires c κs = ?
+receive-on-requires c κs = (whole-parts _ (whole (c .before .before .before .before .before .before .before .before .before .before .before .before)), omega arith)
 
--- src/lib.rt:166:1
-same-length-9 : tie.Need-same-length-9
-same-length-9 c = search needs
-
--- src/lib.rt:166:1
-same-length-10 : tie.Need-same-length-10
-same-length-10 c = search needs
-
--- src/lib.rt:166:1
-same-length-11 : tie.Need-same-length-11
-same-length-11 c = search needs
-
--- src/lib.rt:166:1
-same-length-12 : tie.Need-same-length-12
-same-length-12 c = search needs
-
--- src/lib.rt:166:1
 returns-3 : tie.Need-returns-3
-returns-3 c = ?
+returns-3 c =
+    let a = c .before .before .before .before .before .before .before .before .before .before .before .before .before .before .before .before .before .before .args in
+    let s = store (a .control .now) (a .words .now) (a .reals .now) (a .texts .now) in
+    whole-received (whole (c .before .before .before .before .before .before))
+    (rw (not-alive (view (session s)) (a .message .now) (omega arith) (c .before .before .before .before .number64 .ensures) (sym (ap objectTold (c .enum-told .given .1)) ∙ c .before .before .find-object .ensures (a .words .now) (a .reals .now) (a .texts .now)))
+    (refl, (refl, refl)))
 
--- src/lib.rt:166:1
-same-length-13 : tie.Need-same-length-13
-same-length-13 c = search needs
-
--- src/lib.rt:166:1
-same-length-14 : tie.Need-same-length-14
-same-length-14 c = search needs
-
--- src/lib.rt:166:1
-same-length-15 : tie.Need-same-length-15
-same-length-15 c = search needs
-
--- src/lib.rt:166:1
-same-length-16 : tie.Need-same-length-16
-same-length-16 c = search needs
-
--- src/lib.rt:166:1
-same-length-17 : tie.Need-same-length-17
-same-length-17 c = search needs
-
--- src/lib.rt:166:1
 returns-4 : tie.Need-returns-4
-returns-4 c = ?
+returns-4 c =
+    let a = c .before .before .before .before .before .before .before .before .before .before .before .before .before .before .before .before .before .before .before .before .before .before .before .before .before .before .before .before .before .before .before .before .before .before .before .args in
+    let s = store (a .control .now) (a .words .now) (a .reals .now) (a .texts .now) in
+    whole-received (whole (c .before .before .before .before .before .before .before .before .before .before .before .before .before .before .before .before .before .before .before .before .before .before .before))
+    (rw (alive (view (session s)) (a .message .now) (omega arith) (c .before .before .before .before .before .before .before .before .before .before .before .before .before .before .before .before .before .before .before .before .before .number64 .ensures) _ (sym (ap objectTold (c .before .before .before .before .before .before .before .before .before .before .before .before .before .before .before .before .before .interface .given .1)) ∙ c .before .before .before .before .before .before .before .before .before .before .before .before .before .before .before .before .before .before .before .find-object .ensures (a .words .now) (a .reals .now) (a .texts .now)))
+    (c .before .before .before .before .before .before .before .before .before .before .receive-on .ensures))
 
 pub pending-request-spec : {M : Type 1} → statement M
 pending-request-spec =
     tie.close
     (tie.spec
-    whole-requires
-    refused-requires
-    same-length
-    same-length-2
-    same-length-3
-    same-length-4
+    (λ c κs. search needs)  -- whole-requires
+    (λ c κs. search needs)  -- refused-requires
+    (λ c. search needs)  -- same-length
+    (λ c. search needs)  -- same-length-2
+    (λ c. search needs)  -- same-length-3
+    (λ c. search needs)  -- same-length-4
     returns
-    same-length-5
-    same-length-6
-    same-length-7
-    same-length-8
+    (λ c. search needs)  -- same-length-5
+    (λ c. search needs)  -- same-length-6
+    (λ c. search needs)  -- same-length-7
+    (λ c. search needs)  -- same-length-8
     returns-2
-    number64-requires
+    (λ c κs. search needs)  -- number64-requires
     find-object-requires
-    enum-told
-    enum-known-interface
+    (λ c. search needs)  -- enum-told
+    (λ c. search needs)  -- enum-known-interface
     receive-on-requires
-    same-length-9
-    same-length-10
-    same-length-11
-    same-length-12
+    (λ c. search needs)  -- same-length-9
+    (λ c. search needs)  -- same-length-10
+    (λ c. search needs)  -- same-length-11
+    (λ c. search needs)  -- same-length-12
     returns-3
-    same-length-13
-    same-length-14
-    same-length-15
-    same-length-16
-    same-length-17
+    (λ c. search needs)  -- same-length-13
+    (λ c. search needs)  -- same-length-14
+    (λ c. search needs)  -- same-length-15
+    (λ c. search needs)  -- same-length-16
+    (λ c. search needs)  -- same-length-17
     returns-4)

@@ -1,104 +1,73 @@
+-- The length, then whether the message is whole, then its arguments, then its request. Assumes nothing.
+use Prim.Native.Nat.{ℕ, _≤_}
+use mathlib.Core.Path.{_≡_, refl, sym, ap, _∙_}
+use native.Mathlib.Omega.{arith}
 use borrow.Author.Needs.{needs}
+use lib.ListN.{length, take}
+use Rattle.parse.specs.declared.Parsed.{Parsed}
+use Rattle.parse.proofs.Parts.{text-within}
+use Rattle.messages.specs.declared.Received.{Received}
+use Rattle.messages.proofs.Bytes.{length-taken, low-length, high-length, not-whole, bad-arguments, good-arguments}
 use Rattle.messages.proofs.receive_on.Statement.{statement}
 use Rattle.messages.proofs.receive_on.Tie as tie
-use Rattle.messages.proofs.receive_on.Reads as reads
-use Rattle.messages.proofs.receive_on.Lts as lts
-use Rattle.messages.proofs.hand_on.Reads as hand-on-reads
-use Rattle.messages.proofs.taken_of.Reads as taken-of-reads
-use Rattle.parse.proofs.number32.Reads as number32-reads
-use Rattle.parse.proofs.parse.Reads as parse-reads
 
--- src/lib.rt:131:9
-number32-requires : tie.Need-number32-requires
-number32-requires c κs = search needs
-
--- src/lib.rt:132:13
-cast-n : tie.Need-cast-n
-cast-n c = search needs
-
--- src/lib.rt:134:9
 returns : tie.Need-returns
-returns c = ?
+returns c =
+    let a = c .before .before .before .before .before .before .before .before .args in
+    rw (low-length (a .object) (a .interface) (a .version) (a .message .now) (c .before .number32 .ensures) (omega arith)) (refl, (refl, refl))
 
--- src/lib.rt:137:9
 returns-2 : tie.Need-returns-2
-returns-2 c = ?
+returns-2 c =
+    let a = c .before .before .before .before .before .before .before .before .before .args in
+    rw (high-length (a .object) (a .interface) (a .version) (a .message .now) (c .before .before .number32 .ensures) (omega arith) (omega arith)) (refl, (refl, refl))
 
--- src/lib.rt:140:9
 returns-3 : tie.Need-returns-3
-returns-3 c = ?
+returns-3 c =
+    let a = c .before .before .before .before .before .before .before .before .before .before .args in
+    rw (not-whole (a .object) (a .interface) (a .version) (a .message .now) (c .before .before .before .number32 .ensures) (omega arith) (omega arith) (omega arith)) (refl, (refl, refl))
 
--- src/lib.rt:142:9
 slice-aggregate-whole : tie.Need-slice-aggregate-whole
-slice-aggregate-whole c = ?
+slice-aggregate-whole c = sym (length-taken (c .before .before .before .before .number32 .result) (c .before .before .before .before .before .before .before .before .before .before .before .args .message .now) (omega arith))
 
--- src/lib.rt:143:11
 parse-requires : tie.Need-parse-requires
-parse-requires c κs = ?
+parse-requires c κs = rw (length-taken (c .before .before .before .before .number32 .result) (c .before .before .before .before .before .before .before .before .before .before .before .args .message .now) (omega arith)) (omega arith, omega arith)
 
--- src/lib.rt:144:27
-enum-known-e : tie.Need-enum-known-e
-enum-known-e c = search needs
-
--- src/lib.rt:145:22
-enum-known-a : tie.Need-enum-known-a
-enum-known-a c = search needs
-
--- src/lib.rt:146:17
 hand-on-requires : tie.Need-hand-on-requires
-hand-on-requires c κs = ?
+hand-on-requires c κs =
+    let a = c .before .before .before .before .before .before .before .before .before .before .before .before .before .before .before .before .before .before .before .before .args in
+    (c .before .before .before .before .before .before .before .before .before .before .before .before .before .before .before .before .before .before .before .before .pre .0, text-within (take (c .before .before .before .before .before .before .before .before .before .before .before .before .before .number32 .result) (a .message .now)) (a .interface) _ (sym (c .before .before .before .before .before .before .before .before .parse .ensures) ∙ c .before .before .before .before .before .before .a .given .1))
 
--- src/lib.rt:159:17
-taken-of-requires : tie.Need-taken-of-requires
-taken-of-requires c κs = search needs
-
--- src/lib.rt:116:1
+-- behind the tests of its length
 returns-4 : tie.Need-returns-4
-returns-4 c = ?
+returns-4 c =
+    let a = c .before .before .before .before .before .before .before .before .before .before .before .before .before .before .before .args in
+    rw (bad-arguments (a .object) (a .interface) (a .version) (a .message .now) (c .before .before .before .before .before .before .before .before .number32 .ensures) (omega arith) (omega arith) (omega arith) (c .before .before .before .parse .ensures) _ (c .before .e .given .1)) (refl, (refl, refl))
 
--- src/lib.rt:116:1
-same-length : tie.Need-same-length
-same-length c = search needs
-
--- src/lib.rt:116:1
-same-length-2 : tie.Need-same-length-2
-same-length-2 c = search needs
-
--- src/lib.rt:116:1
-same-length-3 : tie.Need-same-length-3
-same-length-3 c = search needs
-
--- src/lib.rt:116:1
-same-length-4 : tie.Need-same-length-4
-same-length-4 c = search needs
-
--- src/lib.rt:116:1
-same-length-5 : tie.Need-same-length-5
-same-length-5 c = search needs
-
--- src/lib.rt:116:1
 returns-5 : tie.Need-returns-5
-returns-5 c = ?
+returns-5 c =
+    let a = c .before .before .before .before .before .before .before .before .before .before .before .before .before .before .before .before .before .before .before .before .before .before .before .before .before .before .before .before .before .before .before .before .args in
+    rw (good-arguments (a .object) (a .interface) (a .version) (a .message .now) (c .before .before .before .before .before .before .before .before .before .before .before .before .before .before .before .before .before .before .before .before .before .before .before .before .number32 .ensures) (omega arith) (omega arith) (omega arith) (c .before .before .before .before .before .before .before .before .before .before .before .before .before .before .before .before .before .before .before .before .parse .ensures) _ (c .before .before .before .before .before .before .before .before .before .before .before .before .before .before .before .before .before .before .a .given .1))
+    (record { answer = c .before .before .before .before .before .before .before .before .before .before .before .hand-on .result; told = ap (λ (n : ℕ). Received.Handed (c .before .before .before .before .before .before .before .before .before .before .before .hand-on .result) n) (c .taken-of .ensures); handled = c .before .before .before .before .before .before .before .before .before .before .before .hand-on .ensures })
 
 pub receive-on-spec : {M : Type 1} → statement M
 receive-on-spec =
     tie.close
     (tie.spec
-    number32-requires
-    cast-n
+    (λ c κs. search needs)  -- number32-requires
+    (λ c. search needs)  -- cast-n
     returns
     returns-2
     returns-3
     slice-aggregate-whole
     parse-requires
-    enum-known-e
-    enum-known-a
+    (λ c. search needs)  -- enum-known-e
+    (λ c. search needs)  -- enum-known-a
     hand-on-requires
-    taken-of-requires
+    (λ c κs. search needs)  -- taken-of-requires
     returns-4
-    same-length
-    same-length-2
-    same-length-3
-    same-length-4
-    same-length-5
+    (λ c. search needs)  -- same-length
+    (λ c. search needs)  -- same-length-2
+    (λ c. search needs)  -- same-length-3
+    (λ c. search needs)  -- same-length-4
+    (λ c. search needs)  -- same-length-5
     returns-5)
