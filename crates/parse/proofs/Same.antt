@@ -1,6 +1,6 @@
 -- Messages that differ in payload alone are read alike: the walks of both go side by side. Assumes nothing.
 use Prim.Native.Nat.{ℕ, zero, suc, _+_, _-_, _≤_, _<_, zero-le}
-use mathlib.Core.Path.{_≡_, refl, sym, ap, subst, _∙_}
+use mathlib.Core.Path.{_≡_, refl, sym, subst}
 use mathlib.Core.Bool.{Bool, true, false, _&&_, cond}
 use mathlib.Core.List.{List, [], _∷_}
 use mathlib.Core.Logic.{inl, inr}
@@ -9,18 +9,18 @@ use borrow.Author.Tests.{leb-true, le-leb}
 use lib.Dec.{leb, ltb, eqb, lit<, lit≤}
 use lib.Ieee.{binary32, ofBits}
 use lib.Ieee.{Float as Ieee}
-use lib.ListN.{length, getD, take, drop, length-take, length-drop}
+use lib.ListN.{length, getD, length-take, length-drop}
 use lib.Seq.{ext-getD}
 use Rattle.utf8.specs.Rfc3629.{isUtf8}
 use Rattle.wire.specs.declared.ParseError.{ParseError}
-use Rattle.parse.specs.declared.Argument.the-variants.{None, Uint32, Uint64, Float, String, PressState, ContextType}
+use Rattle.parse.specs.declared.Argument.the-variants.{None, Uint32, Float, String, PressState}
 use Rattle.parse.specs.declared.Found.{Found}
 use Rattle.parse.specs.declared.Parsed.{Parsed}
 use Rattle.parse.specs.declared.Progress.{Progress}
 use Rattle.parse.specs.declared.Walk.{Walk}
 use Rattle.parse.specs.Table.{row, table, signatureOf}
-use Rattle.parse.specs.Parse.{le32, padded, textAt, withNumber, withReal, withText, needing, readBy, argumentRead, wordRead, realRead, textRead, variantRead, begun, ended, parsedAs, parsed}
-use Rattle.parse.specs.Same.{Part, Outside, payload, Moves, motion-relative, motion-absolute, scroll, Touches, down, motion, States, button, key, keysym, Texts, textOf, SameAs, numberOf, Same, numbered, whole, texted, isIn, Alike}
+use Rattle.parse.specs.Parse.{le32, padded, textAt, argumentsOf, progressOf, zero as nought, withNumber, withReal, withText, needing, readBy, argumentRead, wordRead, realRead, textRead, variantRead, begun, ended, parsedAs, parsed}
+use Rattle.parse.specs.Same.{Outside, payload, Moves, motion-relative, motion-absolute, scroll, Touches, down, motion, States, button, key, keysym, Texts, textOf, SameAs, numberOf, Same, numbered, whole, isIn, Alike}
 
 -- ---- the table's rows, by what is payload in them
 
@@ -180,8 +180,7 @@ module _ (m m′ : List ℕ) (long : length m ≡ length m′) where
 
 -- nothing is read yet
 abbrev start : (request : ℕ) → Progress
-start n =
-    record { at = 16; numbers = 0; reals = 0; read = record { request = n; first = 0; second = 0; third = 0; start = 0; length = 0; x = ofBits binary32 0; y = ofBits binary32 0 } }
+start n = progressOf 16 0 0 (argumentsOf n 0 0 0 0 0 nought nought)
 
 begin : (n : ℕ) → Both (Unit {0}) (start n) (start n) (begun n) (begun n)
 unfolding begun
@@ -248,7 +247,7 @@ module _ (m m′ : List ℕ) where
         let l = s .long in
         let e = first-same s refl in
         let known : 20 + padded (le32 m 16) ≤ length m → Texts (textAt m 20 (le32 m 16)) (textAt m′ 20 (le32 m 16)) =
-            (λ h. subst (λ (n : ℕ). Texts (textOf m) (textAt m′ 20 n)) (sym e) (s .texts refl h)) in
+        (λ h. subst (λ (n : ℕ). Texts (textOf m) (textAt m′ 20 n)) (sym e) (s .texts refl h)) in
         last m m′ l refl (λ h. Alike.text 20 (le32 m 16 - 1) (simp (length-take, length-drop, l)) (known h))
         (no-argument m m′ l (no-argument m m′ l (text-alike m m′ l (start 35) e known)))
 

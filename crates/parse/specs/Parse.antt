@@ -29,29 +29,36 @@ le64 m at = le32 m at + 0x1_0000_0000 * le32 m (at + 4)
 
 -- ---- what was read, with one argument more
 
+abbrev pub argumentsOf : (request first second third start length : ℕ) → (x y : Float) → Arguments
+argumentsOf n a b c start length x y =
+    record { request = n; first = a; second = b; third = c; start = start; length = length; x = x; y = y }
+
+abbrev pub progressOf : (at numbers reals : ℕ) → Arguments → Progress
+progressOf at numbers reals a = record { at = at; numbers = numbers; reals = reals; read = a }
+
 -- whole numbers go to `first`, `second` and `third` in their order
 unfoldable pub withNumber : Progress → (next number : ℕ) → Progress
 withNumber p next n =
     let a = p .read in
     cond (eqb (p .numbers) 0)
-    (record { at = next; numbers = 1; reals = p .reals; read = record { request = a .request; first = n; second = a .second; third = a .third; start = a .start; length = a .length; x = a .x; y = a .y } })
+    (progressOf next 1 (p .reals) (argumentsOf (a .request) n (a .second) (a .third) (a .start) (a .length) (a .x) (a .y)))
     (cond (eqb (p .numbers) 1)
-    (record { at = next; numbers = 2; reals = p .reals; read = record { request = a .request; first = a .first; second = n; third = a .third; start = a .start; length = a .length; x = a .x; y = a .y } })
-    (record { at = next; numbers = 3; reals = p .reals; read = record { request = a .request; first = a .first; second = a .second; third = n; start = a .start; length = a .length; x = a .x; y = a .y } }))
+    (progressOf next 2 (p .reals) (argumentsOf (a .request) (a .first) n (a .third) (a .start) (a .length) (a .x) (a .y)))
+    (progressOf next 3 (p .reals) (argumentsOf (a .request) (a .first) (a .second) n (a .start) (a .length) (a .x) (a .y))))
 
 -- reals go to `x` and `y`
 unfoldable pub withReal : Progress → (next : ℕ) → Float → Progress
 withReal p next v =
     let a = p .read in
     cond (eqb (p .reals) 0)
-    (record { at = next; numbers = p .numbers; reals = 1; read = record { request = a .request; first = a .first; second = a .second; third = a .third; start = a .start; length = a .length; x = v; y = a .y } })
-    (record { at = next; numbers = p .numbers; reals = 2; read = record { request = a .request; first = a .first; second = a .second; third = a .third; start = a .start; length = a .length; x = a .x; y = v } })
+    (progressOf next (p .numbers) 1 (argumentsOf (a .request) (a .first) (a .second) (a .third) (a .start) (a .length) v (a .y)))
+    (progressOf next (p .numbers) 2 (argumentsOf (a .request) (a .first) (a .second) (a .third) (a .start) (a .length) (a .x) v))
 
 -- a text is told by its part of the message
 unfoldable pub withText : Progress → (next start length : ℕ) → Progress
 withText p next start length =
     let a = p .read in
-    record { at = next; numbers = p .numbers; reals = p .reals; read = record { request = a .request; first = a .first; second = a .second; third = a .third; start = start; length = length; x = a .x; y = a .y } }
+    progressOf next (p .numbers) (p .reals) (argumentsOf (a .request) (a .first) (a .second) (a .third) start length (a .x) (a .y))
 
 -- ---- one argument
 
@@ -124,10 +131,11 @@ argumentRead kind m (Walk.Reading p) = readBy kind m p
 -- ---- the message
 
 -- the arguments begin behind the header; what no argument gives is 0
+abbrev pub zero : Float
+zero = ofBits binary32 0
+
 unfoldable pub begun : (request : ℕ) → Walk
-unfolding ofBits
-begun n =
-    Walk.Reading (record { at = 16; numbers = 0; reals = 0; read = record { request = n; first = 0; second = 0; third = 0; start = 0; length = 0; x = ofBits binary32 0; y = ofBits binary32 0 } })
+begun n = Walk.Reading (progressOf 16 0 0 (argumentsOf n 0 0 0 0 0 zero zero))
 
 -- "MessageLength(length + left, length)": "bytes left behind the last argument"
 unfoldable pub ended : (message : List ℕ) → Walk → Parsed

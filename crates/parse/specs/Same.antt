@@ -5,15 +5,14 @@ use mathlib.Core.Bool.{Bool, true, false, _||_, cond}
 use mathlib.Core.List.{List, [], _∷_}
 use mathlib.Core.Logic.{_⊎_}
 use lib.Dec.{eqb}
-use lib.Ieee.{Float, binary32, ofBits}
+use lib.Ieee.{Float}
 use lib.ListN.{length, getD, take, drop}
 use Rattle.utf8.specs.Rfc3629.{isUtf8}
 use Rattle.wire.specs.declared.ParseError.{ParseError}
-use Rattle.parse.specs.declared.Arguments.{Arguments}
 use Rattle.parse.specs.declared.Found.{Found}
 use Rattle.parse.specs.declared.Parsed.{Parsed}
 use Rattle.parse.specs.Table.{signatureOf}
-use Rattle.parse.specs.Parse.{le32, padded, textAt}
+use Rattle.parse.specs.Parse.{le32, padded, textAt, argumentsOf, zero}
 
 -- ---- payload
 
@@ -87,16 +86,14 @@ Same interface m m′ = SameAs (numberOf (signatureOf interface (le32 m 12))) m 
 
 -- numbers and reals, and no text
 abbrev pub numbered : (request first second third : ℕ) → (x y : Float) → Parsed
-numbered n a b c x y =
-    Parsed.Read (record { request = n; first = a; second = b; third = c; start = 0; length = 0; x = x; y = y })
+numbered n a b c x y = Parsed.Read (argumentsOf n a b c 0 0 x y)
 
 -- numbers alone, and a text alone: its part of the message
 abbrev pub whole : (request first second third : ℕ) → Parsed
-whole n a b c = numbered n a b c (ofBits binary32 0) (ofBits binary32 0)
+whole n a b c = numbered n a b c zero zero
 
 abbrev pub texted : (request start length : ℕ) → Parsed
-texted n start length =
-    Parsed.Read (record { request = n; first = 0; second = 0; third = 0; start = start; length = length; x = ofBits binary32 0; y = ofBits binary32 0 })
+texted n start length = Parsed.Read (argumentsOf n 0 0 0 start length zero zero)
 
 -- the same ParseError, or the same request with arguments that are equal but for payload. Messages of a request that has none are equal.
 pub data Alike (m m′ : List ℕ) : Parsed → Parsed → Type 0 where

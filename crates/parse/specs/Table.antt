@@ -4,7 +4,6 @@ use mathlib.Core.List.{List, [], _∷_}
 use lib.ListN.{getD}
 use Rattle.parse.specs.declared.Argument.{Argument}
 use Rattle.parse.specs.declared.Argument.the-variants.{None, Uint32, Uint64, Float, String, PressState, ContextType}
-use Rattle.parse.specs.declared.Signature.{Signature}
 use Rattle.parse.specs.declared.Found.{Found}
 
 -- a request's number with its arguments
