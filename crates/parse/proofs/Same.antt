@@ -19,7 +19,7 @@ use Rattle.parse.specs.declared.Parsed.{Parsed}
 use Rattle.parse.specs.declared.Progress.{Progress}
 use Rattle.parse.specs.declared.Walk.{Walk}
 use Rattle.parse.specs.Table.{row, table, signatureOf}
-use Rattle.parse.specs.Parse.{le32, padded, textAt, argumentsOf, progressOf, zero as nought, withNumber, withReal, withText, needing, readBy, argumentRead, wordRead, realRead, textRead, variantRead, begun, ended, parsedAs, parsed}
+use Rattle.parse.specs.Parse.{le32, padded, textAt, argumentsOf, progressOf, zeroReal, withNumber, withReal, withText, needing, readBy, argumentRead, wordRead, realRead, textRead, variantRead, begun, ended, parsedAs, parsed}
 use Rattle.parse.specs.Same.{Outside, payload, Moves, motion-relative, motion-absolute, scroll, Touches, down, motion, States, button, key, keysym, Texts, textOf, SameAs, numberOf, Same, numbered, whole, isIn, Alike}
 
 -- ---- the table's rows, by what is payload in them
@@ -180,7 +180,7 @@ module _ (m m′ : List ℕ) (long : length m ≡ length m′) where
 
 -- nothing is read yet
 abbrev start : (request : ℕ) → Progress
-start n = progressOf 16 0 0 (argumentsOf n 0 0 0 0 0 nought nought)
+start n = progressOf 16 0 0 (argumentsOf n 0 0 0 0 0 zeroReal zeroReal)
 
 begin : (n : ℕ) → Both (Unit {0}) (start n) (start n) (begun n) (begun n)
 unfolding begun

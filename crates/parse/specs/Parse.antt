@@ -131,11 +131,11 @@ argumentRead kind m (Walk.Reading p) = readBy kind m p
 -- ---- the message
 
 -- the arguments begin behind the header; what no argument gives is 0
-abbrev pub zero : Float
-zero = ofBits binary32 0
+abbrev pub zeroReal : Float
+zeroReal = ofBits binary32 0
 
 unfoldable pub begun : (request : ℕ) → Walk
-begun n = Walk.Reading (progressOf 16 0 0 (argumentsOf n 0 0 0 0 0 zero zero))
+begun n = Walk.Reading (progressOf 16 0 0 (argumentsOf n 0 0 0 0 0 zeroReal zeroReal))
 
 -- "MessageLength(length + left, length)": "bytes left behind the last argument"
 unfoldable pub ended : (message : List ℕ) → Walk → Parsed

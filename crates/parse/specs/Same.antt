@@ -12,7 +12,7 @@ use Rattle.wire.specs.declared.ParseError.{ParseError}
 use Rattle.parse.specs.declared.Found.{Found}
 use Rattle.parse.specs.declared.Parsed.{Parsed}
 use Rattle.parse.specs.Table.{signatureOf}
-use Rattle.parse.specs.Parse.{le32, padded, textAt, argumentsOf, zero}
+use Rattle.parse.specs.Parse.{le32, padded, textAt, argumentsOf, zeroReal}
 
 -- ---- payload
 
@@ -90,10 +90,10 @@ numbered n a b c x y = Parsed.Read (argumentsOf n a b c 0 0 x y)
 
 -- numbers alone, and a text alone: its part of the message
 abbrev pub whole : (request first second third : ℕ) → Parsed
-whole n a b c = numbered n a b c zero zero
+whole n a b c = numbered n a b c zeroReal zeroReal
 
 abbrev pub texted : (request start length : ℕ) → Parsed
-texted n start length = Parsed.Read (argumentsOf n 0 0 0 start length zero zero)
+texted n start length = Parsed.Read (argumentsOf n 0 0 0 start length zeroReal zeroReal)
 
 -- the same ParseError, or the same request with arguments that are equal but for payload. Messages of a request that has none are equal.
 pub data Alike (m m′ : List ℕ) : Parsed → Parsed → Type 0 where
