@@ -32,7 +32,7 @@ length-taken n m h = length-take n m ∙ (omega arith)
 
 -- ---- the calls
 
-module _ {s e : Store} {out later : List ℕ} {clock : ℕ} {r : Answer} (a : Arguments) (object version : ℕ) (m : List ℕ) where
+module _ {s e : Store} {out later : List ℕ} {r : Answer} (a : Arguments) (object version clock : ℕ) (m : List ℕ) where
   pub handed-sync : a .request ≡ 5 → {second : ℕ} → second ≡ low (a .second) → Handled s e out later (Call.plain (Plain.syncMessage (a .first) second)) clock r
       → Handled s e out later (callIn a object version m) clock r
   unfolding callIn

@@ -8,13 +8,13 @@ use Rattle.messages.proofs.hand_on.Tie as tie
 returns : tie.Need-returns
 returns c =
     let a = c .before .before .before .before .before .before .before .before .before .before .before .before .before .before .before .before .args in
-    handed-sync (a .a) (a .object) (a .version) (a .message .now) (c .before .before .before .before .before .before .before .before .if1 .taken) (c .before .before .before .before .before .before .low .ensures)
+    handed-sync (a .a) (a .object) (a .version) (a .clock) (a .message .now) (c .before .before .before .before .before .before .before .before .if1 .taken) (c .before .before .before .before .before .before .low .ensures)
     (c .before .before .before .before .sync-message .ensures (a .clock) (a .words .now) (a .reals .now) (a .texts .now) (c .before .before .before .before .before .before .before .before .before .before .before .before .before .before .before .before .pre .0))
 
 returns-2 : tie.Need-returns-2
 returns-2 c =
     let a = c .before .before .before .before .before .before .before .before .before .before .before .before .before .before .before .before .before .before .before .before .before .before .before .before .before .before .before .args in
-    handed-call (a .a) (a .object) (a .version) (a .message .now) (c .before .before .before .before .before .before .before .before .before .before .before .before .before .before .before .before .before .before .before .if1 .left) (c .before .before .before .before .before .before .before .before .before .before .before .before .before .request-in .ensures) (c .before .before .before .before .before .before .before .before .before .before .before .before .before .before .before .before .before .before .before .before .before .before .before .before .before .before .before .pre .0) (c .before .before .before .before .before .before .before .before .before .before .handle-request .ensures)
+    handed-call (a .a) (a .object) (a .version) (a .clock) (a .message .now) (c .before .before .before .before .before .before .before .before .before .before .before .before .before .before .before .before .before .before .before .if1 .left) (c .before .before .before .before .before .before .before .before .before .before .before .before .before .request-in .ensures) (c .before .before .before .before .before .before .before .before .before .before .before .before .before .before .before .before .before .before .before .before .before .before .before .before .before .before .before .pre .0) (c .before .before .before .before .before .before .before .before .before .before .handle-request .ensures)
 
 pub hand-on-spec : {M : Type 1} → statement M
 hand-on-spec =

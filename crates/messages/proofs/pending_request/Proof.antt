@@ -23,7 +23,7 @@ whole-received : {s e : Store} {out later bytes : List ℕ} {clock : ℕ} {r : R
     → ReceivedFrom s e out later bytes clock r
 whole-received w h = record { damaged = λ d. absurd (false≢true (sym d ∙ w)); read = λ _. h }
 
-whole : (p : tie.Else1) → let a = p .before .before .before .before .before .before .before .before .before .before .before .args in isWhole (store (a .control .now) (a .words .now) (a .reals .now) (a .texts .now)) ≡ true
+whole : (p : tie.Else1) → let a = p .before .before .before .before .before .before .before .before .before .before .before .before .args in isWhole (store (a .control .now) (a .words .now) (a .reals .now) (a .texts .now)) ≡ true
 whole p = passed (p .before .whole .ensures) (p .if1 .left)
 
 returns : tie.Need-returns
