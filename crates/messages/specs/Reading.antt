@@ -16,8 +16,6 @@ use Rattle.lent_read.specs.Numbers.{argumentsOf, requestOf}
 use Rattle.handlers.specs.Call.{callOf}
 use Rattle.model.specs.Call.{Input, Plain, Call}
 use Rattle.model.specs.Session.{View}
-use Rattle.model.specs.Plan.{Result}
-use Rattle.model.specs.Step.{refuses}
 use Rattle.model.specs.Live.{Object, live}
 use Rattle.model_reads.specs.Message.{Reading}
 
@@ -62,8 +60,3 @@ readingOf object (some o) bytes = readingOn object (o .interface) (o .version) b
 unfoldable pub reading : View → (bytes : List ℕ) → Reading (Call Input)
 unfolding le64 live readingOf
 reading v bytes = cond (ltb (length bytes) 16) Reading.wait (readingOf (le64 bytes 0) (live v (le64 bytes 0)) bytes)
-
--- "the answer gives its length as taken", "A refused message takes nothing."
-unfoldable pub takenOf : Result → (length : ℕ) → ℕ
-unfolding refuses
-takenOf o n = cond (refuses o) 0 n

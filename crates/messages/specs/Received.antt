@@ -6,7 +6,7 @@ use mathlib.Core.List.{List}
 use lib.Ieee.{Float}
 use Rattle.model.specs.Call.{Input, Call}
 use Rattle.model.specs.Session.{view}
-use Rattle.model_reads.specs.Message.{Reading}
+use Rattle.model_reads.specs.Message.{Reading, takenOf}
 use Rattle.session.specs.View.{Store, session, isWhole}
 use Rattle.session.specs.Slices.{Numbers, Reals, before, after}
 use Rattle.answers.specs.declared.Error.{Error}
@@ -14,7 +14,7 @@ use Rattle.answers.specs.declared.Outcome.{Outcome}
 use Rattle.answers.specs.declared.Answer.{Answer}
 use Rattle.answers.specs.Answer.{outcomeOf}
 use Rattle.answers.specs.Meets.{Handled}
-use Rattle.messages.specs.Reading.{reading, takenOf}
+use Rattle.messages.specs.Reading.{reading}
 use Rattle.messages.specs.declared.Received.{Received}
 
 -- bytes that are no call: the answer, and everything as it was, bit for bit. s are the slices before, e those after, out and later the lent `out`

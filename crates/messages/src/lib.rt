@@ -23,7 +23,8 @@ ghost use Rattle.session.specs.View.{store, Whole};
 ghost use Rattle.answers.specs.Answer.{outcomeOf};
 ghost use Rattle.answers.specs.Promise.{Handles};
 ghost use Rattle.requests.specs.declared.eis.Request.{Request};
-ghost use Rattle.messages.specs.Reading.{takenOf, requestIn, callIn, readingOn};
+ghost use Rattle.model_reads.specs.Message.{takenOf};
+ghost use Rattle.messages.specs.Reading.{requestIn, callIn, readingOn};
 ghost use Rattle.messages.specs.Received.{Receives, ReceivesBy};
 
 // The object's id, the length and the opcode.

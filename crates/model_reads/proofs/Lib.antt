@@ -1,2 +1,2 @@
-pub mod EqualReads
+pub mod EqualActs
 pub mod Trials

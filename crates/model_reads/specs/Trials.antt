@@ -6,18 +6,24 @@ use lib.ListN.{replicate}
 use Rattle.eiproto.specs.declared.eiproto_enum.KeyState.{KeyState}
 use Rattle.eiproto.specs.declared.event.DeviceCapability.{DeviceCapability}
 use lib.Ieee.{nan}
-use Rattle.model.specs.Call.{Kind, Input, Load, Plain, Call, Turn}
-use Rattle.model.specs.Session.{Queued, Session, fresh}
+use Rattle.wire.specs.declared.ParseError.{ParseError}
+use Rattle.model.specs.Call.{Kind, Input, Load, Plain, Call, Turn, split}
+use Rattle.model.specs.Session.{Queued, Session, View, fresh, view}
 use Rattle.model.specs.Plan.{Result, records}
 use Rattle.model.specs.Step.{step}
 use Rattle.model.specs.Trials.{Expected, answerOf, versions, seat, device, keyboard, touchscreen, text, opening, says, gives, frameAt}
 use Rattle.model_reads.specs.Read.{Entry, Loaded, loaded, handedOver}
-use Rattle.model_reads.specs.Acts.{Act, mapAct, splitAt, afterAct}
+use Rattle.model_reads.specs.Message.{Reading, mapReading, takenOf}
+use Rattle.model_reads.specs.Acts.{Act, mapAct, splitAt, loadedBy, afterAct}
 
--- what a call or a read answered, with the event bytes that it wrote
+-- what a call or a read answered, with the event bytes that it wrote; of a message what its call answered and how many bytes were taken, or why it is no call
 pub data Reply : Type 0 where
   one : Expected → Reply
   read : (accepted : ℕ) → Result → (bytes : List ℕ) → Reply
+  message : Result → (taken : ℕ) → (bytes : List ℕ) → Reply
+  waits : Reply
+  noObject : Reply
+  malformed : ParseError → Reply
 
 -- calls and reads behind an opening, and what they are to answer
 pub record Trial : Type 0 where
@@ -26,19 +32,19 @@ pub record Trial : Type 0 where
 
 -- ---- the words of the table: the clock stands at 70, and `out` has room enough where no length is said
 
-abbrev call : Call Input → Act (Call Input)
+abbrev pub call : Call Input → Act (Call Input)
 call c = Act.one c 70 4096
 
 abbrev reads : List (Entry (Call Input)) → Act (Call Input)
 reads es = Act.read es 70 4096
 
-abbrev key : (state : KeyState) → ℕ → Call Input
+abbrev pub key : (state : KeyState) → ℕ → Call Input
 key state k = Call.timed keyboard 1 (Input.Key k state)
 
 abbrev press : ℕ → Entry (Call Input)
 press k = Entry.request (key KeyState.Press k)
 
-abbrev frame : ℕ → Call Input
+abbrev pub frame : ℕ → Call Input
 frame time = Call.plain (Plain.deviceFrame device 7 time)
 
 abbrev badBind : Entry (Call Input)
@@ -47,19 +53,19 @@ badBind = Entry.request (Call.plain (Plain.bind seat 128))
 abbrev utf8 : Call Input
 utf8 = Call.timed text 1 (Input.Utf8 (97 ∷ []))
 
-abbrev next : Act (Call Input)
+abbrev pub next : Act (Call Input)
 next = call (Call.plain Plain.nextRequest)
 
-abbrev keyAt : (time key : ℕ) → KeyState → Reply
+abbrev pub keyAt : (time key : ℕ) → KeyState → Reply
 keyAt time k state = Reply.one (gives (Queued.timed device time (record { kind = Kind.KeyboardKey; touch = 0; size = 0; load = Load.KeyPress k state })))
 
-abbrev framed : ℕ → Reply
+abbrev pub framed : ℕ → Reply
 framed time = Reply.one (gives (frameAt 7 time))
 
-abbrev accepted : Reply
+abbrev pub accepted : Reply
 accepted = Reply.one (says Result.accepted)
 
-abbrev nothing : Reply
+abbrev pub nothing : Reply
 nothing = Reply.one (says Result.none)
 
 -- a read that writes nothing
@@ -67,10 +73,10 @@ abbrev quiet : ℕ → Result → Reply
 quiet n o = Reply.read n o []
 
 -- the record that answers a Sync
-abbrev done : ℕ → List ℕ
+abbrev pub done : ℕ → List ℕ
 done callback = 0x78 ∷ 0x12 ∷ (replicate 7 0 ++ (callback ∷ replicate 8 0))
 
-abbrev trial : List (Act (Call Input)) → List Reply → Trial
+abbrev pub trial : List (Act (Call Input)) → List Reply → Trial
 trial acts replies = record { acts = acts; replies = replies }
 
 -- ---- the table
@@ -112,28 +118,39 @@ trials =
 
 -- ---- what the definitions compute
 
-unfoldable replyOf : Act (Loaded Load) → Session Load → Reply
-unfolding answerOf step handedOver records
-replyOf (Act.one c now room) s = Reply.one (answerOf (step (splitAt c now room) s))
-replyOf (Act.read es now room) s = let r = handedOver es now room s in Reply.read (r .accepted) (r .outcome) (records (r .events))
-
-unfoldable repliesOf : List (Act (Loaded Load)) → Session Load → List Reply
-unfolding replyOf afterAct
-repliesOf [] s = []
-repliesOf (x ∷ xs) s = replyOf x s ∷ repliesOf xs (afterAct x s)
+unfoldable messageReply : Reading (Loaded Load) → (now room : ℕ) → Session Load → Reply
+unfolding step records takenOf
+messageReply Reading.wait now room s = Reply.waits
+messageReply Reading.noObject now room s = Reply.noObject
+messageReply (Reading.malformed e) now room s = Reply.malformed e
+messageReply (Reading.request c n) now room s =
+    let r = step (splitAt c now room) s in Reply.message (r .outcome) (takenOf (r .outcome) n) (records (r .events))
 
 -- a seat with all capabilities and a device with all seven interfaces
 unfoldable opened : Session Load
-unfolding afterAct fresh versions mapAct loaded
+unfolding fresh versions step split
 opened = after opening (fresh 0xff00_0000_0000_0000 7 seat versions)
   where
     after : List Turn → Session Load → Session Load
     after [] s = s
-    after (t ∷ ts) s = after ts (afterAct (mapAct loaded (Act.one (t .call) (t .now) (t .room))) s)
+    after (t ∷ ts) s = after ts (step (split t) s .session)
 
-unfoldable pub computed : Trial → List Reply
-unfolding repliesOf opened mapAct loaded
-computed t = repliesOf (map (mapAct loaded) (t .acts)) opened
+-- `reads` is how bytes read in a session
+module _ (reads : View → List ℕ → Reading (Call Input)) where
+  unfoldable replyOf : Act (Loaded Load) → Session Load → Reply
+  unfolding answerOf step handedOver records messageReply mapReading loaded view
+  replyOf (Act.one c now room) s = Reply.one (answerOf (step (splitAt c now room) s))
+  replyOf (Act.read es now room) s = let r = handedOver es now room s in Reply.read (r .accepted) (r .outcome) (records (r .events))
+  replyOf (Act.message bytes now room) s = messageReply (loadedBy reads (view s) bytes) now room s
+
+  unfoldable repliesOf : List (Act (Loaded Load)) → Session Load → List Reply
+  unfolding replyOf afterAct
+  repliesOf [] s = []
+  repliesOf (x ∷ xs) s = replyOf x s ∷ repliesOf xs (afterAct (loadedBy reads) x s)
+
+  unfoldable pub computed : Trial → List Reply
+  unfolding repliesOf opened mapAct loaded
+  computed t = repliesOf (map (mapAct loaded) (t .acts)) opened
 
 unfoldable pub expected : Trial → List Reply
 expected t = t .replies

@@ -3,7 +3,7 @@ use borrow.Author.Needs.{needs}
 use Rattle.model.specs.Plan.{refusal}
 use Rattle.model.specs.Step.{refuses}
 use Rattle.answers.proofs.Meetings.{error-refuses}
-use Rattle.messages.specs.Reading.{takenOf}
+use Rattle.model_reads.specs.Message.{takenOf}
 use Rattle.messages.proofs.taken_of.Statement.{statement}
 use Rattle.messages.proofs.taken_of.Tie as tie
 
