@@ -28,6 +28,8 @@ delivers (Edit.pend k i ∷ es) = delivers es
 delivers (Edit.frame k serial time ∷ es) = delivers es
 delivers (Edit.queue r ∷ es) = delivers es
 delivers (Edit.deliver ∷ es) = true
+delivers (Edit.peerObject id ∷ es) = delivers es
+delivers (Edit.endConnection ∷ es) = delivers es
 
 unfoldable pub isGiven : Result → Bool
 isGiven Result.accepted = false
@@ -126,6 +128,8 @@ module _ {P : Type 0} where
   silent-gave (Edit.frame k serial time ∷ es) p s h = silent-gave es p (enact (Edit.frame k serial time) p s) h
   silent-gave (Edit.queue r ∷ es) p s h = silent-gave es p (enact (Edit.queue r) p s) h
   silent-gave (Edit.deliver ∷ es) p s h = absurd (true≢false h)
+  silent-gave (Edit.peerObject id ∷ es) p s h = silent-gave es p (enact (Edit.peerObject id) p s) h
+  silent-gave (Edit.endConnection ∷ es) p s h = silent-gave es p (enact Edit.endConnection p s) h
 
   plan-gave : (plan : Plan) (p : P) (s : Session P) → Tells plan → (carriedOut plan p s .gave ≡ []) ⊎ (plan .outcome ≡ Result.given)
   unfolding carriedOut

@@ -1,23 +1,33 @@
--- Reads among the other calls: each is its single calls, one after another, and what is seen of them all is what the definitions say. Assumes nothing.
+-- Reads and messages among the other calls: each read is its single calls, one after another, each message its request or nothing, and what is seen of them all is
+-- what the definitions say. Assumes nothing.
 use Prim.Native.Nat.{ℕ, _+_}
 use mathlib.Core.Path.{_≡_, refl, sym, ap, ap₂, _∙_}
-use mathlib.Core.Bool.{true}
+use mathlib.Core.Bool.{Bool, true, false, false≢true}
 use mathlib.Core.List.{List, [], _∷_, _++_, map, append-assoc}
 use mathlib.Core.Option.{Option}
 use lib.ListN.{length, take, drop}
 use lib.Seq.{take-append-seam}
 use Rattle.wire.specs.Bits.{splice}
 use Rattle.model.specs.Call.{Input, Load, Call, split}
-use Rattle.model.specs.Session.{Item, Session}
-use Rattle.model.specs.Plan.{records}
+use Rattle.wire.specs.declared.ParseError.{ParseError}
+use Rattle.model.specs.Session.{Item, Session, view}
+use Rattle.model.specs.Plan.{Result, records}
 use Rattle.model.specs.Step.{run, step}
 use Rattle.model.specs.Demand3.{Observed, observed, itemsOf}
 use Rattle.model.specs.Reachable.{sessionAfter}
 use Rattle.model_reads.specs.Read.{Entry, loaded, Read}
-use Rattle.model_reads.specs.Acts.{mapAct, ObservedAct, observedRead, observedAct, afterAct, observedActs, seenFrom, Equal-reads}
-use Rattle.model_reads.proofs.EqualReads.{equal-reads}
-use Rattle.session.specs.View.{Store, session, isWhole}
+use Rattle.model_reads.specs.Message.{Reading, mapReading, takenOf}
+use Rattle.model_reads.specs.Acts.{mapAct, ObservedAct, observedRead, observedMessage, afterMessage, observedAct, afterAct, observedActs, loadedBy, seenFrom, Equal-acts}
+use Rattle.model_reads.proofs.EqualActs.{equal-acts}
+use Rattle.session.specs.View.{Store, session, isWhole, Lending, isIntact}
 use Rattle.session.proofs.Views.{whole-is}
+use Rattle.answers.specs.declared.Answer.{Answer}
+use Rattle.answers.specs.Meets.{Handled, Answered}
+use Rattle.messages.specs.declared.Received.{Received}
+use Rattle.messages.specs.Reading.{reading}
+use Rattle.messages.specs.Received.{Told, ReceivedAs}
+use Rattle.messages.specs.Same.{SameMessage}
+use Rattle.messages.proofs.Matching.{same-matched}
 use Rattle.converter.specs.Next.{givenIn as nextGiven}
 use Rattle.reads.specs.declared.ReadAnswer.{ReadAnswer}
 use Rattle.reads.specs.declared.record.RequestRecord.{RequestRecord}
@@ -25,8 +35,8 @@ use Rattle.reads.specs.Handed.{Singly}
 use Rattle.reads.specs.Agrees.{Agrees}
 use Rattle.reads.proofs.Agreed.{handed-is-read}
 use Rattle.session_theorems.specs.Trail.{Exchange, turnOf, Calls, slicesAfter, serialIn, seen, FreshCalls, givenTo}
-use Rattle.session_theorems.specs.Made.{Made, entriesOf, actOf, afterMade, MadeCalls, seenOf, Made-is-acts, FreshMade, Equal-seen, InTurn, Singles, givenIn, Reads-are-singles, Made-in-order}
-use Rattle.session_theorems.proofs.Others.{Others, others}
+use Rattle.session_theorems.specs.Made.{Made, entriesOf, actOf, afterMade, MadeCalls, receivedSeen, seenOf, Made-is-acts, FreshMade, Equal-seen, InTurn, Singles, givenIn, Replaced, Reads-are-singles, Made-in-order}
+use Rattle.session_theorems.proofs.Others.{Others, others, message-other}
 use Rattle.session_theorems.proofs.Trails.{seen-is-run, stays-whole, session-after, given-in-order}
 
 -- ---- calls one after another
@@ -49,6 +59,32 @@ given-append d [] ys = refl
 given-append d (Exchange.called call other clock out later answer e ∷ zs) ys = given-append d zs ys
 given-append d (Exchange.asked clock buffer later answer e ∷ zs) ys =
     let is = itemsOf d (nextGiven answer later) in ap (λ (js : List (Item Load)). is ++ js) (given-append d zs ys) ∙ sym (append-assoc is (givenTo d zs) (givenTo d ys))
+
+-- ---- what is received
+
+isHanded : Received → Bool
+isHanded Received.Wait = false
+isHanded Received.NoObject = false
+isHanded (Received.Malformed p) = false
+isHanded (Received.Handed a n) = true
+
+not-wait : {a : Answer} {n : ℕ} → Received.Wait ≡ Received.Handed a n → ⊥
+unfolding isHanded
+not-wait e = false≢true (ap isHanded e)
+
+not-no-object : {a : Answer} {n : ℕ} → Received.NoObject ≡ Received.Handed a n → ⊥
+unfolding isHanded
+not-no-object e = false≢true (ap isHanded e)
+
+not-malformed : {p : ParseError} {a : Answer} {n : ℕ} → Received.Malformed p ≡ Received.Handed a n → ⊥
+unfolding isHanded
+not-malformed e = false≢true (ap isHanded e)
+
+-- on a session that is not damaged, what the model says is what is promised of every call
+handled-answered : (s e : Store) (out later : List ℕ) (call : Call Input) (clock : ℕ) (answer : Answer) → isWhole s ≡ true → Handled s e out later call clock answer
+    → Answered Lending.all s e out later call clock answer
+unfolding isIntact
+handled-answered s e out later call clock answer whole h = record { damaged = λ d. absurd (false≢true (sym d ∙ whole)); handled = λ _ _. h }
 
 -- ---- a read is its single calls
 
@@ -107,6 +143,36 @@ reads-are-singles s (Made.read rs lent clock out later answer e ∷ xs) whole (M
       given = λ d. given-append d (t .singles) (r .singles) ∙ ap₂ _++_ (t .given d) (r .given d);
     }
 
+reads-are-singles s (Made.message bytes clock out later received e ∷ xs) whole (MadeCalls.message h rest) =
+    by-reading (reading (view (session s)) bytes) refl (h .read whole) (λ w. reads-are-singles e xs w rest)
+  where
+    told : (answer : Received) → ((a : Answer) (n : ℕ) → answer ≡ Received.Handed a n → ⊥) → Told s e out later answer received
+        → (isWhole e ≡ true → Replaced e xs) → Replaced s (Made.message bytes clock out later received e ∷ xs)
+    told answer other t later-ones =
+        let r = later-ones (rw (t .1 .0) whole) in
+        record {
+          singles = r .singles;
+          are = Singles.told (λ a n q. other a n (sym (t .0) ∙ q)) (r .are);
+          calls = rw (← t .1 .0) (r .calls);
+          after = ap (λ (m : Store). slicesAfter m (r .singles)) (sym (t .1 .0)) ∙ r .after;
+          given = r .given;
+        }
+
+    by-reading : (x : Reading (Call Input)) → reading (view (session s)) bytes ≡ x → ReceivedAs s e out later x clock received
+        → (isWhole e ≡ true → Replaced e xs) → Replaced s (Made.message bytes clock out later received e ∷ xs)
+    by-reading Reading.wait q t later-ones = told Received.Wait (λ a n z. not-wait z) t later-ones
+    by-reading Reading.noObject q t later-ones = told Received.NoObject (λ a n z. not-no-object z) t later-ones
+    by-reading (Reading.malformed p) q t later-ones = told (Received.Malformed p) (λ a n z. not-malformed z) t later-ones
+    by-reading (Reading.request call n) q t later-ones =
+        let r = later-ones (whole-is e (t .handled .whole)) in
+        record {
+          singles = Exchange.called call (message-other (view (session s)) bytes q) clock out later (t .answer) e ∷ r .singles;
+          are = rw (t .told) (Singles.handed (r .are));
+          calls = Calls.called (handled-answered s e out later call clock (t .answer) whole (t .handled)) (r .calls);
+          after = r .after;
+          given = r .given;
+        }
+
 pub made-in-order : Made-in-order
 made-in-order c n i vs s xs d f =
     let r = reads-are-singles s xs (f .whole) (f .calls) in
@@ -129,6 +195,23 @@ one-after : (s : Store) (x : Exchange) → isWhole s ≡ true → Calls s (x ∷
 unfolding sessionAfter
 one-after s x whole c = session-after s (x ∷ []) whole c
 
+-- of a message
+message-seen : (s e : Store) (bytes : List ℕ) (clock : ℕ) (out later : List ℕ) (received : Received) → isWhole s ≡ true → (x : Reading (Call Input))
+    → reading (view (session s)) bytes ≡ x → ReceivedAs s e out later x clock received
+    → (receivedSeen later e received ≡ observedMessage (mapReading loaded x) clock (length out) (session s))
+    × ((session e ≡ afterMessage (mapReading loaded x) clock (length out) (session s)) × (isWhole e ≡ true))
+unfolding observedMessage afterMessage mapReading split loaded
+message-seen s e bytes clock out later received whole Reading.wait q t = (ap (receivedSeen later e) (t .0), (ap session (t .1 .0), rw (t .1 .0) whole))
+message-seen s e bytes clock out later received whole Reading.noObject q t = (ap (receivedSeen later e) (t .0), (ap session (t .1 .0), rw (t .1 .0) whole))
+message-seen s e bytes clock out later received whole (Reading.malformed p) q t = (ap (receivedSeen later e) (t .0), (ap session (t .1 .0), rw (t .1 .0) whole))
+message-seen s e bytes clock out later received whole (Reading.request call n) q t =
+    let other = message-other (view (session s)) bytes q in
+    let x = Exchange.called call other clock out later (t .answer) e in
+    let c : Calls s (x ∷ []) = Calls.called (handled-answered s e out later call clock (t .answer) whole (t .handled)) Calls.none in (
+      ap (receivedSeen later e) (t .told) ∙ ap₂ (λ (o : Observed) (k : ℕ). Reading.request o k) (one-seen s x whole c) (ap (λ (o : Result). takenOf o n) (t .handled .outcome)),
+      (t .handled .view, whole-is e (t .handled .whole)),
+    )
+
 -- of a read
 read-seen : {s e : Store} (rs : List RequestRecord) (lent : List ℕ) (clock : ℕ) (out : List ℕ) {later : List ℕ} {to : Read Load} {r : ReadAnswer}
     → Agrees s e out later to r → seenOf (Made.read rs lent clock out later r e) ≡ observedRead to
@@ -142,16 +225,22 @@ pub made-is-acts : Made-is-acts
 unfolding observedActs observedAct afterAct mapAct split loaded
 made-is-acts s [] whole MadeCalls.none = refl
 made-is-acts s (Made.one x ∷ xs) whole (MadeCalls.one c rest) =
-    ap₂ (λ (o : ObservedAct) (os : List ObservedAct). o ∷ os) (ap ObservedAct.one (one-seen s x whole c)) (made-is-acts (slicesAfter s (x ∷ [])) xs (stays-whole s (x ∷ []) whole c) rest ∙ ap (observedActs (map (mapAct loaded) (map actOf xs))) (one-after s x whole c))
+    ap₂ (λ (o : ObservedAct) (os : List ObservedAct). o ∷ os) (ap ObservedAct.one (one-seen s x whole c)) (made-is-acts (slicesAfter s (x ∷ [])) xs (stays-whole s (x ∷ []) whole c) rest ∙ ap (observedActs (loadedBy reading) (map (mapAct loaded) (map actOf xs))) (one-after s x whole c))
+made-is-acts s (Made.message bytes clock out later received e ∷ xs) whole (MadeCalls.message h rest) =
+    let m = message-seen s e bytes clock out later received whole (reading (view (session s)) bytes) refl (h .read whole) in
+    ap₂ (λ (o : ObservedAct) (os : List ObservedAct). o ∷ os)
+    (ap₂ ObservedAct.message (m .0) (ap (λ (x : Session Load). x .connection .lastSerial) (m .1 .0)))
+    (made-is-acts e xs (m .1 .1) rest ∙ ap (observedActs (loadedBy reading) (map (mapAct loaded) (map actOf xs))) (m .1 .0))
 made-is-acts s (Made.read rs lent clock out later answer e ∷ xs) whole (MadeCalls.read h rest) =
     let a = handed-is-read s e out later (entriesOf rs lent) clock answer whole h in
-    ap₂ (λ (o : ObservedAct) (os : List ObservedAct). o ∷ os) (read-seen rs lent clock out a) (made-is-acts e xs (whole-is e (a .whole)) rest ∙ ap (observedActs (map (mapAct loaded) (map actOf xs))) (a .view))
+    ap₂ (λ (o : ObservedAct) (os : List ObservedAct). o ∷ os) (read-seen rs lent clock out a) (made-is-acts e xs (whole-is e (a .whole)) rest ∙ ap (observedActs (loadedBy reading) (map (mapAct loaded) (map actOf xs))) (a .view))
 
 module _ {c n i : ℕ} {vs : List (Option ℕ)} {s : Store} {xs : List Made} (f : FreshMade c n i vs s xs) where
-  seen-from : map seenOf xs ≡ seenFrom c n i vs (map actOf xs)
+  seen-from : map seenOf xs ≡ seenFrom reading SameMessage c n i vs (map actOf xs)
   unfolding seenFrom
-  seen-from = made-is-acts s xs (f .whole) (f .calls) ∙ ap (observedActs (map (mapAct loaded) (map actOf xs))) (f .starts)
+  seen-from = made-is-acts s xs (f .whole) (f .calls) ∙ ap (observedActs (loadedBy reading) (map (mapAct loaded) (map actOf xs))) (f .starts)
 
 pub equal-seen : Equal-seen
-unfolding Equal-reads
-equal-seen c n i vs s s′ xs xs′ f f′ matched = seen-from f ∙ equal-reads c n i vs (map actOf xs) (map actOf xs′) matched ∙ sym (seen-from f′)
+unfolding Equal-acts
+equal-seen c n i vs s s′ xs xs′ f f′ matched =
+    seen-from f ∙ equal-acts reading SameMessage same-matched c n i vs (map actOf xs) (map actOf xs′) matched ∙ sym (seen-from f′)

@@ -1,12 +1,20 @@
--- No record of a read is `next_request`. Assumes nothing.
+-- No record of a read is `next_request`, and no message. Assumes nothing.
 use Prim.Native.Nat.{ℕ, _+_}
 use mathlib.Core.Path.{_≡_, refl, sym, ap, _∙_}
 use mathlib.Core.Bool.{Bool, true, false, cond, not, _||_, false≢true}
 use mathlib.Core.List.{List, [], _∷_}
-use lib.Dec.{leb}
+use mathlib.Core.Option as option
+use mathlib.Core.Option.{Option, some}
+use lib.Dec.{eqb, leb, ltb}
 use lib.ListN.{length, take, drop}
 use Rattle.model.specs.Call.{Input, Plain, Call}
+use Rattle.model.specs.Session.{View}
+use Rattle.model.specs.Live.{Object, live}
 use Rattle.model_reads.specs.Read.{Entry}
+use Rattle.model_reads.specs.Message.{Reading}
+use Rattle.parse.specs.Parse.{le32, le64, parsed}
+use Rattle.parse.specs.declared.Parsed.{Parsed}
+use Rattle.messages.specs.Reading.{requestIn, callIn, readAs, readingOn, readingOf, reading}
 use Rattle.requests.specs.declared.eis.HandshakeRequest.{HandshakeRequest}
 use Rattle.requests.specs.declared.eis.ConnectionRequest.{ConnectionRequest}
 use Rattle.requests.specs.declared.eis.SeatRequest.{SeatRequest}
@@ -29,6 +37,7 @@ isNext : Call Input → Bool
 isNext (Call.timed i v a) = false
 isNext (Call.plain (Plain.handshake r)) = false
 isNext (Call.plain (Plain.sync c v)) = false
+isNext (Call.plain (Plain.syncMessage c v)) = false
 isNext (Call.plain Plain.disconnect) = false
 isNext (Call.plain Plain.pingpongDone) = false
 isNext (Call.plain (Plain.seatRelease s)) = false
@@ -94,6 +103,43 @@ asks-not (Request.Interface (InterfaceRequest.Touchscreen (TouchscreenRequest.Ca
 asks-not (Request.Interface (InterfaceRequest.Text TextRequest.Release)) o v t = refl
 asks-not (Request.Interface (InterfaceRequest.Text (TextRequest.Keysym k s))) o v t = refl
 asks-not (Request.Interface (InterfaceRequest.Text TextRequest.Utf8)) o v t = refl
+
+-- ---- nor is a message
+
+askedIn : Reading (Call Input) → Bool
+askedIn Reading.wait = false
+askedIn Reading.noObject = false
+askedIn (Reading.malformed e) = false
+askedIn (Reading.request call n) = isNext call
+
+cond-asked : (b : Bool) (r t : Reading (Call Input)) → askedIn r ≡ false → askedIn t ≡ false → askedIn (cond b r t) ≡ false
+cond-asked true r t p q = p
+cond-asked false r t p q = q
+
+call-asked : (b : Bool) (c d : Call Input) → isNext c ≡ false → isNext d ≡ false → isNext (cond b c d) ≡ false
+call-asked true c d p q = p
+call-asked false c d p q = q
+
+parsed-asked : (object version : ℕ) (m : List ℕ) (r : Parsed) → askedIn (readAs object version m r) ≡ false
+unfolding readAs callIn askedIn isNext
+parsed-asked object version m (Parsed.Malformed e) = refl
+parsed-asked object version m (Parsed.Read a) =
+    call-asked (eqb (a .request) 5) _ _ refl (asks-not (requestIn a) object version (take (a .length) (drop (a .start) m)))
+
+object-asked : (object : ℕ) (o : Option Object) (m : List ℕ) → askedIn (readingOf object o m) ≡ false
+unfolding readingOf readingOn askedIn
+object-asked object option.none m = refl
+object-asked object (some o) m =
+    cond-asked (ltb (le32 m 8) 16 || ltb 1024 (le32 m 8)) _ _ refl
+    (cond-asked (ltb (length m) (le32 m 8)) _ _ refl (parsed-asked object (o .version) (take (le32 m 8) m) (parsed (o .interface) (take (le32 m 8) m))))
+
+message-asked : (v : View) (m : List ℕ) → askedIn (reading v m) ≡ false
+unfolding reading askedIn
+message-asked v m = cond-asked (ltb (length m) 16) _ _ refl (object-asked (le64 m 0) (live v (le64 m 0)) m)
+
+pub message-other : (v : View) (m : List ℕ) {call : Call Input} {n : ℕ} → reading v m ≡ Reading.request call n → call ≡ Call.plain Plain.nextRequest → ⊥
+unfolding askedIn isNext
+message-other v m e q = false≢true (sym (message-asked v m) ∙ ap askedIn e ∙ ap isNext q)
 
 -- every record of a list is another request
 pub data Others : List (Entry (Call Input)) → Type 0 where

@@ -104,5 +104,5 @@ equal-served x y hx hy e matched =
     let fy = from-finish y hy in (
       handshakes-equal x y hx hy e,
       equal-seen (r .connection) (r .serial) (r .connection + 1) (versionsOf (r .interfaces)) (x .slices) (y .slices) (x .calls) (y .calls) fx
-          (record { whole = fy .whole; starts = fy .starts ∙ ap freshOf (sym (settled-equal x y hx hy e)); calls = fy .calls }) matched,
+          (record { whole = fy .whole; starts = fy .starts ∙ ap freshOf (sym (settled-equal x y hx hy e)); calls = fy .calls }) (rw (← fx .starts) matched),
     )

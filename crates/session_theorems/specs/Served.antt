@@ -14,6 +14,8 @@ use Rattle.control.specs.Control.{controlLength}
 use Rattle.session.specs.View.{Store, session, wordsLength, realsLength, textsLength}
 use Rattle.answers.specs.declared.Answer.{Answer}
 use Rattle.converter.specs.Next.{Begins}
+use Rattle.messages.specs.Reading.{reading}
+use Rattle.messages.specs.Same.{SameMessage}
 use Rattle.session_theorems.specs.Made.{Made, actOf, MadeCalls, seenOf, FreshMade}
 
 -- what was called, and what it answered
@@ -30,7 +32,7 @@ pub record Served : Type 0 where
   pub control : List ℕ
   pub slices : Store
   pub begun : Answer
-  -- the session's calls, whole reads among them
+  -- the session's calls, whole reads and messages among them
   pub calls : List Made
 
 abbrev pub shaken : Served → List HandshakeExchange
@@ -74,5 +76,5 @@ Equal-sessions =
 -- DEMAND 3, FIRST HALF, FROM THE HANDSHAKE'S FIRST CALL ON
 abbrev pub Equal-served : Type 0
 Equal-served =
-    (x y : Served) → Serves x → Serves y → SameHandshake x y → MatchedActs (map actOf (x .calls)) (map actOf (y .calls))
+    (x y : Served) → Serves x → Serves y → SameHandshake x y → MatchedActs reading SameMessage (session (x .slices)) (map actOf (x .calls)) (map actOf (y .calls))
     → (handshakeSeen x ≡ handshakeSeen y) × (map seenOf (x .calls) ≡ map seenOf (y .calls))
