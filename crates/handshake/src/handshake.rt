@@ -149,7 +149,7 @@ fn no_response() -> EisHandshakeResp
 }
 
 // The answer of a call that settles nothing.
-fn unfinished(h: EisHandshaker, outcome: HandshakeOutcome, count: usize) -> HandshakeAnswer
+pub fn unfinished(h: EisHandshaker, outcome: HandshakeOutcome, count: usize) -> HandshakeAnswer
     ensures { λ r. ⌜ r ≡ unfinished h outcome count ⌝ }
 {
     HandshakeAnswer {

@@ -1,0 +1,78 @@
+-- What was read, as what a call promises; and a request's text lies within its message. Assumes nothing.
+use Prim.Native.Nat.{ℕ, _+_, _≤_, _<_}
+use mathlib.Core.Path.{_≡_, refl, sym, ap, subst, _∙_}
+use mathlib.Core.Bool.{Bool, true, false, cond, _||_, false≢true}
+use mathlib.Core.List.{List}
+use native.Mathlib.Omega.{arith}
+use borrow.Author.Tests.{lt-leb, ltb-false}
+use lib.Dec.{eqb, ltb}
+use lib.ListN.{length, take, length-take}
+use Rattle.parse.specs.Parse.{le32, le64, parsed}
+use Rattle.parse.specs.declared.Arguments.{Arguments}
+use Rattle.parse.specs.declared.Parsed.{Parsed}
+use Rattle.parse.proofs.Parts.{text-within}
+use Rattle.handshake.specs.View.{viewOf, isSound, isRefusal, unfinished, Handled}
+use Rattle.handshake.specs.declared.handshake.EisHandshaker.{EisHandshaker}
+use Rattle.handshake.specs.declared.handshake.HandshakeError.{HandshakeError}
+use Rattle.handshake.specs.declared.handshake.HandshakeOutcome.{HandshakeOutcome}
+use Rattle.handshake.specs.declared.handshake.HandshakeAnswer.{HandshakeAnswer}
+use Rattle.handshake.proofs.Answers.{sound-is}
+use Rattle.handshake_messages.specs.Reading.{objectOf, isPeerId, checkId, bodyRead, readingOf, requestIn, HandedOn, Follows, Received}
+use Rattle.handshake_messages.specs.declared.Object.{Object}
+use Rattle.handshake_messages.specs.declared.Reading.{Reading}
+use Rattle.handshake_messages.specs.declared.Told.{Told}
+use Rattle.handshake_messages.specs.declared.HandshakeReceived.{HandshakeReceived}
+
+-- ---- a request that was read
+
+-- by which side a test came to it
+either : {P : Type 0} (t : Bool) {x y z : Reading} → (t ≡ true → x ≡ z → P) → (t ≡ false → y ≡ z → P) → cond t x y ≡ z → P
+either true f g = f refl
+either false f g = g refl
+
+module _ (m : List ℕ) (a : Arguments) (n : ℕ) where
+  abbrev Within : Type 0
+  Within = (n ≤ length m) × (a .start + a .length ≤ length (take n m))
+
+  wait : Reading.Wait ≡ Reading.Request a n → Within
+  wait e = absurd (let z : _≡_ {A = ℕ} 0 1 = cc in omega arith)
+
+  checked : (i k : ℕ) (p : Parsed) → k ≤ length m → parsed i (take k m) ≡ p → checkId k p ≡ Reading.Request a n → Within
+  unfolding checkId
+  checked i k (Parsed.Malformed e) l q r = absurd (let z : _≡_ {A = ℕ} 0 1 = cc in omega arith)
+  checked i k (Parsed.Read b) l q r =
+      either (eqb (b .request) 5) (λ _. either (isPeerId (b .first)) (λ _. is) (λ _ s. absurd (let z : _≡_ {A = ℕ} 0 1 = cc in omega arith))) (λ _. is) r
+    where
+      is : Reading.Request b k ≡ Reading.Request a n → Within
+      is s =
+          let x : b ≡ a = cc in
+          let y : k ≡ n = cc in
+          (rw y at l, rw (x, y) at (text-within (take k m) i b q))
+
+  body : (o : Object) (k : ℕ) → bodyRead o m k ≡ Reading.Request a n → Within
+  unfolding bodyRead
+  body Object.Unknown k e = absurd (let z : _≡_ {A = ℕ} 0 1 = cc in omega arith)
+  body (Object.Alive i) k e =
+      either (ltb k 16 || ltb 1024 k) (λ _ s. absurd (let z : _≡_ {A = ℕ} 0 1 = cc in omega arith))
+      (λ _. either (ltb (length m) k) (λ _. wait) (λ t. checked i k (parsed i (take k m)) (ltb-false _ _ t) refl))
+      e
+
+  pub request-within : (next : ℕ) → Reading.Request a n ≡ readingOf next m → (n ≤ length m) × (a .start + a .length ≤ length (take n m))
+  unfolding readingOf
+  request-within next e = either (ltb (length m) 16) (λ _. wait) (λ _. body (objectOf next (le64 m 0)) (le32 m 8)) (sym e)
+
+-- ---- a call's promise
+
+pub received-damaged : (h : EisHandshaker) (m out : List ℕ) {r : HandshakeReceived} → 254 < h .name .length
+    → r ≡ record { told = Told.Handed; answer = unfinished h (HandshakeOutcome.Refused HandshakeError.BadState) 0; taken = 0 } → Received h m out out r
+unfolding isSound
+received-damaged h m out l e = record { damaged = λ _. (e, refl); received = λ t. absurd (false≢true (sym (lt-leb (h .name .length) 254 l) ∙ t)) }
+
+pub received : (h : EisHandshaker) (m : List ℕ) {out later : List ℕ} {reading : Reading} {r : HandshakeReceived} → h .name .length ≤ 254
+    → reading ≡ readingOf (h .next) m → Follows reading h m out later r → Received h m out later r
+unfolding viewOf
+received h m {out} {later} {r = r} l e f =
+    record {
+      damaged = λ t. absurd (false≢true (sym t ∙ sound-is h l));
+      received = λ _. subst (λ (x : Reading). Follows x h m out later r) e f;
+    }
