@@ -11,13 +11,14 @@ use Rattle.parse.specs.Parse.{le32, le64, parsed}
 use Rattle.parse.specs.declared.Arguments.{Arguments}
 use Rattle.parse.specs.declared.Parsed.{Parsed}
 use Rattle.parse.proofs.Parts.{text-within}
-use Rattle.handshake.specs.View.{viewOf, isSound, isRefusal, unfinished, Handled}
+use Rattle.handshake.specs.Handshake as paper
+use Rattle.handshake.specs.View.{viewOf, isSound, isRefusal, unfinished, Done, Handled}
 use Rattle.handshake.specs.declared.handshake.EisHandshaker.{EisHandshaker}
 use Rattle.handshake.specs.declared.handshake.HandshakeError.{HandshakeError}
 use Rattle.handshake.specs.declared.handshake.HandshakeOutcome.{HandshakeOutcome}
 use Rattle.handshake.specs.declared.handshake.HandshakeAnswer.{HandshakeAnswer}
 use Rattle.handshake.proofs.Answers.{sound-is}
-use Rattle.handshake_messages.specs.Reading.{objectOf, isPeerId, checkId, bodyRead, readingOf, requestIn, HandedOn, Follows, Received}
+use Rattle.handshake_messages.specs.Reading.{objectOf, isPeerId, checkId, bodyRead, readingOf, requestIn, isHanded, HandedOn, Follows, Received}
 use Rattle.handshake_messages.specs.declared.Object.{Object}
 use Rattle.handshake_messages.specs.declared.Reading.{Reading}
 use Rattle.handshake_messages.specs.declared.Told.{Told}
@@ -76,3 +77,33 @@ received h m {out} {later} {r = r} l e f =
       damaged = λ t. absurd (false≢true (sym t ∙ sound-is h l));
       received = λ _. subst (λ (x : Reading). Follows x h m out later r) e f;
     }
+
+-- ---- what a call promised
+
+-- the request that was handed on
+abbrev pub handedIn : Reading → (message : List ℕ) → paper.Message
+handedIn Reading.Wait m = paper.Message.Finish
+handedIn Reading.NoObject m = paper.Message.Finish
+handedIn (Reading.Malformed e) m = paper.Message.Finish
+handedIn Reading.InvalidId m = paper.Message.Finish
+handedIn (Reading.Request a n) m = requestIn a (take n m)
+
+-- where one was, the handshake's own call was made
+pub handed-handled : (h : EisHandshaker) (m : List ℕ) {out later : List ℕ} {r : HandshakeReceived} → Received h m out later r → isHanded (r .told) ≡ true
+    → Handled h (handedIn (readingOf (h .next) m) m) out later (r .answer)
+unfolding viewOf
+handed-handled h m {out} {later} {r} a t =
+    record {
+      damaged = λ d. (ap (λ (x : HandshakeReceived). x .answer) (a .damaged d .0), a .damaged d .1);
+      done = λ s. go (readingOf (h .next) m) (a .received s);
+    }
+  where
+    not : {told : Told} → isHanded told ≡ false → {P : Type 0} → {x : HandshakeReceived} → r ≡ x → x .told ≡ told → P
+    not f e q = absurd (false≢true (sym f ∙ sym (ap isHanded (ap (λ (y : HandshakeReceived). y .told) e ∙ q)) ∙ t))
+
+    go : (x : Reading) → Follows x h m out later r → Done h out later (paper.handleRequest (viewOf h) (handedIn x m) (length out)) (r .answer)
+    go Reading.Wait f = not refl (f .0) refl
+    go Reading.NoObject f = not refl (f .0) refl
+    go (Reading.Malformed e) f = not refl (f .0) refl
+    go Reading.InvalidId f = not refl (f .0) refl
+    go (Reading.Request b k) f = f .done

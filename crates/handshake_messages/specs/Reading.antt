@@ -91,6 +91,13 @@ pub record Calls (a : Arguments) (r : HandshakeCall) : Type 0 where
 
 -- ---- what is promised
 
+abbrev pub isHanded : Told → Bool
+isHanded Told.Wait = false
+isHanded Told.NoObject = false
+isHanded (Told.Malformed e) = false
+isHanded Told.InvalidId = false
+isHanded Told.Handed = true
+
 -- nothing was handed on: the handshake is as it was, and so is every byte of `out`
 abbrev pub Nothing : EisHandshaker → (out later : List ℕ) → Told → HandshakeReceived → Type 0
 Nothing h out later told r = (r ≡ record { told = told; answer = unfinished h HandshakeOutcome.Accepted 0; taken = 0 }) × (later ≡ out)

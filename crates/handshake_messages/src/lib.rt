@@ -19,7 +19,7 @@ ghost use lib.ListN.{length};
 ghost use Rattle.parse.specs.declared.Parsed.{Parsed};
 ghost use Rattle.handshake.specs.View.{isRefusal, unfinished, Handled};
 ghost use Rattle.handshake.specs.declared.handshake.HandshakeOutcome.{HandshakeOutcome};
-ghost use Rattle.handshake_messages.specs.Reading.{objectOf, checkId, bodyRead, readingOf, contextTypeIn, requestIn, Calls, Received};
+ghost use Rattle.handshake_messages.specs.Reading.{objectOf, checkId, bodyRead, readingOf, contextTypeIn, requestIn, isHanded, Calls, Received};
 ghost use Rattle.handshake_messages.specs.declared.Object.{Object};
 
 // A header's bytes, and the most bytes of a message.
@@ -60,6 +60,20 @@ pub struct HandshakeReceived {
     pub told: Told,
     pub answer: HandshakeAnswer,
     pub taken: usize,
+}
+
+impl Told {
+    pub fn is_handed(self) -> bool
+        ensures { λ r. ⌜ r ≡ isHanded self ⌝ }
+    {
+        match self {
+            Told::Wait => false,
+            Told::NoObject => false,
+            Told::Malformed(_) => false,
+            Told::InvalidId => false,
+            Told::Handed => true,
+        }
+    }
 }
 
 // The handshake's object lives until the first id is given, and each id that was given is a connection's.

@@ -116,11 +116,11 @@ module _ (w n : List ℕ) (h : EisHandshaker) (lent : isLent w n ≡ true) (is :
 
 -- ---- a Finish
 
-and-true : (b c : Bool) → c ≡ true → (b && c) ≡ b
+pub and-true : (b c : Bool) → c ≡ true → (b && c) ≡ b
 and-true true c e = e
 and-true false c e = refl
 
-and-false : (b c : Bool) → c ≡ false → (b && c) ≡ false
+pub and-false : (b c : Bool) → c ≡ false → (b && c) ≡ false
 and-false true c e = e
 and-false false c e = refl
 

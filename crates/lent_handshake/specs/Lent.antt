@@ -11,15 +11,20 @@ use Rattle.eiproto.specs.Enum.{contextTypeNumber}
 use Rattle.eiproto.specs.declared.eiproto_enum.ContextType.{ContextType}
 use Rattle.wire.specs.Bits.{splice}
 use Rattle.handshake.specs.Handshake as paper
-use Rattle.handshake.specs.View.{number, isRefusal}
+use Rattle.handshake.specs.View.{viewOf, isSound, number, outcomeOf, isRefusal, isFinished}
 use Rattle.handshake.specs.declared.handshake.HandshakeError.{HandshakeError}
 use Rattle.handshake.specs.declared.handshake.HandshakeOutcome.{HandshakeOutcome}
+use Rattle.handshake.specs.declared.handshake.HandshakeAnswer.{HandshakeAnswer}
+use Rattle.handshake_messages.specs.Reading.{handshakeReading, requestIn}
+use Rattle.handshake_messages.specs.declared.Reading.{Reading}
+use Rattle.handshake_messages.specs.declared.Told.{Told}
 use Rattle.model.specs.Session.{fresh}
 use Rattle.control.specs.Table.{tab}
 use Rattle.control.specs.Control.{controlLength}
 use Rattle.session.specs.View.{store, session, wordsLength, realsLength, textsLength, Whole}
 use Rattle.session.specs.Slices.{Numbers}
 use Rattle.lent_handshake.specs.declared.HandshakeReply.{HandshakeReply}
+use Rattle.lent_handshake.specs.declared.MessageReply.{MessageReply}
 use Rattle.lent_handshake.specs.declared.Client.{Client}
 
 -- ---- what the slices mean: any numbers mean some handshake
@@ -119,6 +124,59 @@ pub record Finished (w n v m c d out later : List ℕ) (r : HandshakeReply) : Ty
   pub begun : (p : paper.Response) → (isHeld w n && eqb (length c) controlLength) ≡ true
       → paper.finish (handshakeIn w n) (length out) .outcome ≡ paper.Result.finished p → Begun d p
 
+-- ---- a message of the protocol
+
+-- an answer that can be kept in the slices: what is stored has to be a handshake
+abbrev pub Settleable : (w n c : List ℕ) → HandshakeAnswer → Type 0
+Settleable w n c a =
+    (isLent w n ≡ true) × ((length c ≡ controlLength) × (isRefusal (a .outcome) ≡ false → isSound (a .handshaker) ≡ true))
+
+-- what it leaves in them: "a refusal returns the session unchanged", and what is none is stored
+pub record Settled (w n v m c d : List ℕ) (a : HandshakeAnswer) : Type 0 where
+  pub refused : isRefusal (a .outcome) ≡ true → (v ≡ w) × (m ≡ n)
+  pub stored : isRefusal (a .outcome) ≡ false → (isHeld v m ≡ true) × (handshakeIn v m ≡ viewOf (a .handshaker))
+  pub control : isFinished (a .outcome) ≡ false → d ≡ c
+  pub begun : (p : paper.Response) → outcomeOf (a .outcome) (a .response) ≡ paper.Result.finished p → Begun d p
+
+-- every slice is as it was
+pub record Untouched (w n v m c d out later : List ℕ) (s r : MessageReply) : Type 0 where
+  pub reply : r ≡ s
+  pub words : v ≡ w
+  pub name : m ≡ n
+  pub control : d ≡ c
+  pub bytes : later ≡ out
+
+-- where nothing is handed on
+abbrev pub nothingReply : Told → MessageReply
+nothingReply told = record { told = told; reply = record { outcome = HandshakeOutcome.Accepted; count = 0 }; taken = 0 }
+
+-- 21
+abbrev pub damagedReply : MessageReply
+damagedReply = record { told = Told.Handed; reply = record { outcome = HandshakeOutcome.Refused HandshakeError.BadState; count = 0 }; taken = 0 }
+
+-- a request was handed on, whose message has so many bytes: as "the handshake call .. it stands for", and "a refused message takes nothing"
+pub record HandedOn (w n v m c d out later : List ℕ) (request : paper.Message) (long : ℕ) (r : MessageReply) : Type 0 where
+  pub told : r .told ≡ Told.Handed
+  pub taken : r .taken ≡ cond (isRefusal (r .reply .outcome)) 0 long
+  pub handled : Holds v m out later (paper.handleRequest (handshakeIn w n) request (length out)) (r .reply)
+  pub kept : isRefusal (r .reply .outcome) ≡ true → (v ≡ w) × (m ≡ n)
+  -- a Finish that succeeds begins the session, and nothing else writes to the control words
+  pub control : isFinished (r .reply .outcome) ≡ false → d ≡ c
+  pub begun : (p : paper.Response) → paper.handleRequest (handshakeIn w n) request (length out) .outcome ≡ paper.Result.finished p → Begun d p
+
+abbrev pub Follows : Reading → (w n v m c d message out later : List ℕ) → MessageReply → Type 0
+Follows Reading.Wait w n v m c d message out later r = Untouched w n v m c d out later (nothingReply Told.Wait) r
+Follows Reading.NoObject w n v m c d message out later r = Untouched w n v m c d out later (nothingReply Told.NoObject) r
+Follows (Reading.Malformed e) w n v m c d message out later r = Untouched w n v m c d out later (nothingReply (Told.Malformed e)) r
+Follows Reading.InvalidId w n v m c d message out later r = Untouched w n v m c d out later (nothingReply Told.InvalidId) r
+Follows (Reading.Request a long) w n v m c d message out later r = HandedOn w n v m c d out later (requestIn a (take long message)) long r
+
+-- "Order: 21" first, and then as the message is read
+pub record Received (w n v m c d message out later : List ℕ) (r : MessageReply) : Type 0 where
+  pub damaged : (isHeld w n && eqb (length c) controlLength) ≡ false → Untouched w n v m c d out later damagedReply r
+  pub received : (isHeld w n && eqb (length c) controlLength) ≡ true
+      → Follows (handshakeReading (handshakeIn w n) message) w n v m c d message out later r
+
 -- who the client says it is: the length of its name, whether it was said, and the number of the context type, 0 where none was said
 abbrev pub contextNumber : Option ContextType → ℕ
 contextNumber none = 0
@@ -144,6 +202,13 @@ Handles w n out message r =
 abbrev pub Finishes : (words name control out : Numbers) → HandshakeReply → Type 0
 Finishes w n c out r =
     Finished (w .entry .now) (n .entry .now) (w .exit .now) (n .exit .now) (c .entry .now) (c .exit .now) (out .entry .now) (out .exit .now) r
+
+abbrev pub Settles : (words name control : Numbers) → HandshakeAnswer → Type 0
+Settles w n c a = Settled (w .entry .now) (n .entry .now) (w .exit .now) (n .exit .now) (c .entry .now) (c .exit .now) a
+
+abbrev pub Receives : (words name control out : Numbers) (message : List ℕ) → MessageReply → Type 0
+Receives w n c out message r =
+    Received (w .entry .now) (n .entry .now) (w .exit .now) (n .exit .now) (c .entry .now) (c .exit .now) message (out .entry .now) (out .exit .now) r
 
 abbrev pub Names : (words name : Numbers) → Client → Type 0
 Names w n r = Named (w .entry .now) (n .entry .now) r

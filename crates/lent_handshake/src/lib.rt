@@ -4,12 +4,14 @@ use converter::request;
 use eiproto::eiproto_enum::ContextType;
 use handshake::handshake::Context;
 use handshake::handshake::EisHandshaker;
+use handshake::handshake::HandshakeAnswer;
 use handshake::handshake::HandshakeError;
 use handshake::handshake::HandshakeMessage;
 use handshake::handshake::HandshakeOutcome;
 use handshake::handshake::InterfaceVersion;
 use handshake::handshake::NAME_LENGTH_LIMIT;
 use handshake::handshake::Name;
+use handshake_messages::Told;
 ghost use Prim.Native.Nat.{_%_};
 ghost use mathlib.Core.Path.{_≡_};
 ghost use mathlib.Core.Bool.{true};
@@ -18,7 +20,7 @@ ghost use lib.ListN.{length, getD};
 ghost use Rattle.handshake.specs.View.{contextOf, versionIn, versionsOf, viewOf, isSound, requestOf};
 ghost use Rattle.handshake.specs.declared.handshake.HandshakeError.{HandshakeError};
 ghost use Rattle.handshake.specs.declared.handshake.HandshakeOutcome.{HandshakeOutcome};
-ghost use Rattle.lent_handshake.specs.Lent.{handshakeLength, nameLength, versionAt, contextAt, handshakeIn, contextNumber, isLent, isHeld, Starts, Handles, Finishes, Names};
+ghost use Rattle.lent_handshake.specs.Lent.{handshakeLength, nameLength, versionAt, contextAt, handshakeIn, contextNumber, isLent, isHeld, damagedReply, Starts, Handles, Finishes, Settleable, Settles, Receives, Names};
 
 // The words: how long the name is, whether it was said, the context type, the serial, the next id; then a word for each interface.
 const NAME_LENGTH: usize = 0;
@@ -282,6 +284,79 @@ pub fn finish(
             store(words, name, handshaker);
             request::new(control, response);
         }
+    }
+    reply
+}
+
+// Keeps what an answer gives: the handshake where it is no refusal, and where it is a Finish that succeeded, the session that it begins.
+fn settle(words: &mut [u64], name: &mut [u8], control: &mut [u64], answer: HandshakeAnswer)
+    requires { ⌜ Settleable (now words) (now name) (now control) answer ⌝ }
+    ensures { λ _. ⌜ Settles words name control answer ⌝ }
+{
+    let handshaker = answer.handshaker;
+    let response = answer.response;
+    let outcome = answer.outcome;
+    match outcome {
+        HandshakeOutcome::Refused(_) => {}
+        HandshakeOutcome::Accepted => store(words, name, handshaker),
+        HandshakeOutcome::Finished => {
+            store(words, name, handshaker);
+            request::new(control, response);
+        }
+    }
+}
+
+// What a message answers besides the slices: what became of it, the reply to its request, and how many of its bytes were taken.
+pub struct MessageReply {
+    pub told: Told,
+    pub reply: HandshakeReply,
+    pub taken: usize,
+}
+
+fn bad_message_state() -> MessageReply
+    ensures { λ r. ⌜ r ≡ damagedReply ⌝ }
+{
+    MessageReply {
+        told: Told::Handed,
+        reply: HandshakeReply {
+            outcome: HandshakeOutcome::Refused(HandshakeError::BadState),
+            count: 0,
+        },
+        taken: 0,
+    }
+}
+
+// `handshake_messages::pending_request`: the first message of a lent slice, read and handed on. A Finish that succeeds begins the session in the
+// control words.
+pub fn pending_request(
+    words: &mut [u64],
+    name: &mut [u8],
+    control: &mut [u64],
+    message: &[u8],
+    out: &mut [u8],
+) -> MessageReply
+    ensures { λ r. ⌜ Receives words name control out (now (message .entry)) r ⌝ }
+{
+    if !lent(words, name) {
+        return bad_message_state();
+    }
+    if control.len() != CONTROL_LENGTH {
+        return bad_message_state();
+    }
+    let received = handshake_messages::pending_request(load(words, name), message, out);
+    let told = received.told;
+    let answer = received.answer;
+    let outcome = answer.outcome;
+    let reply = MessageReply {
+        told,
+        reply: HandshakeReply {
+            outcome,
+            count: answer.count,
+        },
+        taken: received.taken,
+    };
+    if told.is_handed() {
+        settle(words, name, control, answer);
     }
     reply
 }
