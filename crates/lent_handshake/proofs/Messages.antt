@@ -3,7 +3,7 @@ use Prim.Native.Nat.{ℕ}
 use mathlib.Core.Path.{_≡_, refl, sym, ap, subst, _∙_}
 use mathlib.Core.Bool.{Bool, true, false, _&&_, false≢true}
 use mathlib.Core.List.{List}
-use borrow.Author.Tests.{eq-eqb, ne-eqb}
+use borrow.Author.Tests.{eq-eqb}
 use lib.Dec.{eqb}
 use lib.ListN.{length, getD, take}
 use Rattle.control.specs.Control.{controlLength}
@@ -22,10 +22,10 @@ use Rattle.handshake_messages.specs.declared.Reading.{Reading}
 use Rattle.handshake_messages.specs.declared.Told.{Told}
 use Rattle.handshake_messages.specs.declared.HandshakeReceived.{HandshakeReceived}
 use Rattle.handshake_messages.proofs.Receipts.{handedIn, handed-handled}
-use Rattle.lent_handshake.specs.Lent.{handshakeIn, isLent, isHeld, Handled, Holds, Begun, Settled, Untouched, nothingReply, damagedReply, Follows, Received}
+use Rattle.lent_handshake.specs.Lent.{handshakeIn, isLent, isHeld, Handled, Finished, Holds, Begun, Settled, Untouched, nothingReply, damagedReply, Follows, Received}
 use Rattle.lent_handshake.specs.declared.MessageReply.{MessageReply}
-use Rattle.lent_handshake.proofs.Words.{unlent-held, held-sound}
-use Rattle.lent_handshake.proofs.Replies.{Kept, replyOf, accepted-sound, refused-handled, stored-handled, settles, and-true, and-false, unsettled, settled-begun}
+use Rattle.lent_handshake.proofs.Words.{held-sound}
+use Rattle.lent_handshake.proofs.Replies.{Kept, replyOf, accepted-sound, refused-handled, stored-handled, settles, and-true, unlent-whole, finished, unsettled, settled-begun}
 
 -- ---- what an answer leaves
 
@@ -58,19 +58,34 @@ module _ {w n c : List ℕ} (a : HandshakeAnswer) where
           begun = λ p x. settled-begun p l b q x;
         }
 
+no-finish : (o : HandshakeOutcome) → isRefusal o ≡ true → isFinished o ≡ false
+no-finish HandshakeOutcome.Accepted e = refl
+no-finish HandshakeOutcome.Finished e = absurd (false≢true e)
+no-finish (HandshakeOutcome.Refused x) e = refl
+
+-- an answer to a request on the handshake h that the slices w and n hold, kept
+module _ (w n : List ℕ) (h : EisHandshaker) (lent : isLent w n ≡ true) (is : viewOf h ≡ handshakeIn w n) (long : h .name .length ≡ getD w 0 0)
+    (request : paper.Message) {out later : List ℕ} {r : HandshakeAnswer} (a : view.Handled h request out later r) {v m c d : List ℕ} (s : Settled w n v m c d r) where
+  pub settled-handled : Handled w n v m out later request (replyOf r)
+  settled-handled = go (isRefusal (r .outcome)) refl
+    where
+      go : (b : Bool) → isRefusal (r .outcome) ≡ b → Handled w n v m out later request (replyOf r)
+      go true e = rw (s .refused e .0, s .refused e .1) (refused-handled w n h lent is long request a e)
+      go false e = stored-handled w n h lent is long request a e (s .stored e)
+
+  pub settled-finished : length c ≡ controlLength → request ≡ paper.Message.Finish → Finished w n v m c d out later (replyOf r)
+  settled-finished l e =
+      finished l (rw e at settled-handled) (λ f. s .control (no-finish (r .outcome) f))
+      (λ p t x. s .begun p (settles w n h lent is long request a p t (rw e x)))
+
 -- ---- a message
 
 untouched : {w n c out : List ℕ} {s r : MessageReply} → r ≡ s → Untouched w n w n c c out out s r
 untouched e = record { reply = e; words = refl; name = refl; control = refl; bytes = refl }
 
-bad-received : {w n c message out : List ℕ} {r : MessageReply} → (isHeld w n && eqb (length c) controlLength) ≡ false → r ≡ damagedReply → Received w n w n c c message out out r
-bad-received f e = record { damaged = λ _. untouched e; received = λ t. absurd (false≢true (sym f ∙ t)) }
-
-pub unlent-received : {w n c message out : List ℕ} {r : MessageReply} → isLent w n ≡ false → r ≡ damagedReply → Received w n w n c c message out out r
-unlent-received {w} {n} {c} d e = bad-received (ap (λ (b : Bool). b && eqb (length c) controlLength) (unlent-held w n d)) e
-
-pub short-received : {w n c message out : List ℕ} {r : MessageReply} → (length c ≡ controlLength → ⊥) → r ≡ damagedReply → Received w n w n c c message out out r
-short-received {w} {n} {c} d e = bad-received (and-false (isHeld w n) (eqb (length c) controlLength) (ne-eqb (length c) controlLength d)) e
+pub unlent-received : {w n c message out : List ℕ} {r : MessageReply} → (isLent w n && eqb (length c) controlLength) ≡ false → r ≡ damagedReply
+    → Received w n w n c c message out out r
+unlent-received {w} {n} {c} d e = record { damaged = λ _. untouched e; received = λ t. absurd (false≢true (sym (unlent-whole w n c d) ∙ t)) }
 
 -- the reply to a message that was read
 abbrev pub replyIn : HandshakeReceived → MessageReply
@@ -116,14 +131,6 @@ module _ (w n c : List ℕ) (h : EisHandshaker) (lent : isLent w n ≡ true) (is
     handled = handed-handled h message a t
 
     module _ {v m d : List ℕ} (s : Settled w n v m c d (r .answer)) where
-      kept : Handled w n v m out later (handedIn (readingOf (h .next) message) message) (replyOf (r .answer))
-      kept = go (isRefusal (r .answer .outcome)) refl
-        where
-          go : (b : Bool) → isRefusal (r .answer .outcome) ≡ b → Handled w n v m out later (handedIn (readingOf (h .next) message) message) (replyOf (r .answer))
-          go true e =
-              rw (s .refused e .0, s .refused e .1) (refused-handled w n h lent is long _ handled e)
-          go false e = stored-handled w n h lent is long _ handled e (s .stored e)
-
       pub handed-received : Received w n v m c d message out later (replyIn r)
       unfolding viewOf
       handed-received =
@@ -135,7 +142,7 @@ module _ (w n c : List ℕ) (h : EisHandshaker) (lent : isLent w n ≡ true) (is
                 record { reply = ap replyIn (e .0); words = s .refused f .0; name = s .refused f .1; control = s .control g; bytes = e .1 };
             received = λ x.
                 subst (λ (y : Reading). Follows y w n v m c d message out later (replyIn r)) same
-                (go (readingOf (h .next) message) (a .received (sym whole ∙ x)) (kept .handled (held x)) (λ p q. s .begun p (settles w n h lent is long _ handled p (held x) q)));
+                (go (readingOf (h .next) message) (a .received (sym whole ∙ x)) (settled-handled w n h lent is long _ handled s .handled (held x)) (λ p q. s .begun p (settles w n h lent is long _ handled p (held x) q)));
           }
         where
           held : (isHeld w n && eqb (length c) controlLength) ≡ true → isHeld w n ≡ true

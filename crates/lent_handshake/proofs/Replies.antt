@@ -5,8 +5,8 @@ use mathlib.Core.Bool.{Bool, true, false, cond, _&&_, false≢true}
 use mathlib.Core.List.{List}
 use mathlib.Core.Option.{Option, none, some}
 use native.Mathlib.Omega.{arith}
-use borrow.Author.Tests.{eq-eqb, ne-eqb, le-leb, lt-leb}
-use lib.Dec.{eqb}
+use borrow.Author.Tests.{eq-eqb, eqb-true, le-leb, lt-leb}
+use lib.Dec.{eqb, leb}
 use lib.ListN.{length, getD}
 use Rattle.handshake.specs.Handshake as paper
 use Rattle.handshake.specs.View.{viewOf, nameOf, contextOf, responseOf, outcomeOf, isRefusal, isSound, Meets, Done}
@@ -19,10 +19,10 @@ use Rattle.handshake.specs.declared.handshake.HandshakeAnswer.{HandshakeAnswer}
 use Rattle.control.specs.Control.{controlLength}
 use Rattle.converter.specs.Next.{Begins}
 use Rattle.answers.specs.declared.Answer.{Answer}
-use Rattle.lent_handshake.specs.Lent.{handshakeIn, nameAt, contextAt, contextNumber, isLent, isHeld, statusOf, statusIn, Refused21, Holds, Started, Handled, Begun, Finished, Named}
+use Rattle.lent_handshake.specs.Lent.{nameLength, handshakeIn, nameAt, contextAt, contextNumber, isLent, isHeld, statusOf, statusIn, Refused21, Holds, Started, Handled, Begun, Finished, Named}
 use Rattle.lent_handshake.specs.declared.HandshakeReply.{HandshakeReply}
 use Rattle.lent_handshake.specs.declared.Client.{Client}
-use Rattle.lent_handshake.proofs.Words.{unlent-held, held-sound}
+use Rattle.lent_handshake.proofs.Words.{both, unlent-held, held-sound}
 
 -- the slices hold this handshake
 abbrev pub Kept : (v m : List ℕ) → EisHandshaker → Type 0
@@ -120,24 +120,28 @@ pub and-true : (b c : Bool) → c ≡ true → (b && c) ≡ b
 and-true true c e = e
 and-true false c e = refl
 
-pub and-false : (b c : Bool) → c ≡ false → (b && c) ≡ false
-and-false true c e = e
-and-false false c e = refl
+-- slices that have not the lengths hold nothing
+pub unlent-whole : (w n c : List ℕ) → (isLent w n && eqb (length c) controlLength) ≡ false → (isHeld w n && eqb (length c) controlLength) ≡ false
+unfolding isHeld
+unlent-whole w n c e = go (isLent w n) (leb (getD w 0 0) nameLength) (eqb (length c) controlLength) e
+  where
+    go : (a b d : Bool) → (a && d) ≡ false → ((a && b) && d) ≡ false
+    go true true d f = f
+    go true false d f = refl
+    go false b d f = refl
 
-bad-finished : {w n c out : List ℕ} {r : HandshakeReply} → (isHeld w n && eqb (length c) controlLength) ≡ false → Bad r → Finished w n w n c c out out r
-bad-finished f e =
+pub lent-whole : (w n c : List ℕ) → (isLent w n && eqb (length c) controlLength) ≡ true → (isLent w n ≡ true) × (length c ≡ controlLength)
+lent-whole w n c e = let p = both (isLent w n) (eqb (length c) controlLength) e in (p .0, eqb-true (length c) controlLength (p .1))
+
+pub unlent-finished : {w n c out : List ℕ} {r : HandshakeReply} → (isLent w n && eqb (length c) controlLength) ≡ false → Bad r → Finished w n w n c c out out r
+unlent-finished {w} {n} {c} d e =
+    let f = unlent-whole w n c d in
     record {
       damaged = λ _. bad-refused e;
       handled = λ t. absurd (false≢true (sym f ∙ t));
       kept = λ _. (refl, (refl, refl));
       begun = λ p t _. absurd (false≢true (sym f ∙ t));
     }
-
-pub unlent-finished : {w n c out : List ℕ} {r : HandshakeReply} → isLent w n ≡ false → Bad r → Finished w n w n c c out out r
-unlent-finished {w} {n} {c} d e = bad-finished (ap (λ (b : Bool). b && eqb (length c) controlLength) (unlent-held w n d)) e
-
-pub short-finished : {w n c out : List ℕ} {r : HandshakeReply} → (length c ≡ controlLength → ⊥) → Bad r → Finished w n w n c c out out r
-short-finished {w} {n} {c} d e = bad-finished (and-false (isHeld w n) (eqb (length c) controlLength) (ne-eqb (length c) controlLength d)) e
 
 -- a message that is a Finish, with what becomes of the control words
 pub finished : {w n v m c d out later : List ℕ} {r : HandshakeReply} → length c ≡ controlLength → Handled w n v m out later paper.Message.Finish r

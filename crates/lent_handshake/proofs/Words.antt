@@ -23,7 +23,7 @@ use Rattle.lent_handshake.specs.Lent.{handshakeLength, nameLength, versi
 
 -- ---- the lengths, and the one count
 
-both : (a b : Bool) → (a && b) ≡ true → (a ≡ true) × (b ≡ true)
+pub both : (a b : Bool) → (a && b) ≡ true → (a ≡ true) × (b ≡ true)
 both true b e = (refl, e)
 both false b e = absurd (false≢true e)
 

@@ -14,9 +14,11 @@ use handshake::handshake::Name;
 use handshake_messages::Told;
 ghost use Prim.Native.Nat.{_%_};
 ghost use mathlib.Core.Path.{_≡_};
-ghost use mathlib.Core.Bool.{true};
+ghost use mathlib.Core.Bool.{true, _&&_};
 ghost use mathlib.Core.List.{[]};
+ghost use lib.Dec.{eqb};
 ghost use lib.ListN.{length, getD};
+ghost use Rattle.control.specs.Control.{controlLength};
 ghost use Rattle.handshake.specs.View.{contextOf, versionIn, versionsOf, viewOf, isSound, requestOf};
 ghost use Rattle.handshake.specs.declared.handshake.HandshakeError.{HandshakeError};
 ghost use Rattle.handshake.specs.declared.handshake.HandshakeOutcome.{HandshakeOutcome};
@@ -200,6 +202,16 @@ fn lent(words: &[u64], name: &[u8]) -> bool
     name.len() == NAME_LENGTH_LIMIT
 }
 
+// Whether the control words have a session's besides.
+fn lent_with(words: &[u64], name: &[u8], control: &[u64]) -> bool
+    ensures { λ r. ⌜ r ≡ (isLent (now (words .entry)) (now (name .entry)) && eqb (length (now (control .entry))) controlLength) ⌝ }
+{
+    if !lent(words, name) {
+        return false;
+    }
+    control.len() == CONTROL_LENGTH
+}
+
 fn bad_state() -> HandshakeReply
     ensures { λ r. ⌜ (r .outcome ≡ HandshakeOutcome.Refused HandshakeError.BadState) × (r .count ≡ 0) ⌝ }
 {
@@ -254,40 +266,6 @@ pub fn handle_request(
     reply
 }
 
-// A Finish, and where it succeeds the session that it begins, in the control words.
-pub fn finish(
-    words: &mut [u64],
-    name: &mut [u8],
-    control: &mut [u64],
-    out: &mut [u8],
-) -> HandshakeReply
-    ensures { λ r. ⌜ Finishes words name control out r ⌝ }
-{
-    if !lent(words, name) {
-        return bad_state();
-    }
-    if control.len() != CONTROL_LENGTH {
-        return bad_state();
-    }
-    let answer = load(words, name).handle_request(HandshakeMessage::Finish, b"", out);
-    let handshaker = answer.handshaker;
-    let response = answer.response;
-    let outcome = answer.outcome;
-    let reply = HandshakeReply {
-        outcome,
-        count: answer.count,
-    };
-    match outcome {
-        HandshakeOutcome::Refused(_) => {}
-        HandshakeOutcome::Accepted => store(words, name, handshaker),
-        HandshakeOutcome::Finished => {
-            store(words, name, handshaker);
-            request::new(control, response);
-        }
-    }
-    reply
-}
-
 // Keeps what an answer gives: the handshake where it is no refusal, and where it is a Finish that succeeded, the session that it begins.
 fn settle(words: &mut [u64], name: &mut [u8], control: &mut [u64], answer: HandshakeAnswer)
     requires { ⌜ Settleable (now words) (now name) (now control) answer ⌝ }
@@ -304,6 +282,28 @@ fn settle(words: &mut [u64], name: &mut [u8], control: &mut [u64], answer: Hands
             request::new(control, response);
         }
     }
+}
+
+// A Finish, and where it succeeds the session that it begins, in the control words.
+pub fn finish(
+    words: &mut [u64],
+    name: &mut [u8],
+    control: &mut [u64],
+    out: &mut [u8],
+) -> HandshakeReply
+    ensures { λ r. ⌜ Finishes words name control out r ⌝ }
+{
+    if !lent_with(words, name, control) {
+        return bad_state();
+    }
+    let answer = load(words, name).handle_request(HandshakeMessage::Finish, b"", out);
+    let outcome = answer.outcome;
+    let reply = HandshakeReply {
+        outcome,
+        count: answer.count,
+    };
+    settle(words, name, control, answer);
+    reply
 }
 
 // What a message answers besides the slices: what became of it, the reply to its request, and how many of its bytes were taken.
@@ -337,10 +337,7 @@ pub fn pending_request(
 ) -> MessageReply
     ensures { λ r. ⌜ Receives words name control out (now (message .entry)) r ⌝ }
 {
-    if !lent(words, name) {
-        return bad_message_state();
-    }
-    if control.len() != CONTROL_LENGTH {
+    if !lent_with(words, name, control) {
         return bad_message_state();
     }
     let received = handshake_messages::pending_request(load(words, name), message, out);
