@@ -6,19 +6,18 @@ use mathlib.Core.List.{List}
 use native.Mathlib.Omega.{arith}
 use borrow.Author.Tests.{lt-leb, ltb-false}
 use lib.Dec.{eqb, ltb}
-use lib.ListN.{length, take, length-take}
+use lib.ListN.{length, take}
 use Rattle.parse.specs.Parse.{le32, le64, parsed}
 use Rattle.parse.specs.declared.Arguments.{Arguments}
 use Rattle.parse.specs.declared.Parsed.{Parsed}
 use Rattle.parse.proofs.Parts.{text-within}
 use Rattle.handshake.specs.Handshake as paper
-use Rattle.handshake.specs.View.{viewOf, isSound, isRefusal, unfinished, Done, Handled}
+use Rattle.handshake.specs.View.{viewOf, isSound, unfinished, Done, Handled}
 use Rattle.handshake.specs.declared.handshake.EisHandshaker.{EisHandshaker}
 use Rattle.handshake.specs.declared.handshake.HandshakeError.{HandshakeError}
 use Rattle.handshake.specs.declared.handshake.HandshakeOutcome.{HandshakeOutcome}
-use Rattle.handshake.specs.declared.handshake.HandshakeAnswer.{HandshakeAnswer}
 use Rattle.handshake.proofs.Answers.{sound-is}
-use Rattle.handshake_messages.specs.Reading.{objectOf, isPeerId, checkId, bodyRead, readingOf, requestIn, isHanded, HandedOn, Follows, Received}
+use Rattle.handshake_messages.specs.Reading.{objectOf, isPeerId, checkId, bodyRead, readingOf, requestIn, isHanded, Follows, Received}
 use Rattle.handshake_messages.specs.declared.Object.{Object}
 use Rattle.handshake_messages.specs.declared.Reading.{Reading}
 use Rattle.handshake_messages.specs.declared.Told.{Told}

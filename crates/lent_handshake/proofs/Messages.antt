@@ -5,7 +5,7 @@ use mathlib.Core.Bool.{Bool, true, false, _&&_, false≢true}
 use mathlib.Core.List.{List}
 use borrow.Author.Tests.{eq-eqb}
 use lib.Dec.{eqb}
-use lib.ListN.{length, getD, take}
+use lib.ListN.{length, getD}
 use Rattle.control.specs.Control.{controlLength}
 use Rattle.converter.specs.Next.{Begins}
 use Rattle.answers.specs.declared.Answer.{Answer}
@@ -19,10 +19,9 @@ use Rattle.handshake.specs.declared.handshake.HandshakeAnswer.{HandshakeAnswer}
 use Rattle.handshake_messages.specs.Reading.{readingOf, handshakeReading, isHanded}
 use Rattle.handshake_messages.specs.Reading as by-value
 use Rattle.handshake_messages.specs.declared.Reading.{Reading}
-use Rattle.handshake_messages.specs.declared.Told.{Told}
 use Rattle.handshake_messages.specs.declared.HandshakeReceived.{HandshakeReceived}
 use Rattle.handshake_messages.proofs.Receipts.{handedIn, handed-handled}
-use Rattle.lent_handshake.specs.Lent.{handshakeIn, isLent, isHeld, Handled, Finished, Holds, Begun, Settled, Untouched, nothingReply, damagedReply, Follows, Received}
+use Rattle.lent_handshake.specs.Lent.{handshakeIn, isLent, isHeld, Handled, Finished, Holds, Begun, Settled, Untouched, damagedReply, Follows, Received}
 use Rattle.lent_handshake.specs.declared.MessageReply.{MessageReply}
 use Rattle.lent_handshake.proofs.Words.{held-sound}
 use Rattle.lent_handshake.proofs.Replies.{Kept, replyOf, accepted-sound, refused-handled, stored-handled, settles, and-true, unlent-whole, finished, unsettled, settled-begun}

@@ -1,5 +1,4 @@
 -- Room for the header, then its object, then the rest. Assumes nothing.
-use mathlib.Core.Path.{sym, ap, _∙_}
 use borrow.Author.Needs.{needs}
 use borrow.Author.Tests.{lt-ltb, le-ltb}
 use Rattle.handshake_messages.specs.Reading.{readingOf, bodyRead}
