@@ -1,3 +1,5 @@
 pub mod Reading
 pub mod Received
 pub mod Same
+pub mod Single
+pub mod Trials
