@@ -1,3 +1,4 @@
 pub mod Table
 pub mod Parse
 pub mod Same
+pub mod First

@@ -7,7 +7,14 @@ ghost use lib.Dec.{leb};
 ghost use lib.Ieee.{binary32, ofBits};
 ghost use lib.ListN.{length};
 ghost use Rattle.parse.specs.Table.{row, signatureOf};
+ghost use Rattle.parse.specs.First.{firstOf};
 ghost use Rattle.parse.specs.Parse.{le32, le64, withNumber, withReal, withText, wordRead, variantRead, doubleWordRead, realRead, textRead, argumentRead, begun, ended, parsed};
+
+// The object's id, the length and the opcode.
+pub const HEADER_LENGTH: usize = 16;
+
+// "Lengths above 1,024 are malformed".
+pub const MESSAGE_LENGTH_LIMIT: usize = 1024;
 
 // What an argument is. A signed number is read as its 32 bits, and a new object's id as a number.
 pub enum Argument {
@@ -61,6 +68,13 @@ pub enum Walk {
 pub enum Parsed {
     Malformed(ParseError),
     Read(Arguments),
+}
+
+// What the first message of some bytes is: not yet whole, malformed, or its request's arguments and how many bytes it has.
+pub enum First {
+    Wait,
+    Malformed(ParseError),
+    Read { arguments: Arguments, length: usize },
 }
 
 // Little-endian numbers at a place of a message.
@@ -441,5 +455,30 @@ pub fn parse(interface: u8, message: &[u8]) -> Parsed
             let two = read_argument(second, message, one);
             end(message, read_argument(third, message, two))
         }
+    }
+}
+
+// The first message of the bytes, on an object of this interface, behind its id. Bytes behind it are not read.
+pub fn read_first(interface: u8, bytes: &[u8]) -> First
+    requires { ⌜ 16 ≤ length (now bytes) ⌝ }
+    ensures { λ r. ⌜ r ≡ firstOf interface (now (bytes .entry)) ⌝ }
+{
+    let length = number32(bytes, 8);
+    let end = length as usize;
+    if end < HEADER_LENGTH {
+        return First::Malformed(ParseError::HeaderLength { length });
+    }
+    if MESSAGE_LENGTH_LIMIT < end {
+        return First::Malformed(ParseError::HeaderLength { length });
+    }
+    if bytes.len() < end {
+        return First::Wait;
+    }
+    match parse(interface, &bytes[..end]) {
+        Parsed::Malformed(e) => First::Malformed(e),
+        Parsed::Read(arguments) => First::Read {
+            arguments,
+            length: end,
+        },
     }
 }
