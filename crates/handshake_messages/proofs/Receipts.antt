@@ -1,23 +1,25 @@
 -- What was read, as what a call promises; and a request's text lies within its message. Assumes nothing.
 use Prim.Native.Nat.{ℕ, _+_, _≤_, _<_}
 use mathlib.Core.Path.{_≡_, refl, sym, ap, subst, _∙_}
-use mathlib.Core.Bool.{Bool, true, false, cond, _||_, false≢true}
+use mathlib.Core.Bool.{Bool, true, false, cond, false≢true}
 use mathlib.Core.List.{List}
 use native.Mathlib.Omega.{arith}
-use borrow.Author.Tests.{lt-leb, ltb-false}
+use borrow.Author.Tests.{lt-leb}
 use lib.Dec.{eqb, ltb}
 use lib.ListN.{length, take}
-use Rattle.parse.specs.Parse.{le32, le64, parsed}
+use Rattle.parse.specs.First.{firstOf}
+use Rattle.parse.specs.Parse.{le64}
 use Rattle.parse.specs.declared.Arguments.{Arguments}
-use Rattle.parse.specs.declared.Parsed.{Parsed}
-use Rattle.parse.proofs.Parts.{text-within}
+use Rattle.parse.specs.declared.First.{First}
+use Rattle.parse.proofs.Firsts.{IsFirst, first-within}
 use Rattle.handshake.specs.Handshake as paper
-use Rattle.handshake.specs.View.{viewOf, isSound, unfinished, Done, Handled}
+use Rattle.handshake.specs.View.{viewOf, isSound, isRefusal, unfinished, Done, Handled}
 use Rattle.handshake.specs.declared.handshake.EisHandshaker.{EisHandshaker}
 use Rattle.handshake.specs.declared.handshake.HandshakeError.{HandshakeError}
 use Rattle.handshake.specs.declared.handshake.HandshakeOutcome.{HandshakeOutcome}
+use Rattle.handshake.specs.declared.handshake.HandshakeAnswer.{HandshakeAnswer}
 use Rattle.handshake.proofs.Answers.{sound-is}
-use Rattle.handshake_messages.specs.Reading.{objectOf, isPeerId, checkId, bodyRead, readingOf, requestIn, isHanded, Follows, Received}
+use Rattle.handshake_messages.specs.Reading.{objectOf, isPeerId, checkId, bodyRead, readingOf, requestIn, isHanded, HandedOn, Follows, Received}
 use Rattle.handshake_messages.specs.declared.Object.{Object}
 use Rattle.handshake_messages.specs.declared.Reading.{Reading}
 use Rattle.handshake_messages.specs.declared.Told.{Told}
@@ -31,35 +33,30 @@ either true f g = f refl
 either false f g = g refl
 
 module _ (m : List ℕ) (a : Arguments) (n : ℕ) where
-  abbrev Within : Type 0
-  Within = (n ≤ length m) × (a .start + a .length ≤ length (take n m))
-
-  wait : Reading.Wait ≡ Reading.Request a n → Within
+  wait : Reading.Wait ≡ Reading.Request a n → IsFirst m a n
   wait e = absurd (let z : _≡_ {A = ℕ} 0 1 = cc in omega arith)
 
-  checked : (i k : ℕ) (p : Parsed) → k ≤ length m → parsed i (take k m) ≡ p → checkId k p ≡ Reading.Request a n → Within
+  checked : (i : ℕ) (f : First) → f ≡ firstOf i m → checkId f ≡ Reading.Request a n → IsFirst m a n
   unfolding checkId
-  checked i k (Parsed.Malformed e) l q r = absurd (let z : _≡_ {A = ℕ} 0 1 = cc in omega arith)
-  checked i k (Parsed.Read b) l q r =
+  checked i First.Wait q r = wait r
+  checked i (First.Malformed e) q r = absurd (let z : _≡_ {A = ℕ} 0 1 = cc in omega arith)
+  checked i (First.Read b k) q r =
       either (eqb (b .request) 5) (λ _. either (isPeerId (b .first)) (λ _. is) (λ _ s. absurd (let z : _≡_ {A = ℕ} 0 1 = cc in omega arith))) (λ _. is) r
     where
-      is : Reading.Request b k ≡ Reading.Request a n → Within
+      is : Reading.Request b k ≡ Reading.Request a n → IsFirst m a n
       is s =
           let x : b ≡ a = cc in
           let y : k ≡ n = cc in
-          (rw y at l, rw (x, y) at (text-within (take k m) i b q))
+          rw (x, y) at (first-within i m b k q)
 
-  body : (o : Object) (k : ℕ) → bodyRead o m k ≡ Reading.Request a n → Within
+  body : (o : Object) → bodyRead o m ≡ Reading.Request a n → IsFirst m a n
   unfolding bodyRead
-  body Object.Unknown k e = absurd (let z : _≡_ {A = ℕ} 0 1 = cc in omega arith)
-  body (Object.Alive i) k e =
-      either (ltb k 16 || ltb 1024 k) (λ _ s. absurd (let z : _≡_ {A = ℕ} 0 1 = cc in omega arith))
-      (λ _. either (ltb (length m) k) (λ _. wait) (λ t. checked i k (parsed i (take k m)) (ltb-false _ _ t) refl))
-      e
+  body Object.Unknown e = absurd (let z : _≡_ {A = ℕ} 0 1 = cc in omega arith)
+  body (Object.Alive i) e = checked i (firstOf i m) refl e
 
-  pub request-within : (next : ℕ) → Reading.Request a n ≡ readingOf next m → (n ≤ length m) × (a .start + a .length ≤ length (take n m))
+  pub request-within : (next : ℕ) → Reading.Request a n ≡ readingOf next m → IsFirst m a n
   unfolding readingOf
-  request-within next e = either (ltb (length m) 16) (λ _. wait) (λ _. body (objectOf next (le64 m 0)) (le32 m 8)) (sym e)
+  request-within next e = either (ltb (length m) 16) (λ _. wait) (λ _. body (objectOf next (le64 m 0))) (sym e)
 
 -- ---- a call's promise
 

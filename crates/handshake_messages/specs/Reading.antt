@@ -1,17 +1,17 @@
 -- A client's message during the handshake: how the first of a lent slice is read, and what is promised of a call on it. Assumes nothing.
 use Prim.Native.Nat.{ℕ, _%_, _≤_}
 use mathlib.Core.Path.{_≡_}
-use mathlib.Core.Bool.{Bool, true, false, cond, _&&_, _||_}
+use mathlib.Core.Bool.{Bool, true, false, cond, _&&_}
 use mathlib.Core.List.{List, [], _∷_}
 use lib.Dec.{eqb, leb, ltb}
 use lib.ListN.{length, getD, take, drop}
 use Rattle.eiproto.specs.Interface.{eiConnection}
 use Rattle.eiproto.specs.declared.eiproto_enum.ContextType.{ContextType}
 use Rattle.wire.specs.Ids.{firstServerId}
-use Rattle.wire.specs.declared.ParseError.{ParseError}
-use Rattle.parse.specs.Parse.{le32, le64, parsed}
+use Rattle.parse.specs.First.{firstOf}
+use Rattle.parse.specs.Parse.{le64}
 use Rattle.parse.specs.declared.Arguments.{Arguments}
-use Rattle.parse.specs.declared.Parsed.{Parsed}
+use Rattle.parse.specs.declared.First.{First}
 use Rattle.handshake.specs.Handshake as paper
 use Rattle.handshake.specs.View.{viewOf, isSound, isRefusal, requestOf, unfinished, Done}
 use Rattle.handshake.specs.declared.handshake.EisHandshaker.{EisHandshaker}
@@ -42,23 +42,21 @@ sync = 5
 unfoldable pub isPeerId : ℕ → Bool
 isPeerId id = ltb 0 id && ltb id firstServerId
 
-unfoldable pub checkId : (length : ℕ) → Parsed → Reading
+unfoldable pub checkId : First → Reading
 unfolding isPeerId
-checkId n (Parsed.Malformed e) = Reading.Malformed e
-checkId n (Parsed.Read a) = cond (eqb (a .request) sync) (cond (isPeerId (a .first)) (Reading.Request a n) Reading.InvalidId) (Reading.Request a n)
+checkId First.Wait = Reading.Wait
+checkId (First.Malformed e) = Reading.Malformed e
+checkId (First.Read a n) = cond (eqb (a .request) sync) (cond (isPeerId (a .first)) (Reading.Request a n) Reading.InvalidId) (Reading.Request a n)
 
--- "Lengths above 1,024 are malformed (`HeaderLength`)", as those below the header's; "then WAIT if the slice is shorter than the length"
-unfoldable pub bodyRead : Object → (message : List ℕ) → (length : ℕ) → Reading
-unfolding parsed checkId
-bodyRead Object.Unknown m n = Reading.NoObject
-bodyRead (Object.Alive interface) m n =
-    cond (ltb n 16 || ltb 1024 n)
-    (Reading.Malformed (ParseError.HeaderLength n))
-    (cond (ltb (length m) n) Reading.Wait (checkId n (parsed interface (take n m))))
+-- its length and its arguments, by `firstOf` of parse/specs/First
+unfoldable pub bodyRead : Object → (message : List ℕ) → Reading
+unfolding firstOf checkId
+bodyRead Object.Unknown m = Reading.NoObject
+bodyRead (Object.Alive interface) m = checkId (firstOf interface m)
 
 unfoldable pub readingOf : (next : ℕ) → (message : List ℕ) → Reading
-unfolding le32 le64 objectOf bodyRead
-readingOf next m = cond (ltb (length m) 16) Reading.Wait (bodyRead (objectOf next (le64 m 0)) m (le32 m 8))
+unfolding le64 objectOf bodyRead
+readingOf next m = cond (ltb (length m) 16) Reading.Wait (bodyRead (objectOf next (le64 m 0)) m)
 
 -- HOW A MESSAGE IS READ. "Fewer than 16 bytes: WAIT. From 16 on: 24; then HeaderLength; then WAIT; then the rest of 23; then 25"
 abbrev pub handshakeReading : paper.Handshake → (message : List ℕ) → Reading

@@ -9,23 +9,17 @@ use handshake::handshake::HandshakeOutcome;
 use handshake::handshake::NAME_LENGTH_LIMIT;
 use handshake::handshake::unfinished;
 use parse::Arguments;
-use parse::Parsed;
+use parse::First;
+use parse::HEADER_LENGTH;
 use wire::ParseError;
 use wire::backend;
 ghost use Prim.Native.Nat.{_+_, _%_, _≤_};
 ghost use mathlib.Core.Path.{_≡_};
 ghost use mathlib.Core.Bool.{cond};
 ghost use lib.ListN.{length};
-ghost use Rattle.parse.specs.declared.Parsed.{Parsed};
 ghost use Rattle.handshake.specs.View.{isRefusal, unfinished, Handled};
 ghost use Rattle.handshake.specs.declared.handshake.HandshakeOutcome.{HandshakeOutcome};
-ghost use Rattle.handshake_messages.specs.Reading.{objectOf, checkId, bodyRead, readingOf, contextTypeIn, requestIn, isHanded, Calls, Received};
-ghost use Rattle.handshake_messages.specs.declared.Object.{Object};
-
-// A header's bytes, and the most bytes of a message.
-pub const HEADER_LENGTH: usize = 16;
-
-pub const MESSAGE_LENGTH_LIMIT: usize = 1024;
+ghost use Rattle.handshake_messages.specs.Reading.{objectOf, checkId, readingOf, contextTypeIn, requestIn, isHanded, Calls, Received};
 
 // A Sync's number among the requests.
 const SYNC: u64 = 5;
@@ -95,39 +89,25 @@ fn find_object(next: u64, id: u64) -> Object
     Object::Unknown
 }
 
-// A callback's id has to be one of the client's. None is kept here, so that they start at 1.
-fn check_id(arguments: Arguments, length: usize) -> Reading
-    ensures { λ r. ⌜ r ≡ checkId length (Parsed.Read arguments) ⌝ }
+// What was read of a message on an object that lives. A callback's id has to be one of the client's: none is kept here, so that they start at 1.
+fn check_id(first: First) -> Reading
+    ensures { λ r. ⌜ r ≡ checkId first ⌝ }
 {
-    if arguments.request != SYNC {
-        return Reading::Request { arguments, length };
-    }
-    if arguments.first == 0 {
-        return Reading::InvalidId;
-    }
-    if arguments.first < backend::FIRST_SERVER_ID {
-        return Reading::Request { arguments, length };
-    }
-    Reading::InvalidId
-}
-
-// A message on an object of this interface, behind its id.
-fn read_body(interface: u8, message: &[u8], length: u32) -> Reading
-    ensures { λ r. ⌜ r ≡ bodyRead (Object.Alive interface) (now (message .entry)) length ⌝ }
-{
-    let end = length as usize;
-    if end < HEADER_LENGTH {
-        return Reading::Malformed(ParseError::HeaderLength { length });
-    }
-    if MESSAGE_LENGTH_LIMIT < end {
-        return Reading::Malformed(ParseError::HeaderLength { length });
-    }
-    if message.len() < end {
-        return Reading::Wait;
-    }
-    match parse::parse(interface, &message[..end]) {
-        Parsed::Malformed(e) => Reading::Malformed(e),
-        Parsed::Read(arguments) => check_id(arguments, end),
+    match first {
+        First::Wait => Reading::Wait,
+        First::Malformed(e) => Reading::Malformed(e),
+        First::Read { arguments, length } => {
+            if arguments.request != SYNC {
+                return Reading::Request { arguments, length };
+            }
+            if arguments.first == 0 {
+                return Reading::InvalidId;
+            }
+            if arguments.first < backend::FIRST_SERVER_ID {
+                return Reading::Request { arguments, length };
+            }
+            Reading::InvalidId
+        }
     }
 }
 
@@ -140,7 +120,7 @@ pub fn read(next: u64, message: &[u8]) -> Reading
     }
     match find_object(next, parse::number64(message, 0)) {
         Object::Unknown => Reading::NoObject,
-        Object::Alive(interface) => read_body(interface, message, parse::number32(message, 8)),
+        Object::Alive(interface) => check_id(parse::read_first(interface, message)),
     }
 }
 

@@ -1,17 +1,17 @@
 -- How the bytes read, by what was tested of them; and the calls that messages stand for. Assumes nothing.
 use Prim.Native.Nat.{ℕ, _+_, _-_, _≤_, _<_}
-use mathlib.Core.Path.{_≡_, refl, sym, ap, ap₂, subst, _∙_}
-use mathlib.Core.Bool.{Bool, true, false, _||_, cond}
+use mathlib.Core.Path.{_≡_, sym, ap, _∙_}
+use mathlib.Core.Bool.{cond}
 use mathlib.Core.List.{List}
 use mathlib.Core.Option.{Option, none, some}
 use native.Mathlib.Omega.{arith}
 use borrow.Author.Tests.{lt-ltb, le-ltb, eq-eqb, ne-eqb}
 use lib.Dec.{eqb, ltb}
-use lib.ListN.{length, take, drop, length-take}
-use Rattle.wire.specs.declared.ParseError.{ParseError}
-use Rattle.parse.specs.Parse.{le32, le64, parsed}
+use lib.ListN.{length, take, drop}
+use Rattle.parse.specs.First.{firstOf}
+use Rattle.parse.specs.Parse.{le64}
 use Rattle.parse.specs.declared.Arguments.{Arguments}
-use Rattle.parse.specs.declared.Parsed.{Parsed}
+use Rattle.parse.specs.declared.First.{First}
 use Rattle.requests.specs.Row.{low}
 use Rattle.requests.specs.declared.eis.Request.{Request}
 use Rattle.handlers.specs.Call.{callOf}
@@ -25,10 +25,6 @@ use Rattle.answers.specs.declared.Answer.{Answer}
 use Rattle.answers.specs.Meets.{Handled, Answered}
 use Rattle.answers.proofs.Meetings.{answered-handled}
 use Rattle.messages.specs.Reading.{requestIn, callIn, readAs, readingOn, readingOf, reading}
-
--- so many bytes of a slice that has as many
-pub length-taken : (n : ℕ) (m : List ℕ) → n ≤ length m → length (take n m) ≡ n
-length-taken n m h = length-take n m ∙ (omega arith)
 
 -- ---- the calls
 
@@ -48,32 +44,9 @@ module _ {s e : Store} {out later : List ℕ} {r : Answer} (a : Arguments) (obje
 
 -- ---- on an object that lives
 
-module _ (object interface version : ℕ) (m : List ℕ) {n : ℕ} (is : n ≡ le32 m 8) where
-  pub low-length : n < 16 → readingOn object interface version m ≡ Reading.malformed (ParseError.HeaderLength n)
-  unfolding readingOn
-  low-length h = rw (← is, lt-ltb n 16 h)
-
-  pub high-length : 16 ≤ n → 1024 < n → readingOn object interface version m ≡ Reading.malformed (ParseError.HeaderLength n)
-  unfolding readingOn
-  high-length l h = rw (← is, le-ltb n 16 l, lt-ltb 1024 n h)
-
-  pub not-whole : 16 ≤ n → n ≤ 1024 → length m < n → readingOn object interface version m ≡ Reading.wait
-  unfolding readingOn
-  not-whole l k h = rw (← is, le-ltb n 16 l, le-ltb 1024 n k, lt-ltb (length m) n h)
-
-  module _ (l : 16 ≤ n) (k : n ≤ 1024) (h : n ≤ length m) {r : Parsed} (p : r ≡ parsed interface (take n m)) where
-    parsed-whole : readingOn object interface version m ≡ readAs object version (take n m) r
-    unfolding readingOn
-    parsed-whole = rw (← is, le-ltb n 16 l, le-ltb 1024 n k, le-ltb (length m) n h, p)
-
-    pub bad-arguments : (e : ParseError) → r ≡ Parsed.Malformed e → readingOn object interface version m ≡ Reading.malformed e
-    unfolding readAs
-    bad-arguments e q = parsed-whole ∙ ap (readAs object version (take n m)) q
-
-    pub good-arguments : (a : Arguments) → r ≡ Parsed.Read a → readingOn object interface version m ≡ Reading.request (callIn a object version (take n m)) n
-    unfolding readAs
-    good-arguments a q =
-        parsed-whole ∙ ap (readAs object version (take n m)) q ∙ ap (λ (x : ℕ). Reading.request (callIn a object version (take n m)) x) (length-taken n m h)
+pub read-is : (object interface version : ℕ) (m : List ℕ) {f g : First} → f ≡ firstOf interface m → f ≡ g → readingOn object interface version m ≡ readAs object version m g
+unfolding readingOn
+read-is object interface version m e q = ap (readAs object version m) (sym e ∙ q)
 
 -- ---- by its object
 

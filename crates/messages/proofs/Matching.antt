@@ -10,8 +10,10 @@ use borrow.Author.Tests.{ltb-false}
 use lib.Dec.{ltb}
 use lib.ListN.{length, getD, take, drop}
 use Rattle.wire.specs.declared.ParseError.{ParseError}
+use Rattle.parse.specs.First.{firstAs, firstOf}
 use Rattle.parse.specs.Parse.{le32, le64, parsed}
 use Rattle.parse.specs.Same.{Same, Alike, Moves, Touches, States}
+use Rattle.parse.specs.declared.First.{First}
 use Rattle.parse.specs.declared.Parsed.{Parsed}
 use Rattle.parse.proofs.Same.{alike}
 use Rattle.lent_read.specs.Numbers.{requestOf}
@@ -30,49 +32,31 @@ same-call : (c : Call Input) → MatchedCall c c
 same-call (Call.timed i v a) = MatchedCall.timed i v (SameButPayload.same a)
 same-call (Call.plain c) = MatchedCall.plain c
 
-same-reading : (r : Reading (Call Input)) → MatchedReading r r
-same-reading Reading.wait = MatchedReading.wait
-same-reading Reading.noObject = MatchedReading.noObject
-same-reading (Reading.malformed e) = MatchedReading.malformed e
-same-reading (Reading.request c n) = MatchedReading.request n (same-call c)
-
 -- ---- by request
 
 module _ (object version : ℕ) where
-  abbrev As : List ℕ → Parsed → Reading (Call Input)
-  As m r = readAs object version m r
-
   same-text : {t t′ : List ℕ} → t ≡ t′ → MatchedCall (Call.timed object version (Input.Utf8 t)) (Call.timed object version (Input.Utf8 t′))
   same-text {t} e = rw (← e) (same-call (Call.timed object version (Input.Utf8 t)))
 
-  matched-as : {m m′ : List ℕ} {r r′ : Parsed} → length m ≡ length m′ → Alike m m′ r r′ → MatchedReading (As m r) (As m′ r′)
-  unfolding readAs callIn requestIn requestOf
-  matched-as {m} {m′} {r} long (Alike.equal e) = rw (← e) (same-reading (As m r))
-  matched-as long (Alike.malformed e) = MatchedReading.malformed e
-  matched-as {m} long (Alike.moves Moves.motion-relative x y x′ y′) =
-      rw (← long) (MatchedReading.request (length m) (MatchedCall.timed object version (SameButPayload.MotionRelative x y x′ y′)))
-  matched-as {m} long (Alike.moves Moves.motion-absolute x y x′ y′) =
-      rw (← long) (MatchedReading.request (length m) (MatchedCall.timed object version (SameButPayload.MotionAbsolute x y x′ y′)))
-  matched-as {m} long (Alike.moves Moves.scroll x y x′ y′) =
-      rw (← long) (MatchedReading.request (length m) (MatchedCall.timed object version (SameButPayload.Scroll x y x′ y′)))
-  matched-as {m} long (Alike.discrete a b a′ b′) =
-      rw (← long) (MatchedReading.request (length m) (MatchedCall.timed object version (SameButPayload.ScrollDiscrete _ _ _ _)))
-  matched-as {m} long (Alike.stop a b a′ b′ cancel) =
-      rw (← long) (MatchedReading.request (length m) (MatchedCall.timed object version (SameButPayload.ScrollStop _ _ _ _ _)))
-  matched-as {m} long (Alike.states States.button a s a′ s′ l l′) =
-      rw (← long) (MatchedReading.request (length m) (MatchedCall.timed object version (SameButPayload.Button _ _ _ _)))
-  matched-as {m} long (Alike.states States.key a s a′ s′ l l′) =
-      rw (← long) (MatchedReading.request (length m) (MatchedCall.timed object version (SameButPayload.Key _ _ _ _)))
-  matched-as {m} long (Alike.states States.keysym a s a′ s′ l l′) =
-      rw (← long) (MatchedReading.request (length m) (MatchedCall.timed object version (SameButPayload.Keysym _ _ _ _)))
-  matched-as {m} long (Alike.touches Touches.down id x y x′ y′) =
-      rw (← long) (MatchedReading.request (length m) (MatchedCall.timed object version (SameButPayload.Down _ x y x′ y′)))
-  matched-as {m} long (Alike.touches Touches.motion id x y x′ y′) =
-      rw (← long) (MatchedReading.request (length m) (MatchedCall.timed object version (SameButPayload.Motion _ x y x′ y′)))
-  matched-as {m} {m′} long (Alike.text start count l (inl e)) =
-      rw (← long) (MatchedReading.request (length m) (same-text e))
-  matched-as {m} {m′} long (Alike.text start count l (inr b)) =
-      rw (← long) (MatchedReading.request (length m) (MatchedCall.timed object version (SameButPayload.Utf8 (take count (drop start m)) (take count (drop start m′)) l (b .0) (b .1))))
+  -- of n bytes
+  matched-as : {r r′ : Parsed} (m m′ : List ℕ) (n : ℕ) → Alike (take n m) (take n m′) r r′
+      → MatchedReading (readAs object version m (firstAs n r)) (readAs object version m′ (firstAs n r′))
+  unfolding readAs firstAs callIn requestIn requestOf
+  matched-as {r = Parsed.Malformed e} m m′ n (Alike.equal q) = MatchedReading.malformed e
+  matched-as {r = Parsed.Read a} m m′ n (Alike.equal q) = rw (← q) (MatchedReading.request n (same-call (callIn a object version (take n m))))
+  matched-as m m′ n (Alike.malformed e) = MatchedReading.malformed e
+  matched-as m m′ n (Alike.moves Moves.motion-relative x y x′ y′) = MatchedReading.request n (MatchedCall.timed object version (SameButPayload.MotionRelative x y x′ y′))
+  matched-as m m′ n (Alike.moves Moves.motion-absolute x y x′ y′) = MatchedReading.request n (MatchedCall.timed object version (SameButPayload.MotionAbsolute x y x′ y′))
+  matched-as m m′ n (Alike.moves Moves.scroll x y x′ y′) = MatchedReading.request n (MatchedCall.timed object version (SameButPayload.Scroll x y x′ y′))
+  matched-as m m′ n (Alike.discrete a b a′ b′) = MatchedReading.request n (MatchedCall.timed object version (SameButPayload.ScrollDiscrete _ _ _ _))
+  matched-as m m′ n (Alike.stop a b a′ b′ cancel) = MatchedReading.request n (MatchedCall.timed object version (SameButPayload.ScrollStop _ _ _ _ _))
+  matched-as m m′ n (Alike.states States.button a s a′ s′ l l′) = MatchedReading.request n (MatchedCall.timed object version (SameButPayload.Button _ _ _ _))
+  matched-as m m′ n (Alike.states States.key a s a′ s′ l l′) = MatchedReading.request n (MatchedCall.timed object version (SameButPayload.Key _ _ _ _))
+  matched-as m m′ n (Alike.states States.keysym a s a′ s′ l l′) = MatchedReading.request n (MatchedCall.timed object version (SameButPayload.Keysym _ _ _ _))
+  matched-as m m′ n (Alike.touches Touches.down id x y x′ y′) = MatchedReading.request n (MatchedCall.timed object version (SameButPayload.Down _ x y x′ y′))
+  matched-as m m′ n (Alike.touches Touches.motion id x y x′ y′) = MatchedReading.request n (MatchedCall.timed object version (SameButPayload.Motion _ x y x′ y′))
+  matched-as m m′ n (Alike.text start count l (inl e)) = MatchedReading.request n (same-text e)
+  matched-as m m′ n (Alike.text start count l (inr b)) = MatchedReading.request n (MatchedCall.timed object version (SameButPayload.Utf8 (take count (drop start (take n m))) (take count (drop start (take n m′))) l (b .0) (b .1)))
 
 -- ---- headers
 
@@ -89,26 +73,28 @@ le64-same m m′ at h =
 
 module _ (object interface version : ℕ) (m m′ : List ℕ) (long : length m ≡ length m′) (size : le32 m 8 ≡ le32 m′ 8)
     (rest : le32 m 8 ≤ length m → Same interface (take (le32 m 8) m) (take (le32 m 8) m′)) where
+  abbrev As : List ℕ → First → Reading (Call Input)
+  As l r = readAs object version l r
+
+  -- a message that is whole
+  abbrev whole : List ℕ → First
+  whole l = firstAs (le32 m 8) (parsed interface (take (le32 m 8) l))
+
   matched-on : MatchedReading (readingOn object interface version m) (readingOn object interface version m′)
-  unfolding readingOn
+  unfolding readingOn firstOf readAs
   matched-on = rw (← size, ← long) (by-length (ltb (le32 m 8) 16 || ltb 1024 (le32 m 8)))
     where
-      whole : (b : Bool) → ltb (length m) (le32 m 8) ≡ b
-          → MatchedReading (cond b Reading.wait (readAs object version (take (le32 m 8) m) (parsed interface (take (le32 m 8) m))))
-          (cond b Reading.wait (readAs object version (take (le32 m 8) m′) (parsed interface (take (le32 m 8) m′))))
-      whole true e = MatchedReading.wait
-      whole false e =
-          let s = rest (ltb-false (length m) (le32 m 8) e) in
-          matched-as object version (s .long) (alike interface (take (le32 m 8) m) (take (le32 m 8) m′) s)
+      by-room : (b : Bool) → ltb (length m) (le32 m 8) ≡ b → MatchedReading (As m (cond b First.Wait (whole m))) (As m′ (cond b First.Wait (whole m′)))
+      by-room true e = MatchedReading.wait
+      by-room false e =
+          matched-as object version m m′ (le32 m 8) (alike interface (take (le32 m 8) m) (take (le32 m 8) m′) (rest (ltb-false (length m) (le32 m 8) e)))
 
       by-length : (b : Bool)
           → MatchedReading
-          (cond b (Reading.malformed (ParseError.HeaderLength (le32 m 8)))
-          (cond (ltb (length m) (le32 m 8)) Reading.wait (readAs object version (take (le32 m 8) m) (parsed interface (take (le32 m 8) m)))))
-          (cond b (Reading.malformed (ParseError.HeaderLength (le32 m 8)))
-          (cond (ltb (length m) (le32 m 8)) Reading.wait (readAs object version (take (le32 m 8) m′) (parsed interface (take (le32 m 8) m′)))))
+          (As m (cond b (First.Malformed (ParseError.HeaderLength (le32 m 8))) (cond (ltb (length m) (le32 m 8)) First.Wait (whole m))))
+          (As m′ (cond b (First.Malformed (ParseError.HeaderLength (le32 m 8))) (cond (ltb (length m) (le32 m 8)) First.Wait (whole m′))))
       by-length true = MatchedReading.malformed (ParseError.HeaderLength (le32 m 8))
-      by-length false = whole (ltb (length m) (le32 m 8)) refl
+      by-length false = by-room (ltb (length m) (le32 m 8)) refl
 
 pub same-matched : Same-matched
 unfolding reading readingOf

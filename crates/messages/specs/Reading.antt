@@ -1,15 +1,15 @@
--- THE FIRST MESSAGE OF A LENT SLICE: "object id 64 bits, length 32 bits with the header of 16 bytes, opcode 32 bits, arguments", and the request that it stands
--- for. Assumes nothing.
+-- THE FIRST MESSAGE OF A LENT SLICE, IN A SESSION: its object, and the request that it stands for. How it is read on an object of a known interface is
+-- `firstOf` of parse/specs/First. Assumes nothing.
 use Prim.Native.Nat.{ℕ}
-use mathlib.Core.Bool.{_||_, cond}
+use mathlib.Core.Bool.{cond}
 use mathlib.Core.List.{List}
 use mathlib.Core.Option.{Option, none, some}
 use lib.Dec.{eqb, ltb}
 use lib.ListN.{length, take, drop}
-use Rattle.wire.specs.declared.ParseError.{ParseError}
-use Rattle.parse.specs.Parse.{le32, le64, parsed}
+use Rattle.parse.specs.First.{firstOf}
+use Rattle.parse.specs.Parse.{le64}
 use Rattle.parse.specs.declared.Arguments.{Arguments}
-use Rattle.parse.specs.declared.Parsed.{Parsed}
+use Rattle.parse.specs.declared.First.{First}
 use Rattle.requests.specs.Row.{low}
 use Rattle.requests.specs.declared.eis.Request.{Request}
 use Rattle.lent_read.specs.Numbers.{argumentsOf, requestOf}
@@ -36,20 +36,16 @@ callIn a object version m =
     (Call.plain (Plain.syncMessage (a .first) (low (a .second))))
     (callOf (requestIn a) object version (take (a .length) (drop (a .start) m)))
 
--- a whole message, once it is parsed
-unfoldable pub readAs : (object version : ℕ) → (message : List ℕ) → Parsed → Reading (Call Input)
+-- what was read, on an object of this version: a request's message is so many of the bytes
+unfoldable pub readAs : (object version : ℕ) → (bytes : List ℕ) → First → Reading (Call Input)
 unfolding callIn
-readAs object version m (Parsed.Malformed e) = Reading.malformed e
-readAs object version m (Parsed.Read a) = Reading.request (callIn a object version m) (length m)
+readAs object version bytes First.Wait = Reading.wait
+readAs object version bytes (First.Malformed e) = Reading.malformed e
+readAs object version bytes (First.Read a n) = Reading.request (callIn a object version (take n bytes)) n
 
--- "once its header is there, object and length are checked before waiting": HeaderLength, then WAIT, then the rest
 unfoldable pub readingOn : (object interface version : ℕ) → (bytes : List ℕ) → Reading (Call Input)
-unfolding le32 readAs parsed
-readingOn object interface version bytes =
-    let n = le32 bytes 8 in
-    cond (ltb n 16 || ltb 1024 n)
-    (Reading.malformed (ParseError.HeaderLength n))
-    (cond (ltb (length bytes) n) Reading.wait (readAs object version (take n bytes) (parsed interface (take n bytes))))
+unfolding firstOf readAs
+readingOn object interface version bytes = readAs object version bytes (firstOf interface bytes)
 
 -- "24 NO_OBJECT, the addressed id not alive"
 unfoldable pub readingOf : (object : ℕ) → Option Object → (bytes : List ℕ) → Reading (Call Input)

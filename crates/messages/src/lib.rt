@@ -10,7 +10,8 @@ use lent_read::record;
 use lent_read::record::RequestCell;
 use objects::Object;
 use parse::Arguments;
-use parse::Parsed;
+use parse::First;
+use parse::HEADER_LENGTH;
 use requests::row;
 use wire::ParseError;
 ghost use Prim.Native.Nat.{ℕ, _+_, _≤_};
@@ -26,12 +27,6 @@ ghost use Rattle.requests.specs.declared.eis.Request.{Request};
 ghost use Rattle.model_reads.specs.Message.{takenOf};
 ghost use Rattle.messages.specs.Reading.{requestIn, callIn, readingOn};
 ghost use Rattle.messages.specs.Received.{Receives, ReceivesBy};
-
-// The object's id, the length and the opcode.
-pub const HEADER_LENGTH: usize = 16;
-
-// "Lengths above 1,024 are malformed".
-pub const MESSAGE_LENGTH_LIMIT: usize = 1024;
 
 // What becomes of the bytes.
 pub enum Received {
@@ -113,7 +108,7 @@ fn hand_on(
     )
 }
 
-// A message whose object is alive, from its length on.
+// A message whose object is alive.
 fn receive_on(
     control: &mut [u64],
     words: &mut [u64],
@@ -129,21 +124,10 @@ fn receive_on(
     requires { ⌜ Whole (store (now control) (now words) (now reals) (now texts)) × (16 ≤ length (now message)) ⌝ }
     ensures { λ r. ⌜ ReceivesBy control words reals texts out (readingOn object interface version (now (message .entry))) clock r ⌝ }
 {
-    let length = parse::number32(message, 8);
-    let n = length as usize;
-    if n < HEADER_LENGTH {
-        return Received::Malformed(ParseError::HeaderLength { length });
-    }
-    if MESSAGE_LENGTH_LIMIT < n {
-        return Received::Malformed(ParseError::HeaderLength { length });
-    }
-    if message.len() < n {
-        return Received::Wait;
-    }
-    let whole = &message[..n];
-    match parse::parse(interface, whole) {
-        Parsed::Malformed(e) => Received::Malformed(e),
-        Parsed::Read(a) => {
+    match parse::read_first(interface, message) {
+        First::Wait => Received::Wait,
+        First::Malformed(e) => Received::Malformed(e),
+        First::Read { arguments, length } => {
             let answer = hand_on(
                 control,
                 words,
@@ -151,13 +135,13 @@ fn receive_on(
                 texts,
                 object,
                 version,
-                a,
-                whole,
+                arguments,
+                &message[..length],
                 clock,
                 out,
             );
             let outcome = answer.outcome;
-            let taken = taken_of(outcome, n);
+            let taken = taken_of(outcome, length);
             Received::Handed { answer, taken }
         }
     }

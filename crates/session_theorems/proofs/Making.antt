@@ -142,7 +142,6 @@ reads-are-singles s (Made.read rs lent clock out later answer e ∷ xs) whole (M
       after = after-append s (t .singles) (r .singles) ∙ ap (λ (m : Store). slicesAfter m (r .singles)) (t .after) ∙ r .after;
       given = λ d. given-append d (t .singles) (r .singles) ∙ ap₂ _++_ (t .given d) (r .given d);
     }
-
 reads-are-singles s (Made.message bytes clock out later received e ∷ xs) whole (MadeCalls.message h rest) =
     by-reading (reading (view (session s)) bytes) refl (h .read whole) (λ w. reads-are-singles e xs w rest)
   where

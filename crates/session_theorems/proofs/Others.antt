@@ -12,8 +12,9 @@ use Rattle.model.specs.Session.{View}
 use Rattle.model.specs.Live.{Object, live}
 use Rattle.model_reads.specs.Read.{Entry}
 use Rattle.model_reads.specs.Message.{Reading}
-use Rattle.parse.specs.Parse.{le32, le64, parsed}
-use Rattle.parse.specs.declared.Parsed.{Parsed}
+use Rattle.parse.specs.First.{firstOf}
+use Rattle.parse.specs.Parse.{le64}
+use Rattle.parse.specs.declared.First.{First}
 use Rattle.messages.specs.Reading.{requestIn, callIn, readAs, readingOn, readingOf, reading}
 use Rattle.requests.specs.declared.eis.HandshakeRequest.{HandshakeRequest}
 use Rattle.requests.specs.declared.eis.ConnectionRequest.{ConnectionRequest}
@@ -120,18 +121,17 @@ call-asked : (b : Bool) (c d : Call Input) → isNext c ≡ false → isNext d �
 call-asked true c d p q = p
 call-asked false c d p q = q
 
-parsed-asked : (object version : ℕ) (m : List ℕ) (r : Parsed) → askedIn (readAs object version m r) ≡ false
+first-asked : (object version : ℕ) (m : List ℕ) (f : First) → askedIn (readAs object version m f) ≡ false
 unfolding readAs callIn askedIn isNext
-parsed-asked object version m (Parsed.Malformed e) = refl
-parsed-asked object version m (Parsed.Read a) =
-    call-asked (eqb (a .request) 5) _ _ refl (asks-not (requestIn a) object version (take (a .length) (drop (a .start) m)))
+first-asked object version m First.Wait = refl
+first-asked object version m (First.Malformed e) = refl
+first-asked object version m (First.Read a n) =
+    call-asked (eqb (a .request) 5) _ _ refl (asks-not (requestIn a) object version (take (a .length) (drop (a .start) (take n m))))
 
 object-asked : (object : ℕ) (o : Option Object) (m : List ℕ) → askedIn (readingOf object o m) ≡ false
 unfolding readingOf readingOn askedIn
 object-asked object option.none m = refl
-object-asked object (some o) m =
-    cond-asked (ltb (le32 m 8) 16 || ltb 1024 (le32 m 8)) _ _ refl
-    (cond-asked (ltb (length m) (le32 m 8)) _ _ refl (parsed-asked object (o .version) (take (le32 m 8) m) (parsed (o .interface) (take (le32 m 8) m))))
+object-asked object (some o) m = first-asked object (o .version) m (firstOf (o .interface) m)
 
 message-asked : (v : View) (m : List ℕ) → askedIn (reading v m) ≡ false
 unfolding reading askedIn

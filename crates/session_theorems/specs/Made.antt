@@ -138,7 +138,6 @@ pub data Singles : List Made → List Exchange → Type 0 where
   one : {x : Exchange} {xs : List Made} {ys : List Exchange} → Singles xs ys → Singles (Made.one x ∷ xs) (x ∷ ys)
   read : {records : List RequestRecord} {lent : List ℕ} {clock : ℕ} {out later : List ℕ} {answer : ReadAnswer} {e : Store} {xs : List Made} {zs ys : List Exchange}
       → InTurn clock out later (entriesOf records lent) answer zs → Singles xs ys → Singles (Made.read records lent clock out later answer e ∷ xs) (zs ++ ys)
-
   handed : {bytes : List ℕ} {clock : ℕ} {out later : List ℕ} {call : Call Input} {other : call ≡ Call.plain Plain.nextRequest → ⊥} {answer : Answer} {taken : ℕ} {e : Store}
       {xs : List Made} {ys : List Exchange} → Singles xs ys
       → Singles (Made.message bytes clock out later (Received.Handed answer taken) e ∷ xs) (Exchange.called call other clock out later answer e ∷ ys)

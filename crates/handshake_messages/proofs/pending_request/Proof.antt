@@ -16,11 +16,11 @@ returns c =
 slice-aggregate-hand-on : tie.Need-slice-aggregate-hand-on
 slice-aggregate-hand-on c =
     let w = request-within _ _ _ _ (sym (c .before .before .arguments .given .1) ∙ c .before .before .before .before .read .ensures) in
-    simp length-take (omega (arith, w .0))
+    simp length-take (omega (arith, w .room))
 
 hand-on-requires : tie.Need-hand-on-requires
 hand-on-requires c κs =
-    request-within _ _ _ _ (sym (c .before .before .before .arguments .given .1) ∙ c .before .before .before .before .before .read .ensures) .1
+    request-within _ _ _ _ (sym (c .before .before .before .arguments .given .1) ∙ c .before .before .before .before .before .read .ensures) .text
 
 returns-2 : tie.Need-returns-2
 returns-2 c =

@@ -15,10 +15,10 @@ returns-2 c =
     rw (le-ltb _ 16 (c .before .before .before .before .if1 .left), ← c .before .before .before .number64 .ensures, ← c .before .before .find-object .ensures, c .enum-told .given .1)
 
 returns-3 : tie.Need-returns-3
-unfolding readingOf
+unfolding readingOf bodyRead
 returns-3 c =
     let at-find-object = c .before .before .before .before .before in
-    rw (le-ltb _ 16 (at-find-object .before .before .if1 .left), ← at-find-object .before .number64 .ensures, ← at-find-object .find-object .ensures, c .before .before .before .interface .given .1, ← c .before .number32 .ensures) (c .read-body .ensures)
+    rw (le-ltb _ 16 (at-find-object .before .before .if1 .left), ← at-find-object .before .number64 .ensures, ← at-find-object .find-object .ensures, c .before .before .before .interface .given .1, ← c .before .read-first .ensures) (c .check-id .ensures)
 
 pub read-spec : {M : Type 1} → statement M
 read-spec =
@@ -29,7 +29,7 @@ read-spec =
     (λ c κs. search needs)  -- find-object-requires
     (λ c. search needs)  -- enum-told
     (λ c. search needs)  -- enum-known-interface
-    (λ c κs. search needs)  -- number32-requires
-    (λ c κs. search needs)  -- read-body-requires
+    (λ c κs. search needs)  -- read-first-requires
+    (λ c κs. search needs)  -- check-id-requires
     returns-2
     returns-3)

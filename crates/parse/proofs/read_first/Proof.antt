@@ -15,11 +15,11 @@ returns c = rw (← c .before .number32 .ensures, lt-ltb _ 16 (c .if1 .taken))
 
 returns-2 : tie.Need-returns-2
 unfolding firstOf
-returns-2 c = rw (← c .before .before .number32 .ensures, le-ltb _ 16 (c .before .if1 .left), lt-ltb 1024 _ (c .if2 .taken))
+returns-2 c = rw (← c .before .before .number32 .ensures, le-ltb _ 16 (c .before .if1 .left), lt-ltb 1024 (c .before .before .number32 .result) (omega (arith, c .if2 .taken)))
 
 returns-3 : tie.Need-returns-3
 unfolding firstOf
-returns-3 c = rw (← c .before .before .before .number32 .ensures, le-ltb _ 16 (c .before .before .if1 .left), le-ltb 1024 _ (c .before .if2 .left), lt-ltb _ _ (c .if3 .taken))
+returns-3 c = rw (← c .before .before .before .number32 .ensures, le-ltb _ 16 (c .before .before .if1 .left), le-ltb 1024 (c .before .before .before .number32 .result) (omega (arith, c .before .if2 .left)), lt-ltb _ _ (c .if3 .taken))
 
 slice-aggregate-parse : tie.Need-slice-aggregate-parse
 slice-aggregate-parse c = simp length-take (omega arith)
