@@ -1,7 +1,7 @@
 -- An accepted message is its request, handed in as a record. Only a Sync differs: as a message it keeps the callback's id. Assumes nothing.
 use Prim.Native.Nat.{ℕ, _≤_, _<_}
 use mathlib.Core.Path.{_≡_, refl, sym, ap, subst, _∙_}
-use mathlib.Core.Bool.{Bool, true, false, _||_, cond, true≢false}
+use mathlib.Core.Bool.{Bool, true, false, cond, true≢false}
 use mathlib.Core.List.{List, [], _∷_}
 use mathlib.Core.Option.{Option, none, some}
 use borrow.Author.Tests.{leb-true, leb-false}
@@ -9,9 +9,10 @@ use lib.Dec.{eqb, leb, ltb}
 use lib.ListN.{length, take, drop}
 use Rattle.eiproto.specs.Interface.{eiCallback}
 use Rattle.wire.specs.declared.event.Event.{Event}
-use Rattle.parse.specs.Parse.{le32, le64, parsed}
+use Rattle.parse.specs.Parse.{le64}
+use Rattle.parse.specs.First.{firstOf}
 use Rattle.parse.specs.declared.Arguments.{Arguments}
-use Rattle.parse.specs.declared.Parsed.{Parsed}
+use Rattle.parse.specs.declared.First.{First}
 use Rattle.requests.specs.Row.{low}
 use Rattle.requests.specs.declared.eis.ConnectionRequest.{ConnectionRequest}
 use Rattle.requests.specs.declared.eis.Request.{Request}
@@ -85,17 +86,16 @@ cond-stands : (b : Bool) {r t : Reading (Call Input)} → Standing r → Standin
 cond-stands true p q = p
 cond-stands false p q = q
 
-parsed-stands : (object version : ℕ) (m : List ℕ) (r : Parsed) → Standing (readAs object version m r)
+read-stands : (object version : ℕ) (m : List ℕ) (r : First) → Standing (readAs object version m r)
 unfolding readAs
-parsed-stands object version m (Parsed.Malformed e) = Standing.malformed e
-parsed-stands object version m (Parsed.Read a) = Standing.request _ _ (record { arguments = a; object = object; version = version; bytes = m; is = refl })
+read-stands object version m First.Wait = Standing.wait
+read-stands object version m (First.Malformed e) = Standing.malformed e
+read-stands object version m (First.Read a n) = Standing.request _ _ (record { arguments = a; object = object; version = version; bytes = take n m; is = refl })
 
 object-stands : (object : ℕ) (o : Option Object) (m : List ℕ) → Standing (readingOf object o m)
 unfolding readingOf readingOn
 object-stands object none m = Standing.noObject
-object-stands object (some o) m =
-    cond-stands (ltb (le32 m 8) 16 || ltb 1024 (le32 m 8)) (Standing.malformed _)
-    (cond-stands (ltb (length m) (le32 m 8)) Standing.wait (parsed-stands object (o .version) (take (le32 m 8) m) (parsed (o .interface) (take (le32 m 8) m))))
+object-stands object (some o) m = read-stands object (o .version) m (firstOf (o .interface) m)
 
 message-stands : (v : View) (m : List ℕ) → Standing (reading v m)
 unfolding reading
