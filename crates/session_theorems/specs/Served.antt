@@ -6,9 +6,10 @@ use mathlib.Core.List.{List, [], _∷_, _++_, map}
 use lib.ListN.{length}
 use Rattle.handshake.specs.Handshake.{Step, start}
 use Rattle.handshake.specs.View.{isFinished, versionsOf, Meets}
-use Rattle.handshake.specs.Run as handshake
-use Rattle.handshake.specs.Run.{HandshakeExchange, HandshakeCalls, callOf, seenIn}
+use Rattle.handshake.specs.Run.{seenIn}
 use Rattle.handshake.specs.declared.handshake.HandshakeAnswer.{HandshakeAnswer}
+use Rattle.handshake_messages.specs.Run as handshake
+use Rattle.handshake_messages.specs.Run.{TurnSeen, HandshakeTurn, HandshakeTurns, answerOf, givenOf}
 use Rattle.model_reads.specs.Acts.{MatchedActs}
 use Rattle.control.specs.Control.{controlLength}
 use Rattle.session.specs.View.{Store, session, wordsLength, realsLength, textsLength}
@@ -25,9 +26,9 @@ pub record Served : Type 0 where
   pub out : List ℕ
   pub later : List ℕ
   pub started : HandshakeAnswer
-  -- the client's requests, of which the last is the Finish that succeeds
-  pub requests : List HandshakeExchange
-  pub finish : HandshakeExchange
+  -- the client's requests and messages, of which the last is the Finish that succeeds
+  pub turns : List HandshakeTurn
+  pub finish : HandshakeTurn
   -- `converter::request::new`: the control words before it, and the session's slices after it
   pub control : List ℕ
   pub slices : Store
@@ -35,15 +36,18 @@ pub record Served : Type 0 where
   -- the session's calls, whole reads and messages among them
   pub calls : List Made
 
-abbrev pub shaken : Served → List HandshakeExchange
-shaken x = x .requests ++ (x .finish ∷ [])
+abbrev pub shaken : Served → List HandshakeTurn
+shaken x = x .turns ++ (x .finish ∷ [])
+
+abbrev pub finishOf : Served → HandshakeAnswer
+finishOf x = answerOf (x .finish)
 
 -- each call as its contract has it, on slices of the lengths that the module names
 pub record Serves (x : Served) : Type 0 where
   pub starts : Meets (x .out) (x .later) (start (x .serial) (length (x .out))) (x .started)
-  pub shakes : HandshakeCalls (x .started .handshaker) (shaken x)
-  pub finished : isFinished (x .finish .answer .outcome) ≡ true
-  pub begins : Begins (x .control) (x .slices .control) (x .finish .answer .response) (x .begun)
+  pub shakes : HandshakeTurns (x .started .handshaker) (shaken x)
+  pub finished : isFinished (finishOf x .outcome) ≡ true
+  pub begins : Begins (x .control) (x .slices .control) (finishOf x .response) (x .begun)
   pub control-long : length (x .control) ≡ controlLength
   pub words-long : length (x .slices .words) ≡ wordsLength
   pub reals-long : length (x .slices .reals) ≡ realsLength
@@ -55,18 +59,18 @@ pub record Serves (x : Served) : Type 0 where
 abbrev pub From-finish : Type 0
 From-finish =
     (x : Served) → Serves x →
-    let settled = x .finish .answer .response in
+    let settled = finishOf x .response in
     FreshMade (settled .connection) (settled .serial) (settled .connection + 1) (versionsOf (settled .interfaces)) (x .slices) (x .calls)
 
--- "Two handshakes that get equal calls", in buffers of equal lengths
+-- "Two handshakes that get equal calls": equal requests and equal bytes, in buffers of equal lengths
 pub record SameHandshake (x y : Served) : Type 0 where
   pub serial : x .serial ≡ y .serial
   pub room : length (x .out) ≡ length (y .out)
-  pub calls : map callOf (shaken x) ≡ map callOf (shaken y)
+  pub calls : map givenOf (shaken x) ≡ map givenOf (shaken y)
 
--- what is seen of a handshake: states, outcomes and event bytes
-abbrev pub handshakeSeen : Served → List Step
-handshakeSeen x = seenIn (x .started) (x .later) ∷ map handshake.seen (shaken x)
+-- what is seen of a handshake: states, outcomes and event bytes; of messages besides what became of them and how many bytes were taken
+abbrev pub handshakeSeen : Served → Step × List TurnSeen
+handshakeSeen x = (seenIn (x .started) (x .later), map handshake.seenOf (shaken x))
 
 -- "give equal outcomes, event bytes and sessions."
 abbrev pub Equal-sessions : Type 0
