@@ -8,7 +8,7 @@ use lib.Ieee.{nan, fin, inf}
 use lib.IntN.{pos, negsuc}
 use lib.ListN.{length}
 use Rattle.script.specs.declared.line.LineEnd.{LineEnd}
-use Rattle.script.specs.declared.verb.Verb.the-variants.{Now, Out, Start, HandshakeInterfaceVersion, HandshakeFinish, SeatBind, KeyboardKey, ScrollScrollDiscrete, PointerMotionRelative, TextUtf8, AddSeat, AddDevice, Disconnected, HasCapability, Read}
+use Rattle.script.specs.declared.verb.Verb.the-variants.{Now, Out, Start, HandshakeInterfaceVersion, HandshakeFinish, SeatBind, KeyboardKey, ScrollScrollDiscrete, PointerMotionRelative, TextUtf8, AddSeat, AddDevice, Disconnected, HasCapability, Read, Message}
 use Rattle.eiproto.specs.Interface.{ascii}
 use Rattle.script.specs.Words.{words}
 use Rattle.script.specs.Verbs.{table}
@@ -23,7 +23,7 @@ abbrev record-of : String → Reading
 record-of s = reading true (ascii s)
 
 -- three settings and 53 calls
-rows : length table ≡ 56
+rows : length table ≡ 57
 unfolding table
 rows = refl
 
@@ -92,6 +92,11 @@ keyboard = refl
 reads : read "read 65535 t:61" ≡ call Read (number32 65535 ∷ text (0x61 ∷ []) ∷ [])
 unfolding reading ascii
 reads = refl
+
+-- a client's bytes
+message : read "message t:0100" ≡ call Message (text (1 ∷ 0 ∷ []) ∷ [])
+unfolding reading ascii
+message = refl
 
 part : record-of "text.utf8 1 p:0x2:18446744073709551615" ≡ call TextUtf8 (number64 1 ∷ textPart 2 (2 ^ 64 - 1) ∷ [])
 unfolding reading ascii

@@ -83,7 +83,7 @@ lines-drop (e ∷ es) d (suc i) t h =
     ap (λ (m : ℕ). drop m (line e ++ lines es)) n ∙ drop-append-add (line e) (lines es) (i * 37)
     ∙ lines-drop es d i (b .1) (omega arith)
 
-module _ (i : ℕ) (h : i < 56) where
+module _ (i : ℕ) (h : i < 57) where
   row-fits : fits (rowAt i) ≡ true
   unfolding rowAt
   row-fits = at fits table (row "" Now []) tested i h
@@ -134,7 +134,7 @@ letters [] m p h = ap slotOf (getD-replicate {A = ℕ} m p 0x20 0 (omega arith))
 letters (k ∷ ks) m zero h = slot-letter k
 letters (k ∷ ks) m (suc p) h = letters ks m p (omega arith)
 
-module _ (i p : ℕ) (h : i < 56) (k : p < 4) where
+module _ (i p : ℕ) (h : i < 57) (k : p < 4) where
   pub slot-in-row : slotOf (getD (lines table) (i * 37 + 33 + p) 0) ≡ slotAt p (rowAt i .kinds)
   unfolding line padded slotAt
   slot-in-row =
@@ -181,7 +181,7 @@ getD-any [] i d e h = absurd (omega arith)
 getD-any (x ∷ l) zero d e h = refl
 getD-any (x ∷ l) (suc i) d e h = getD-any l i d e (omega arith)
 
-pub verb-of : (d : Verb) (i : ℕ) → i < 56 → getD (map (λ (e : Entry). e .verb) table) i d ≡ rowAt i .verb
+pub verb-of : (d : Verb) (i : ℕ) → i < 57 → getD (map (λ (e : Entry). e .verb) table) i d ≡ rowAt i .verb
 unfolding rowAt
 verb-of d i h =
     getD-any (map (λ (e : Entry). e .verb) table) i d Now h ∙ List·getD-map (λ (e : Entry). e .verb) table i (row "" Now [])
@@ -193,14 +193,14 @@ unfolding lookup
 look-start word = refl
 
 module _ (word : List ℕ) (i : ℕ) where
-  pub look-hit : i < 56 → true ≡ sameBytes (rowAt i .name) word → some i ≡ lookupFrom i (drop i table) word
+  pub look-hit : i < 57 → true ≡ sameBytes (rowAt i .name) word → some i ≡ lookupFrom i (drop i table) word
   unfolding lookupFrom rowAt
   look-hit h e = rw (drop-cons table i (row "" Now []) h, ← e)
 
-  pub look-miss : i < 56 → false ≡ sameBytes (rowAt i .name) word → lookupFrom i (drop i table) word ≡ lookupFrom (i + 1) (drop (i + 1) table) word
+  pub look-miss : i < 57 → false ≡ sameBytes (rowAt i .name) word → lookupFrom i (drop i table) word ≡ lookupFrom (i + 1) (drop (i + 1) table) word
   unfolding lookupFrom rowAt
   look-miss h e = rw (drop-cons table i (row "" Now []) h, ← e, add-one)
 
-  pub look-end : 56 ≤ i → none ≡ lookupFrom i (drop i table) word
+  pub look-end : 57 ≤ i → none ≡ lookupFrom i (drop i table) word
   unfolding lookupFrom table
   look-end h = rw (drop-of-length-le table h)

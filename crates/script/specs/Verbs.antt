@@ -7,7 +7,7 @@ use mathlib.Core.Option.{Option, none, some}
 use lib.Dec.{eqb}
 use lib.ListN.{getD, length, replicate}
 use Rattle.script.specs.declared.verb.Verb.{Verb}
-use Rattle.script.specs.declared.verb.Verb.the-variants.{Now, Out, Buffer, Start, HandshakeHandshakeVersion, HandshakeName, HandshakeContextType, HandshakeInterfaceVersion, HandshakeFinish, ConnectionSync, ConnectionDisconnect, PingpongDone, SeatRelease, SeatBind, SeatRequestDevice, DeviceRelease, DeviceStartEmulating, DeviceStopEmulating, DeviceFrame, DeviceReady, PointerRelease, PointerMotionRelative, PointerAbsoluteRelease, PointerAbsoluteMotionAbsolute, ScrollRelease, ScrollScroll, ScrollScrollDiscrete, ScrollScrollStop, ButtonRelease, ButtonButton, KeyboardRelease, KeyboardKey, TouchscreenRelease, TouchscreenDown, TouchscreenMotion, TouchscreenUp, TouchscreenCancel, TextRelease, TextKeysym, TextUtf8, NextRequest, AddSeat, AddDevice, RemoveSeat, RemoveDevice, Resumed, Paused, StartEmulating, StopEmulating, Frame, Disconnected, LastSerial, HasInterface, InterfaceVersion, HasCapability, Read}
+use Rattle.script.specs.declared.verb.Verb.the-variants.{Now, Out, Buffer, Start, HandshakeHandshakeVersion, HandshakeName, HandshakeContextType, HandshakeInterfaceVersion, HandshakeFinish, ConnectionSync, ConnectionDisconnect, PingpongDone, SeatRelease, SeatBind, SeatRequestDevice, DeviceRelease, DeviceStartEmulating, DeviceStopEmulating, DeviceFrame, DeviceReady, PointerRelease, PointerMotionRelative, PointerAbsoluteRelease, PointerAbsoluteMotionAbsolute, ScrollRelease, ScrollScroll, ScrollScrollDiscrete, ScrollScrollStop, ButtonRelease, ButtonButton, KeyboardRelease, KeyboardKey, TouchscreenRelease, TouchscreenDown, TouchscreenMotion, TouchscreenUp, TouchscreenCancel, TextRelease, TextKeysym, TextUtf8, NextRequest, AddSeat, AddDevice, RemoveSeat, RemoveDevice, Resumed, Paused, StartEmulating, StopEmulating, Frame, Disconnected, LastSerial, HasInterface, InterfaceVersion, HasCapability, Read, Message}
 use Rattle.script.specs.declared.verb.Kind.{Kind}
 use Rattle.script.specs.declared.verb.Kind.the-variants.{U64, U32, I32, F32, Text, OptionalText, State, TypeNumber, Reason, Capability, Count, Part}
 use Rattle.script.specs.declared.verb.Slot.{Slot}
@@ -91,6 +91,7 @@ calls =
     ∷ row "interface_version" InterfaceVersion (Text ∷ [])
     ∷ row "has_capability" HasCapability (U64 ∷ Capability ∷ [])
     ∷ row "read" Read (Count ∷ Text ∷ [])
+    ∷ row "message" Message (Text ∷ [])
     ∷ []
 
 unfoldable pub table : List Entry

@@ -63,6 +63,7 @@ pub enum Verb {
     InterfaceVersion,
     HasCapability,
     Read,
+    Message,
 }
 
 // What a word is read as.
@@ -95,7 +96,7 @@ pub enum Slot {
 }
 
 // A row for each first word, the settings first: 33 bytes for the word, and a letter for each word behind it.
-const ROWS: [u8; 2072] = *b"now                              q   \
+const ROWS: [u8; 2109] = *b"now                              q   \
     out                              q   \
     buffer                           q   \
     start                            u   \
@@ -150,9 +151,10 @@ const ROWS: [u8; 2072] = *b"now                              q   \
     has_interface                    t   \
     interface_version                t   \
     has_capability                   qm  \
-    read                             nt  ";
+    read                             nt  \
+    message                          t   ";
 
-const VERBS: [Verb; 56] = [
+const VERBS: [Verb; 57] = [
     Verb::Now,
     Verb::Out,
     Verb::Buffer,
@@ -209,6 +211,7 @@ const VERBS: [Verb; 56] = [
     Verb::InterfaceVersion,
     Verb::HasCapability,
     Verb::Read,
+    Verb::Message,
 ];
 
 // The row of a first word, counted from 0.
@@ -219,7 +222,7 @@ pub enum Found {
 
 // Whether the row is that of the word.
 fn is_verb(i: usize, word: &[u8]) -> bool
-    requires { ⌜ i < 56 ⌝ }
+    requires { ⌜ i < 57 ⌝ }
     ensures { λ r. ⌜ r ≡ sameBytes (rowAt i .name) (now (word .entry)) ⌝ }
 {
     let rows = ROWS;
@@ -235,7 +238,7 @@ pub fn find(word: &[u8]) -> Found
     ensures { λ r. ⌜ numberFound r ≡ lookup (now (word .entry)) ⌝ }
 {
     let mut i: usize = 0;
-    while i < 56 {
+    while i < 57 {
         if is_verb(i, word) {
             return Found::Row(i);
         }
@@ -245,7 +248,7 @@ pub fn find(word: &[u8]) -> Found
 }
 
 pub fn verb_at(i: usize) -> Verb
-    requires { ⌜ i < 56 ⌝ }
+    requires { ⌜ i < 57 ⌝ }
     ensures { λ r. ⌜ r ≡ rowAt i .verb ⌝ }
 {
     VERBS[i]
@@ -295,7 +298,7 @@ fn slot_in(slot: Slot, within: bool) -> Slot
 
 // What the word at a place behind the first is read as, in a read or outside of one.
 pub fn slot_at(i: usize, place: usize, within: bool) -> Slot
-    requires { ⌜ (i < 56) × (place < 4) ⌝ }
+    requires { ⌜ (i < 57) × (place < 4) ⌝ }
     ensures { λ r. ⌜ r ≡ slotAt place (kindsOf within (rowAt i)) ⌝ }
 {
     slot_in(slot_of(ROWS[i * 37 + 33 + place]), within)

@@ -163,6 +163,7 @@ told Verb.HasInterface w = Asked.Station (Station.Ask Ask.HasInterface)
 told Verb.InterfaceVersion w = Asked.Station (Station.Ask Ask.InterfaceVersion)
 told Verb.HasCapability w = Asked.Station (Station.Ask (Ask.HasCapability (w .a64) (w .capability)))
 told Verb.Read w = Asked.Read (w .a32)
+told Verb.Message w = Asked.Message
 
 -- WHAT A LINE ASKS FOR
 unfoldable pub asked : Verb → Args → Asked

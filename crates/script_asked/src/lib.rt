@@ -93,6 +93,8 @@ pub enum Asked {
     Station(Station),
     // A read of so many records. Its texts are lent beside it.
     Read(u32),
+    // The first message of the bytes that are lent beside it.
+    Message,
 }
 
 // A press state, a device's type, a reason and a capability. A line that has another value is no call.
@@ -470,6 +472,7 @@ fn told(verb: Verb, w: Words) -> Asked
             capability,
         })),
         Verb::Read => Asked::Read(w.a32),
+        Verb::Message => Asked::Message,
     }
 }
 

@@ -127,6 +127,9 @@ refusalPatterns =
     ∷ "refused $ (ids spent)"
     ∷ "refused $ (bad state)"
     ∷ "refused $ (bad part)"
+    ∷ "refused $ (malformed)"
+    ∷ "refused $ (no object)"
+    ∷ "refused $ (invalid id)"
     ∷ []
 
 -- an event record in words, from kind 1 on; 0 is no kind
@@ -165,8 +168,34 @@ linePatterns =
 abbrev readPatterns : List String
 readPatterns = "accepted $" ∷ []
 
+-- a message that was taken, and one that is not yet whole
+abbrev messagePatterns : List String
+messagePatterns =
+    "accepted taken $"
+    ∷ "wait"
+    ∷ []
+
+-- 23, by the cases of ParseError; then each with its name behind it
+abbrev malformedPatterns : List String
+malformedPatterns =
+    "refused $ EndOfMessage"
+    ∷ "refused $ Utf8"
+    ∷ "refused $ InvalidOpcode $ $"
+    ∷ "refused $ InvalidVariant $"
+    ∷ "refused $ HeaderLength $"
+    ∷ "refused $ MessageLength $ $"
+    ∷ "refused $ InvalidNull"
+    ∷ "refused $ EndOfMessage (malformed)"
+    ∷ "refused $ Utf8 (malformed)"
+    ∷ "refused $ InvalidOpcode $ $ (malformed)"
+    ∷ "refused $ InvalidVariant $ (malformed)"
+    ∷ "refused $ HeaderLength $ (malformed)"
+    ∷ "refused $ MessageLength $ $ (malformed)"
+    ∷ "refused $ InvalidNull (malformed)"
+    ∷ []
+
 unfoldable pub patterns : List String
-patterns = requestPatterns ++ (outcomePatterns ++ (refusalPatterns ++ (recordPatterns ++ (linePatterns ++ readPatterns))))
+patterns = requestPatterns ++ (outcomePatterns ++ (refusalPatterns ++ (recordPatterns ++ (linePatterns ++ (readPatterns ++ (messagePatterns ++ malformedPatterns))))))
 
 -- where each group begins
 abbrev pub firstOutcome : ℕ
@@ -176,16 +205,22 @@ abbrev pub firstRefusal : ℕ
 firstRefusal = 30
 
 abbrev pub firstRecord : ℕ
-firstRecord = 53
+firstRecord = 56
 
 abbrev pub firstLine : ℕ
-firstLine = 72
+firstLine = 75
 
 abbrev pub firstRead : ℕ
-firstRead = 75
+firstRead = 78
+
+abbrev pub firstMessage : ℕ
+firstMessage = 79
+
+abbrev pub firstMalformed : ℕ
+firstMalformed = 81
 
 abbrev pub patternCount : ℕ
-patternCount = 76
+patternCount = 95
 
 -- the pattern of a number; past the table, none
 unfoldable pub patternAt : ℕ → List ℕ

@@ -16,19 +16,23 @@ pub struct Shown {
     pub e: u64,
 }
 
-// Where a group of patterns begins: outcomes, refusals by number, records by kind, other lines, reads.
+// Where a group of patterns begins: outcomes, refusals by number, records by kind, other lines, reads, messages, malformed ones.
 pub const OUTCOME: usize = 23;
 
 pub const REFUSAL: usize = 30;
 
-pub const RECORD: usize = 53;
+pub const RECORD: usize = 56;
 
-pub const LINE: usize = 72;
+pub const LINE: usize = 75;
 
-pub const READ: usize = 75;
+pub const READ: usize = 78;
+
+pub const MESSAGE: usize = 79;
+
+pub const MALFORMED: usize = 81;
 
 // A pattern in 66 bytes.
-const ROWS: [u8; 5016] = *b"Disconnect........................................................\
+const ROWS: [u8; 6270] = *b"Disconnect........................................................\
     Bind seat=# capabilities=$........................................\
     DeviceClosed device=#.............................................\
     RequestDevice seat=# capabilities=$...............................\
@@ -81,6 +85,9 @@ const ROWS: [u8; 5016] = *b"Disconnect..........................................
     refused $ (ids spent).............................................\
     refused $ (bad state).............................................\
     refused $ (bad part)..............................................\
+    refused $ (malformed).............................................\
+    refused $ (no object).............................................\
+    refused $ (invalid id)............................................\
     unknown record....................................................\
     seat # version $..................................................\
     name \"*\"..........................................................\
@@ -103,7 +110,23 @@ const ROWS: [u8; 5016] = *b"Disconnect..........................................
     error line $......................................................\
     > *...............................................................\
     \x20   #: ...........................................................\
-    accepted $........................................................";
+    accepted $........................................................\
+    accepted taken $..................................................\
+    wait..............................................................\
+    refused $ EndOfMessage............................................\
+    refused $ Utf8....................................................\
+    refused $ InvalidOpcode $ $.......................................\
+    refused $ InvalidVariant $........................................\
+    refused $ HeaderLength $..........................................\
+    refused $ MessageLength $ $.......................................\
+    refused $ InvalidNull.............................................\
+    refused $ EndOfMessage (malformed)................................\
+    refused $ Utf8 (malformed)........................................\
+    refused $ InvalidOpcode $ $ (malformed)...........................\
+    refused $ InvalidVariant $ (malformed)............................\
+    refused $ HeaderLength $ (malformed)..............................\
+    refused $ MessageLength $ $ (malformed)...........................\
+    refused $ InvalidNull (malformed).................................";
 
 // A pattern with one value or none.
 pub fn single(pattern: usize, a: u64) -> Shown
@@ -135,7 +158,7 @@ fn value(s: Shown, place: usize) -> u64
 
 // The byte at a place of a pattern's row.
 fn byte_of(pattern: usize, place: usize) -> u8
-    requires { ⌜ (pattern < 76) × (place < 66) ⌝ }
+    requires { ⌜ (pattern < 95) × (place < 66) ⌝ }
     ensures { λ r. ⌜ r ≡ getD (padded (patternAt pattern)) place 0 ⌝ }
 {
     ROWS[pattern * 66 + place]
@@ -146,7 +169,7 @@ pub fn show(line: &mut [u8], at: usize, s: Shown, text: &[u8]) -> usize
     ensures { λ r. ⌜ Puts line at r (bytesOf s (now (text .entry))) ⌝ }
 {
     let pattern = s.pattern;
-    if 76 <= pattern {
+    if 95 <= pattern {
         return at;
     }
     let mut next = at;
