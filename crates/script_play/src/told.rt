@@ -16,6 +16,8 @@ fn is_quiet(told: Told) -> bool {
             accepted: _,
             answer: _,
         } => false,
+        Told::Received(_) => false,
+        Told::ShakenBy(_) => false,
     }
 }
 

@@ -39,6 +39,7 @@ recordOf (Asked.Client object version request) p = Record.Request object version
 recordOf Asked.NextRequest p = Record.Nothing Why.NoRecord
 recordOf (Asked.Station call) p = Record.Nothing Why.NoRecord
 recordOf (Asked.Read count) p = Record.Nothing Why.NoRecord
+recordOf Asked.Message p = Record.Nothing Why.NoRecord
 
 abbrev pub lineRecord : Line → Record
 lineRecord Line.Blank = Record.Blank

@@ -15,6 +15,12 @@ use Rattle.answers.specs.Meets.{Answered}
 use Rattle.handlers.specs.Call.{callOf}
 use Rattle.converter.specs.declared.request.NextRequest.{NextRequest}
 use Rattle.converter.specs.Next.{Delivered}
+use Rattle.messages.specs.declared.Received.{Received}
+use Rattle.messages.specs.Received.{ReceivedFrom}
+use Rattle.handshake_messages.specs.Reading as shaking
+use Rattle.handshake_messages.specs.declared.Told as handed
+use Rattle.handshake_messages.specs.declared.HandshakeReceived.{HandshakeReceived}
+use Rattle.script_message.specs.Lent.{unhanded}
 use Rattle.script.specs.declared.line.Line.{Line}
 use Rattle.script.specs.Told.{Parsed}
 use Rattle.script_asked.specs.declared.Station.{Station}
@@ -76,6 +82,20 @@ begun n r = record { run = r; told = Told.Begun n }
 abbrev pub shaken : HandshakeAnswer → Run → Took
 shaken a r = record { run = afterShaking a r; told = Told.Shaken }
 
+abbrev pub received : Received → Run → Took
+received x r = record { run = r; told = Told.Received x }
+
+-- what is told of bytes on the handshake: its answer, or why they were not handed on
+abbrev pub toldBy : handed.Told → (taken : ℕ) → Told
+toldBy handed.Told.Wait n = Told.Received (unhanded handed.Told.Wait)
+toldBy handed.Told.NoObject n = Told.Received (unhanded handed.Told.NoObject)
+toldBy (handed.Told.Malformed e) n = Told.Received (unhanded (handed.Told.Malformed e))
+toldBy handed.Told.InvalidId n = Told.Received (unhanded handed.Told.InvalidId)
+toldBy handed.Told.Handed n = Told.ShakenBy n
+
+abbrev pub shakenBy : HandshakeReceived → Run → Took
+shakenBy x r = record { run = afterShaking (x .answer) r; told = toldBy (x .told) (x .taken) }
+
 -- ---- the calls. s are the session's slices before the line, e those after it, out and later the buffer
 
 -- nothing is changed, and this is told
@@ -100,6 +120,19 @@ pub record Handles (run : Run) (object version : ℕ) (request : Request) (text 
   pub answer : Answer
   pub meets : InRoom (run .out) out later (λ lent after. Answered Lending.all s e lent after (callOf request object version text) (run .clock) answer)
   pub told : r ≡ answered answer run
+
+-- a client's bytes on the session
+pub record Receives (run : Run) (bytes : List ℕ) (s e : Store) (out later : List ℕ) (r : Took) : Type 0 where
+  pub came : Received
+  pub meets : InRoom (run .out) out later (λ lent after. ReceivedFrom s e lent after bytes (run .clock) came)
+  pub told : r ≡ received came run
+
+-- before it, on the handshake: a Finish that succeeds begins the session, as in `Shakes`
+pub record ShakesBy (run : Run) (bytes : List ℕ) (c d : List ℕ) (out later : List ℕ) (r : Took) : Type 0 where
+  pub came : HandshakeReceived
+  pub meets : InRoom (run .out) out later (λ lent after. shaking.Received (run .shaken .handshaker) bytes lent after came)
+  pub opens : Opens c d (came .answer)
+  pub told : r ≡ shakenBy came run
 
 -- next_request
 pub record Delivers (run : Run) (s e : Store) (out later : List ℕ) (r : Took) : Type 0 where
@@ -134,6 +167,13 @@ pub record ReadDoes (run : Run) (count : ℕ) (s e : Store) (out later : List �
   pub session : run .finished ≡ true → Still s e out later (begun count run) r
   pub early : run .finished ≡ false → Still s e out later (noCall Why.Early run) r
 
+-- a client's bytes: on the session, before it on the handshake, and before `start` no call
+pub record MessageDoes (run : Run) (bytes : List ℕ) (s e : Store) (out later : List ℕ) (r : Took) : Type 0 where
+  pub session : run .finished ≡ true → Receives run bytes s e out later r
+  pub handshake : run .finished ≡ false → run .started ≡ true
+      → ShakesBy run bytes (s .control) (e .control) out later r × (e ≡ store (e .control) (s .words) (s .reals) (s .texts))
+  pub early : run .finished ≡ false → run .started ≡ false → Still s e out later (noCall Why.Early run) r
+
 -- WHAT A LINE DOES, by what it asks for
 abbrev pub Does : Run → Asked → (is-given : Bool) (text : List ℕ) (s e : Store) (out later : List ℕ) → Took → Type 0
 Does run (Asked.Now n) g text s e out later r = Still s e out later (quiet (atClock n run)) r
@@ -144,6 +184,7 @@ Does run (Asked.Client object version request) g text s e out later r = ClientDo
 Does run Asked.NextRequest g text s e out later r = NextDoes run s e out later r
 Does run (Asked.Station call) g text s e out later r = StationDoes run call g text s e out later r
 Does run (Asked.Read count) g text s e out later r = ReadDoes run count s e out later r
+Does run Asked.Message g text s e out later r = MessageDoes run text s e out later r
 
 -- by what it is: a comment does nothing, and one that is no call ends the trail
 abbrev pub LineDoes : Run → (line : List ℕ) → Line → (s e : Store) (out later : List ℕ) → Took → Type 0

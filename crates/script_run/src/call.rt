@@ -3,6 +3,8 @@ use answers::Answer;
 use converter::request::NextRequest;
 use handshake::handshake::EisHandshaker;
 use handshake::handshake::HandshakeAnswer;
+use handshake_messages::HandshakeReceived;
+use messages::Received;
 use requests::eis::Request;
 use script::Args;
 use script::Line;
@@ -16,8 +18,8 @@ ghost use Prim.Native.Nat.{ℕ};
 ghost use lib.ListN.{length};
 ghost use Rattle.session.specs.Slices.{before, after, rowsBefore, rowsAfter};
 ghost use Rattle.script_run.specs.Line.{hasText, isGiven, textFirst, lentText, lineText};
-ghost use Rattle.script_run.specs.Take.{quiet, noCall, answered, given, begun, shaken, counted, atClock, withOut, withBuffer, first};
-ghost use Rattle.script_run.specs.Take.{Starts, Shakes, Handles, Delivers, Makes, Does, Takes};
+ghost use Rattle.script_run.specs.Take.{quiet, noCall, answered, given, begun, shaken, received, toldBy, shakenBy, counted, atClock, withOut, withBuffer, first};
+ghost use Rattle.script_run.specs.Take.{Starts, Shakes, ShakesBy, Receives, Handles, Delivers, Makes, Does, Takes};
 
 // What the lines so far have come to.
 pub struct Run {
@@ -66,6 +68,10 @@ pub enum Told {
     Gathered,
     // What a read is answered: how many of its records were accepted, and how it ended.
     Handed { accepted: u64, answer: Answer },
+    // What a client's bytes came to, on the session; before it, where they were not handed on.
+    Received(Received),
+    // The handshake's answer to a message, which the run has, and how many bytes of it were taken.
+    ShakenBy(usize),
 }
 
 pub struct Took {
@@ -159,6 +165,38 @@ fn shaken(run: Run, a: HandshakeAnswer) -> Took
     }
 }
 
+fn received(run: Run, r: Received) -> Took
+    ensures { λ t. ⌜ t ≡ received r run ⌝ }
+{
+    Took {
+        run,
+        told: Told::Received(r),
+    }
+}
+
+fn told_by(told: handshake_messages::Told, taken: usize) -> Told
+    ensures { λ r. ⌜ r ≡ toldBy told taken ⌝ }
+{
+    if let handshake_messages::Told::Handed = told {
+        return Told::ShakenBy(taken);
+    }
+    Told::Received(script_message::unhanded(told))
+}
+
+// The run after a message on the handshake, whose answer is that of one that changes nothing where the bytes were not handed on.
+fn shaken_by(run: Run, r: HandshakeReceived) -> Took
+    ensures { λ t. ⌜ t ≡ shakenBy r run ⌝ }
+{
+    let told = r.told;
+    let answer = r.answer;
+    let took = shaken(run, answer);
+    let after = took.run;
+    Took {
+        run: after,
+        told: told_by(told, r.taken),
+    }
+}
+
 // One more line.
 pub fn counted(run: Run) -> Run
     ensures { λ r. ⌜ r ≡ counted run ⌝ }
@@ -209,6 +247,43 @@ fn shake(run: Run, control: &mut [u64], request: Request, text: &[u8], out: &mut
     let a = script_handshake::take(h, message, text, run.out, out);
     script_handshake::open(control, a);
     shaken(run, a)
+}
+
+// A client's bytes before the session.
+fn shake_by(run: Run, control: &mut [u64], message: &[u8], out: &mut [u8]) -> Took
+    ensures { λ r. ⌜ ShakesBy run (now (message .entry)) (now (control .entry)) (now (control .exit)) (now (out .entry)) (now (out .exit)) r ⌝ }
+{
+    let last = run.shaken;
+    let h = last.handshaker;
+    let r = script_message::shake(h, message, run.out, out);
+    let a = r.answer;
+    script_handshake::open(control, a);
+    shaken_by(run, r)
+}
+
+// A client's bytes on the session.
+fn receive(
+    run: Run,
+    control: &mut [u64],
+    words: &mut [u64],
+    reals: &mut [f32],
+    texts: &mut [u8],
+    message: &[u8],
+    out: &mut [u8],
+) -> Took
+    ensures { λ r. ⌜ Receives run (now (message .entry)) (before control words reals texts) (after control words reals texts) (now (out .entry)) (now (out .exit)) r ⌝ }
+{
+    let r = script_message::receive(
+        control,
+        words,
+        reals,
+        texts,
+        message,
+        run.clock,
+        run.out,
+        out,
+    );
+    received(run, r)
 }
 
 // A client's request on the session.
@@ -330,6 +405,15 @@ fn carry_out(
         Asked::Read(count) => {
             if run.finished {
                 return begun(run, count);
+            }
+            no_call(run, Why::Early)
+        }
+        Asked::Message => {
+            if run.finished {
+                return receive(run, control, words, reals, texts, text, out);
+            }
+            if run.started {
+                return shake_by(run, control, text, out);
             }
             no_call(run, Why::Early)
         }

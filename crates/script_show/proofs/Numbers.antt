@@ -67,9 +67,9 @@ amount-above (negsuc k) f h =
     let w : _≡_ {A = ℕ} 0 1 = cc in
     absurd (omega arith)
 
--- ---- the numbers of refusals are at most 22
+-- ---- the numbers of refusals are at most 25
 
-pub error-most : (e : Error) → numberOf e ≤ 22
+pub error-most : (e : Error) → numberOf e ≤ 25
 unfolding numberOf
 error-most Error.UnexpectedHandshakeEvent = lit≤ tt
 error-most (Error.InvalidInterfaceVersion i v) = lit≤ tt
@@ -92,7 +92,7 @@ error-most Error.BadState = lit≤ tt
 error-most Error.BadPart = lit≤ tt
 error-most Error.InvalidId = lit≤ tt
 
-pub handshake-most : (e : HandshakeError) → number e ≤ 22
+pub handshake-most : (e : HandshakeError) → number e ≤ 25
 handshake-most HandshakeError.NonHandshakeEvent = lit≤ tt
 handshake-most HandshakeError.DuplicateEvent = lit≤ tt
 handshake-most HandshakeError.MissingInterface = lit≤ tt
@@ -103,7 +103,7 @@ handshake-most HandshakeError.IdsSpent = lit≤ tt
 handshake-most HandshakeError.BadState = lit≤ tt
 
 -- a refusal other than 2 is known by its number; the tags are those of the arm that has it
-pub plain-error : (e : Error) → OneOf (0 ∷ run 2 17) (tagOf the-type e) → Result.refused (numberOf e) ≡ errorOf e
+pub plain-error : (e : Error) → OneOf (0 ∷ run 2 18) (tagOf the-type e) → Result.refused (numberOf e) ≡ errorOf e
 unfolding numberOf
 plain-error Error.UnexpectedHandshakeEvent o = refl
 plain-error Error.InvalidCapabilities o = refl
@@ -125,7 +125,7 @@ plain-error Error.BadState o = refl
 plain-error Error.BadPart o = refl
 plain-error Error.InvalidId o = refl
 plain-error (Error.InvalidInterfaceVersion i v) (inl e) = absurd (omega (arith, e))
-plain-error (Error.InvalidInterfaceVersion i v) (inr o) = absurd (omega (arith, among 2 17 1 o .0))
+plain-error (Error.InvalidInterfaceVersion i v) (inr o) = absurd (omega (arith, among 2 18 1 o .0))
 
 -- an outcome other than a refusal ends a read without one; the tags are those of the arm that has none
 pub no-refusal : (x : Bool) (o : Outcome) → OneOf (0 ∷ run 2 5) (tagOf outcomes.the-type o) → [] ≡ readRefusal x o

@@ -23,8 +23,8 @@ ghost use Rattle.script_show.specs.Answer.{result, handshakeOutcome, beh
 ghost use Rattle.script_show.specs.Answer.{answerLine, handshakeLine, nextShown, nextLength, nextLine, errorLine, callLine};
 
 // A refusal by its number, or with its name too.
-fn refusal(number: u32, explained: bool) -> Shown
-    requires { ⌜ number ≤ 22 ⌝ }
+pub fn refusal(number: u32, explained: bool) -> Shown
+    requires { ⌜ number ≤ 25 ⌝ }
     ensures { λ r. ⌜ r ≡ result explained (Result.refused number) ⌝ }
 {
     if explained {
@@ -56,7 +56,7 @@ fn refused(e: Error, explained: bool) -> Shown
     refusal(e.number(), explained)
 }
 
-fn outcome(o: Outcome, explained: bool) -> Shown
+pub fn outcome(o: Outcome, explained: bool) -> Shown
     ensures { λ r. ⌜ r ≡ result explained (outcomeOf o) ⌝ }
 {
     match o {
@@ -70,7 +70,7 @@ fn outcome(o: Outcome, explained: bool) -> Shown
     }
 }
 
-fn handshake_outcome(o: HandshakeOutcome, explained: bool) -> Shown
+pub fn handshake_outcome(o: HandshakeOutcome, explained: bool) -> Shown
     ensures { λ r. ⌜ r ≡ handshakeOutcome explained o ⌝ }
 {
     match o {
@@ -111,7 +111,7 @@ fn beginning(line: &mut [u8], at: usize, count: usize, out: &[u8], explained: bo
 }
 
 // The outcome of a call, and what stands behind it.
-fn whole(line: &mut [u8], s: Shown, count: usize, out: &[u8], explained: bool) -> usize
+pub fn whole(line: &mut [u8], s: Shown, count: usize, out: &[u8], explained: bool) -> usize
     ensures { λ r. ⌜ Puts line 0 r (lineOf s (take count (now (out .entry))) explained) ⌝ }
 {
     let shown = table::show(line, 0, s, b"");

@@ -26,5 +26,13 @@ pub fn written(took: Took, out: &[u8], explained: bool, shown: &mut [u8]) -> usi
             out,
             explained,
         ),
+        Told::Received(r) => script_message::message_answer(shown, r, out, explained),
+        Told::ShakenBy(taken) => script_message::handshake_message_answer(
+            shown,
+            shaken,
+            taken,
+            out,
+            explained,
+        ),
     }
 }
