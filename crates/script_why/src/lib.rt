@@ -96,7 +96,7 @@ fn word(line: &[u8], at: usize, kind: Kind) -> Next {
 }
 
 fn word_at(line: &[u8], at: usize, i: usize, place: usize, within: bool) -> Next {
-    if 56 <= i {
+    if 57 <= i {
         return Next::Said;
     }
     if 4 <= place {
