@@ -5,7 +5,7 @@ usage: compare_reference.py REFERENCE FIRST LAST [CALLS [REPLAY]]     run at the
 
 REFERENCE is the reference's folder (check.py, against.py and what they need in it; Python alone is needed). Two things are compared, with the requests that
 have landed: its cases, whose lines are by hand, those that other requests are required for left out; and for each seed from FIRST to LAST one random script
-of about CALLS calls (400) of each of two kinds, which have seat and interface releases in them, and whole reads. REPLAY is the program (target/bin/replay),
+of about CALLS calls (400) of each of three kinds, which have seat and interface releases in them, whole reads, and messages. REPLAY is the program (target/bin/replay),
 which gets each script on standard input. What differs is printed with its call, and the last line has the counts.
 """
 import os
@@ -13,8 +13,8 @@ import subprocess
 import sys
 
 # The change requests that have landed, and the kinds of random scripts that try what they have changed.
-LANDED = "1,3"
-PROFILES = ["release", "read"]
+LANDED = "1-3"
+PROFILES = ["release", "read", "messages"]
 
 
 def main():

@@ -5,6 +5,8 @@ it too. So no session with one is compared with the crate. Of a random script th
 script, and all the rest of it is compared, where whole sessions would be lost otherwise. Those of the oracle's cases that have one (`within`) give way to
 the scripts of tests/released: up to the first release of a session their trail is the oracle's, from there on every line is by hand (`expected`). A
 release during the handshake is refused there, like any other request, and stays. So does a device's release, which only tells the station.
+
+A client's bytes (`message`) are a call that the crate's program has not: from the first of a session or of a handshake on every line is by hand too.
 """
 import glob
 import os
@@ -24,13 +26,13 @@ def is_release(line):
 
 
 def marked(lines):
-    """Each line, and whether its session has a release in it or above it. Behind a Finish a session is taken to run, though that Finish may be refused."""
+    """Each line, and whether its session has a release or a message in it or above it. Behind a Finish a session is taken to run, though that Finish may be refused."""
     running = released = False
     for line in lines:
         if line.startswith("start "):
             running = released = False
         running = running or line == "handshake.finish"
-        released = released or running and is_release(line)
+        released = released or line.startswith("message ") or running and is_release(line)
         yield line, released
 
 

@@ -1,15 +1,15 @@
 #!/usr/bin/env python3
 """Writes the scripts that the gate runs and the trails that are expected of them. The trails are the oracle's, which is the crate's own Rust; from the first
-seat or interface release of a session on, or its first read, they are by hand.
+seat or interface release of a session on, or its first read or message, they are by hand.
 
 usage: write_trials.py [--check] ORACLE [FOLDER]     run at the repository's root
 
 ORACLE is the oracle's folder (cases/ in it; `./build.sh` there builds target/release/oracle, for which Rust is needed, and no network; or the program is that
-of FOLDER). crates/trials gets the trial lines, the five false friends, the oracle's other cases and the scripts of tests/released and of tests/reads, one
-session behind the other; crates/replay gets examples/token.script. Of that script and of rust/tests/every.script, the Rust crate's tests get the trails. The
-oracle's cases with a release are left out, and each has to have its like in tests/released. The lines `#= LINE`, by hand from the scope, stay in the script
-behind their calls. Before a release or a read the oracle's trail is held to them here, and behind one every call has to have its own (releases.py). With
---check nothing is written: the files have to be what would be written.
+of FOLDER). crates/trials gets the trial lines, the five false friends, the oracle's other cases and the scripts of tests/released, of tests/reads and of
+tests/messages, one session behind the other; crates/replay gets examples/token.script. Of that script and of rust/tests/every.script, the Rust crate's tests
+get the trails. The oracle's cases with a release are left out, and each has to have its like in tests/released. The lines `#= LINE`, by hand from the scope,
+stay in the script behind their calls. Before a release, a read or a message the oracle's trail is held to them here, and behind one every call has to have
+its own (releases.py). With --check nothing is written: the files have to be what would be written.
 """
 import glob
 import os
@@ -52,8 +52,13 @@ def without_reads(lines):
     return kept
 
 
+def without_messages(script):
+    """The script with a release of no seat in the place of each message, which the crate's program has not either: it is a call in a handshake too."""
+    return "".join(("seat.release 0" if line.startswith("message ") else line) + "\n" for line in script.splitlines())
+
+
 def run(oracle, script):
-    done = subprocess.run([oracle], input=script.encode(), capture_output=True)
+    done = subprocess.run([oracle], input=without_messages(script).encode(), capture_output=True)
     if done.returncode:
         sys.exit(f"the oracle ended with {done.returncode}: {done.stderr.decode()}")
     return done.stdout.decode().splitlines()
@@ -69,7 +74,7 @@ def main():
     folders = sys.argv[1 + check:]
     if len(folders) not in (1, 2):
         sys.exit(__doc__)
-    cases, own, reads = read(f"{folders[0]}/cases"), read(f"{HERE}/released"), read(f"{HERE}/reads")
+    cases, own, reads, messages = read(f"{folders[0]}/cases"), read(f"{HERE}/released"), read(f"{HERE}/reads"), read(f"{HERE}/messages")
     oracle = f"{folders[-1]}/target/release/oracle"
     scripts = {number: open(path).read().splitlines() for number, path in cases.items()}
     for number in [number for number, script in scripts.items() if releases.within(script)]:
@@ -78,10 +83,10 @@ def main():
         del scripts[number]
     scripts[24] = held_ids(cases)
     parts = [(part, [(number, scripts[number]) for number in sorted(filter(chosen, scripts))]) for part, chosen in PARTS]
-    for part, paths in (("Releases", own), ("Reads", reads)):
+    for part, paths in (("Releases", own), ("Reads", reads), ("Messages", messages)):
         parts.append((part, [(number, open(paths[number]).read().splitlines()) for number in sorted(paths)]))
     lines = ["# Written by tests/write_trials.py. A line that begins with #= is what the call above it answers, by hand from the scope; stdout is what the crate's own "
-             "Rust answers and, from the first seat or interface release of a session on, or its first read, what these lines say."]
+             "Rust answers and, from the first seat or interface release of a session on, or its first read or message, what these lines say."]
     one_by_one = []
     for part, chosen in parts:
         lines += ["", f"# ---- {part}"]
@@ -105,7 +110,7 @@ def main():
         if not check:
             with open(path, "w") as f:
                 f.write(content)
-    print(f"{len(scripts) + len(own) + len(reads)} scripts, {len(trail)} calls, {hand} lines by hand")
+    print(f"{len(scripts) + len(own) + len(reads) + len(messages)} scripts, {len(trail)} calls, {hand} lines by hand")
 
 
 main()
