@@ -45,7 +45,7 @@ behind-length : (l : List ℕ) → length (behindOutcome l false) ≤ 3 + 3 * le
 unfolding behindOutcome
 behind-length l = omega (arith, trail-length l, length-append (trail l) (0x0a ∷ []))
 
-line-length : (s : Shown) (l : List ℕ) → length (lineOf s l false) ≤ 163 + 3 * length l
+pub line-length : (s : Shown) (l : List ℕ) → length (lineOf s l false) ≤ 163 + 3 * length l
 unfolding lineOf
 line-length s l =
     omega (

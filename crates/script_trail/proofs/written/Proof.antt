@@ -55,6 +55,18 @@ returns-8 c =
     let a = at-told .before .before .before .before .before .before .args in
     put-is (c .before .before .read-answer .ensures) (ap (λ (t : Told). lineOf (a .took .run) t (a .out .now) (a .explained)) (sym (at-told .told3 .given .1)))
 
+returns-9 : tie.Need-returns-9
+returns-9 c =
+    let at-told = c .before .before .before .before .before in
+    let a = at-told .before .before .before .before .before .before .args in
+    put-is (c .before .before .message-answer .ensures) (ap (λ (t : Told). lineOf (a .took .run) t (a .out .now) (a .explained)) (sym (at-told .told4 .given .1)))
+
+returns-10 : tie.Need-returns-10
+returns-10 c =
+    let at-told = c .before .before .before .before .before in
+    let a = at-told .before .before .before .before .before .before .args in
+    put-is (c .before .before .handshake-message-answer .ensures) (ap (λ (t : Told). lineOf (a .took .run) t (a .out .now) (a .explained)) (sym (at-told .told5 .given .1)))
+
 pub written-spec : {M : Type 1} → statement M
 written-spec =
     tie.close
@@ -72,6 +84,10 @@ written-spec =
     (λ c. search needs)  -- enum-told-5
     (λ c. search needs)  -- enum-known-told-3
     (λ c κs. search needs)  -- read-answer-requires
+    (λ c. search needs)  -- enum-known-told-4
+    (λ c κs. search needs)  -- message-answer-requires
+    (λ c. search needs)  -- enum-known-told-5
+    (λ c κs. search needs)  -- handshake-message-answer-requires
     returns
     (λ c. search needs)  -- same-length
     returns-2
@@ -84,4 +100,8 @@ written-spec =
     returns-6
     returns-7
     (λ c. search needs)  -- same-length-5
-    returns-8)
+    returns-8
+    (λ c. search needs)  -- same-length-6
+    returns-9
+    (λ c. search needs)  -- same-length-7
+    returns-10)

@@ -38,19 +38,35 @@ returns-5 c =
     rw (c .before .before .before .asked7 .given .1) (record { session = λ h. (c .begun .ensures, (refl, refl)); early = λ h. never h (c .before .if5 .taken) })
 
 returns-6 : tie.Need-returns-6
-returns-6 c = rw (c .before .before .asked .given .1) (c .at-clock .ensures, (refl, refl))
+returns-6 c =
+    let at-if = c .before .before .before .before .before .before .before .before .before .before .before .before .before .before .before .before in
+    rw (at-if .before .enum-told2 .given .1)
+    (record { session = λ h. c .before .before .before .before .before .before .before .before .before .before .receive .ensures; handshake = λ h k. never h (at-if .if6 .taken); early = λ h k. never h (at-if .if6 .taken) })
 
 returns-7 : tie.Need-returns-7
-returns-7 c = rw (c .before .before .asked2 .given .1) (c .with-out .ensures, (refl, refl))
+returns-7 c =
+    let at-if = c .before .before .before .before .before .before .before in
+    rw (at-if .before .before .enum-told2 .given .1)
+    (record {
+      session = λ h. never (at-if .before .if6 .left) h;
+      handshake = λ h k. (c .before .before .before .before .shake-by .ensures, refl);
+      early = λ h k. never k (at-if .if7 .taken);
+    })
 
 returns-8 : tie.Need-returns-8
-returns-8 c = rw (c .before .before .asked3 .given .1) (c .with-buffer .ensures, (refl, refl))
+returns-8 c = rw (c .before .before .asked .given .1) (c .at-clock .ensures, (refl, refl))
 
 returns-9 : tie.Need-returns-9
-returns-9 c = rw (c .before .before .before .before .before .asked4 .given .1) (c .before .before .start .ensures, refl)
+returns-9 c = rw (c .before .before .asked2 .given .1) (c .with-out .ensures, (refl, refl))
 
 returns-10 : tie.Need-returns-10
-returns-10 c =
+returns-10 c = rw (c .before .before .asked3 .given .1) (c .with-buffer .ensures, (refl, refl))
+
+returns-11 : tie.Need-returns-11
+returns-11 c = rw (c .before .before .before .before .before .asked4 .given .1) (c .before .before .start .ensures, refl)
+
+returns-12 : tie.Need-returns-12
+returns-12 c =
     rw (c .before .before .before .before .asked5 .given .1)
     (record {
       session = λ h. never (c .before .before .if1 .left) h;
@@ -58,17 +74,26 @@ returns-10 c =
       early = λ h k. (c .no-call .ensures, (refl, refl));
     })
 
-returns-11 : tie.Need-returns-11
-returns-11 c =
-    rw (c .before .before .enum-told .given .1) (record { session = λ h. never (c .before .if3 .left) h; early = λ h. (c .no-call2 .ensures, (refl, refl)) })
-
-returns-12 : tie.Need-returns-12
-returns-12 c =
-    rw (c .before .before .before .asked6 .given .1) (record { session = λ h. never (c .before .if4 .left) h; early = λ h. (c .no-call3 .ensures, (refl, refl)) })
-
 returns-13 : tie.Need-returns-13
 returns-13 c =
+    rw (c .before .before .enum-told .given .1) (record { session = λ h. never (c .before .if3 .left) h; early = λ h. (c .no-call2 .ensures, (refl, refl)) })
+
+returns-14 : tie.Need-returns-14
+returns-14 c =
+    rw (c .before .before .before .asked6 .given .1) (record { session = λ h. never (c .before .if4 .left) h; early = λ h. (c .no-call3 .ensures, (refl, refl)) })
+
+returns-15 : tie.Need-returns-15
+returns-15 c =
     rw (c .before .before .before .asked7 .given .1) (record { session = λ h. never (c .before .if5 .left) h; early = λ h. (c .no-call4 .ensures, (refl, refl)) })
+
+returns-16 : tie.Need-returns-16
+returns-16 c =
+    rw (c .before .before .before .enum-told2 .given .1)
+    (record {
+      session = λ h. never (c .before .before .if6 .left) h;
+      handshake = λ h k. never (c .before .if7 .left) k;
+      early = λ h k. (c .no-call5 .ensures, (refl, refl));
+    })
 
 pub carry-out-spec : {M : Type 1} → statement M
 carry-out-spec =
@@ -116,12 +141,26 @@ carry-out-spec =
     (λ c κs. search needs)  -- begun-requires
     returns-5
     (λ c κs. search needs)  -- no-call-requires-4
-    returns-6
-    returns-7
-    returns-8
+    (λ c. search needs)  -- enum-told-2
+    (λ c κs. search needs)  -- receive-requires
     (λ c. search needs)  -- same-length-17
+    (λ c. search needs)  -- same-length-18
+    (λ c. search needs)  -- same-length-19
+    (λ c. search needs)  -- same-length-20
+    (λ c. search needs)  -- same-length-21
+    returns-6
+    (λ c κs. search needs)  -- shake-by-requires
+    (λ c. search needs)  -- same-length-22
+    (λ c. search needs)  -- same-length-23
+    returns-7
+    (λ c κs. search needs)  -- no-call-requires-5
+    returns-8
     returns-9
     returns-10
+    (λ c. search needs)  -- same-length-24
     returns-11
     returns-12
-    returns-13)
+    returns-13
+    returns-14
+    returns-15
+    returns-16)

@@ -17,7 +17,7 @@ use Rattle.script_run.proofs.record.requested.Statement.{statement}
 use Rattle.script_run.proofs.record.requested.Tie as tie
 
 -- the tags are those of the arm that has no client's request
-no-client : (a : Asked) (p : Part) → OneOf (0 ∷ 1 ∷ 2 ∷ 3 ∷ run 5 3) (tagOf the-type a) → Record.Nothing Why.NoRecord ≡ recordOf a p
+no-client : (a : Asked) (p : Part) → OneOf (0 ∷ 1 ∷ 2 ∷ 3 ∷ run 5 4) (tagOf the-type a) → Record.Nothing Why.NoRecord ≡ recordOf a p
 no-client (Asked.Now n) p o = refl
 no-client (Asked.Out n) p o = refl
 no-client (Asked.Buffer n) p o = refl
@@ -25,11 +25,12 @@ no-client (Asked.Start n) p o = refl
 no-client Asked.NextRequest p o = refl
 no-client (Asked.Station call) p o = refl
 no-client (Asked.Read n) p o = refl
+no-client Asked.Message p o = refl
 no-client (Asked.Client object version request) p (inl e) = absurd (omega (arith, e))
 no-client (Asked.Client object version request) p (inr (inl e)) = absurd (omega (arith, e))
 no-client (Asked.Client object version request) p (inr (inr (inl e))) = absurd (omega (arith, e))
 no-client (Asked.Client object version request) p (inr (inr (inr (inl e)))) = absurd (omega (arith, e))
-no-client (Asked.Client object version request) p (inr (inr (inr (inr o)))) = absurd (omega (arith, among 5 3 4 o .0))
+no-client (Asked.Client object version request) p (inr (inr (inr (inr o)))) = absurd (omega (arith, among 5 4 4 o .0))
 
 returns : tie.Need-returns
 returns c = sym (ap (λ (a : Asked). recordOf a (c .before .before .before .args .part)) (c .before .asked .given .1))
