@@ -1,6 +1,6 @@
--- The outcomes of an arm that has several. Assumes nothing.
+-- The outcomes of an arm that has several, and an answer by its parts. Assumes nothing.
 use Prim.Native.Nat.{ℕ}
-use mathlib.Core.Path.{_≡_, refl}
+use mathlib.Core.Path.{_≡_, refl, ap, _∙_}
 use mathlib.Core.Bool.{Bool}
 use mathlib.Core.List.{[], _∷_}
 use native.Mathlib.Omega.{arith}
@@ -9,6 +9,7 @@ use types.Run.{OneOf}
 use Rattle.requests.proofs.Arms.{run, among}
 use Rattle.answers.proofs.Outcome as outcomes
 use Rattle.answers.specs.Answer.{outcomeOf}
+use Rattle.answers.specs.declared.Answer.{Answer}
 use Rattle.answers.specs.declared.Outcome.{Outcome}
 use Rattle.handshake.proofs.handshake.HandshakeOutcome as shakings
 use Rattle.handshake.specs.declared.handshake.HandshakeOutcome.{HandshakeOutcome}
@@ -31,3 +32,6 @@ pub not-refused : (x : Bool) (n : ℕ) (o : HandshakeOutcome) → OneOf (run 0 2
 not-refused x n HandshakeOutcome.Accepted o = refl
 not-refused x n HandshakeOutcome.Finished o = refl
 not-refused x n (HandshakeOutcome.Refused e) o = absurd (omega (arith, among 0 2 2 o .1))
+
+pub answer-is : {a : Answer} {o : Outcome} → a .outcome ≡ o → a .count ≡ 0 → a ≡ record { outcome = o; count = 0 }
+answer-is {a} {o} p q = ap (λ (x : Outcome). record { outcome = x; count = a .count }) p ∙ ap (λ (n : ℕ). record { outcome = o; count = n }) q
