@@ -2,3 +2,4 @@ pub mod Reply
 pub mod Numbers
 pub mod Delivery
 pub mod Handshake
+pub mod Message

@@ -15,13 +15,15 @@ use Rattle.eiproto.specs.declared.eiproto_enum.DeviceType.{DeviceType}
 use Rattle.eiproto.specs.declared.eiproto_enum.DeviceTypeOf.{DeviceTypeOf}
 use Rattle.eiproto.specs.declared.eiproto_enum.DisconnectReason.{DisconnectReason}
 use Rattle.eiproto.specs.declared.eiproto_enum.DisconnectReasonOf.{DisconnectReasonOf}
+use Rattle.wire.specs.declared.ParseError.{ParseError}
 use Rattle.requests.specs.declared.eis.HandshakeRequest.{HandshakeRequest}
 use Rattle.handshake.specs.View.{number}
 use Rattle.handshake.specs.declared.handshake.HandshakeError.{HandshakeError}
 use Rattle.lent_read.specs.Numbers.{recordWords, recordReals}
 use Rattle.answers.specs.Answer.{numberOf}
 use Rattle.answers.specs.declared.Error.{Error}
-use Rattle.bozterrun.specs.Reply.{noneNumber, badArgument}
+use Rattle.bozterrun.specs.Reply.{noneNumber, badArgument, waitNumber, malformedNumber, noObjectNumber}
+use Rattle.bozterrun.specs.Message.{toldError}
 
 -- a handshake's request by its opcode (src/eiproto_eis.rs), with the number that it carries
 abbrev pub handshakeRequest : (opcode value : ℕ) → HandshakeRequest
@@ -64,6 +66,7 @@ refusals =
     ++ map number (HandshakeError.NonHandshakeEvent ∷ HandshakeError.DuplicateEvent ∷ HandshakeError.MissingInterface ∷ [])
     ++ map numberOf (Error.BadUtf8 ∷ Error.NameLong ∷ Error.UnknownHandle ∷ Error.BadCapabilities ∷ Error.FullSeats ∷ Error.FullDevices ∷ Error.FullPending
     ∷ Error.FullQueue ∷ Error.FullTexts ∷ Error.ShortOut ∷ Error.IdsSpent ∷ Error.BadState ∷ Error.BadPart ∷ [])
+    ++ (malformedNumber ∷ noObjectNumber ∷ numberOf Error.InvalidId ∷ [])
 
 -- the kinds of delivered requests are the places of `meanings` in requests/specs/Row
 abbrev kinds : List ℕ
@@ -79,9 +82,20 @@ abbrev interfaces : List ℕ
 interfaces =
     eiConnection ∷ eiCallback ∷ eiPingpong ∷ eiSeat ∷ eiDevice ∷ eiPointer ∷ eiPointerAbsolute ∷ eiScroll ∷ eiButton ∷ eiKeyboard ∷ eiTouchscreen ∷ eiText ∷ []
 
+-- the cases of a malformed message
+abbrev parseErrors : List ℕ
+parseErrors =
+    map (λ e. toldError e .error) (ParseError.EndOfMessage ∷ ParseError.Utf8 ∷ ParseError.InvalidOpcode 0 0 ∷ ParseError.InvalidVariant 0 ∷ ParseError.HeaderLength 0
+    ∷ ParseError.MessageLength 0 0 ∷ ParseError.InvalidNull ∷ [])
+
+-- the bytes of a message's header, and the most that a message has
+abbrev messageLengths : List ℕ
+messageLengths = 16 ∷ 1024 ∷ []
+
 -- THE TABLE that a header is tested by
 unfoldable pub numbers : List ℕ
 unfolding numberOf
 numbers =
-    refusals ++ (noneNumber ∷ badArgument ∷ []) ++ kinds ++ interfaces ++ map capabilityMask capabilities ++ map contextTypeNumber contextTypes
+    refusals ++ (noneNumber ∷ badArgument ∷ waitNumber ∷ []) ++ kinds ++ interfaces ++ map capabilityMask capabilities ++ map contextTypeNumber contextTypes
     ++ map deviceTypeNumber deviceTypes ++ map disconnectReasonNumber disconnectReasons ++ requests ++ (recordWords ∷ recordReals ∷ [])
+    ++ parseErrors ++ messageLengths

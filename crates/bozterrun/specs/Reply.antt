@@ -31,6 +31,20 @@ noneNumber = 64
 abbrev pub badArgument : ℕ
 badArgument = 65
 
+-- no refusal: a message is not yet whole
+abbrev pub waitNumber : ℕ
+waitNumber = 66
+
+-- the refusals that a message alone meets: "23 MALFORMED", "24 NO_OBJECT", "25 INVALID_ID"
+abbrev pub malformedNumber : ℕ
+malformedNumber = 23
+
+abbrev pub noObjectNumber : ℕ
+noObjectNumber = 24
+
+abbrev pub invalidIdNumber : ℕ
+invalidIdNumber = 25
+
 -- what a function answers: the number of the refusal, 0 where there is none
 abbrev pub statusOf : Outcome → ℕ
 statusOf Outcome.Accepted = 0

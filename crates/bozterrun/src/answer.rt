@@ -12,6 +12,16 @@ pub const NONE: u32 = 64;
 // An argument that stands for no case of its enum. It is tested before anything else, and nothing is touched.
 pub const BAD_ARGUMENT: u32 = 65;
 
+// Not a refusal: a message is not yet whole.
+pub const WAIT: u32 = 66;
+
+// Refusals that a message alone meets.
+pub const MALFORMED: u32 = 23;
+
+pub const NO_OBJECT: u32 = 24;
+
+pub const INVALID_ID: u32 = 25;
+
 pub fn status(outcome: Outcome) -> u32
     ensures { λ r. ⌜ r ≡ statusOf outcome ⌝ }
 {
@@ -92,6 +102,7 @@ fn version_in(error: Error) -> RefusedVersion
         Error::IdsSpent => no_version(),
         Error::BadState => no_version(),
         Error::BadPart => no_version(),
+        Error::InvalidId => no_version(),
     }
 }
 

@@ -15,7 +15,7 @@ ghost use Rattle.bozterrun.specs.Reply.{badArgument, Kept};
 ghost use Rattle.bozterrun.specs.Handshake.{Counted, Says, Introduced};
 ghost use Rattle.bozterrun.specs.Numbers.{IsContext, NoContext};
 
-fn status(outcome: HandshakeOutcome) -> u32
+pub fn status(outcome: HandshakeOutcome) -> u32
     ensures { λ r. ⌜ r ≡ statusOf outcome ⌝ }
 {
     match outcome {

@@ -5,6 +5,7 @@ mod cells;
 mod client;
 mod delivery;
 mod handshakes;
+mod message;
 mod numbers;
 mod read;
 mod station;

@@ -1,6 +1,10 @@
 // The lengths of the slices, and the numbers that the header has names for.
 use crate::answer::BAD_ARGUMENT;
+use crate::answer::INVALID_ID;
+use crate::answer::MALFORMED;
+use crate::answer::NO_OBJECT;
 use crate::answer::NONE;
+use crate::answer::WAIT;
 use answers::NAME_LENGTH_LIMIT;
 use control::CONTROL_LENGTH;
 use eiproto::event::DeviceCapability;
@@ -8,6 +12,8 @@ use lent_handshake::HANDSHAKE_LENGTH;
 use lent_read::numbers as read;
 use lent_read::record::RECORD_REALS;
 use lent_read::record::RECORD_WORDS;
+use parse::HEADER_LENGTH;
+use parse::MESSAGE_LENGTH_LIMIT;
 use requests::kinds;
 use session::REALS_LENGTH;
 use session::TEXTS_LENGTH;
@@ -64,8 +70,8 @@ pub extern "C" fn bozterrun_texts_length() -> usize
 
 // The numbers that include/bozterrun.h has names for, in its order: refusals, what is no refusal, kinds of requests, interfaces, capabilities,
 // context types, device types, reasons, requests of a read, the
-// words and the reals of its records. specs/Numbers says what each is the number of.
-const NUMBERS: usize = 113;
+// words and the reals of its records, the cases of a malformed message, the bytes of a message's header and the most of a message. specs/Numbers says what each is the number of.
+const NUMBERS: usize = 126;
 
 // The number at a place of that table, 0 past its end: a program tests by it that its header is the library's.
 #[no_mangle]
@@ -95,8 +101,12 @@ pub extern "C" fn bozterrun_number(place: usize) -> u64
         20,
         21,
         22,
+        MALFORMED as u64,
+        NO_OBJECT as u64,
+        INVALID_ID as u64,
         NONE as u64,
         BAD_ARGUMENT as u64,
+        WAIT as u64,
         kinds::DISCONNECT,
         kinds::BIND,
         kinds::DEVICE_CLOSED,
@@ -186,6 +196,15 @@ pub extern "C" fn bozterrun_number(place: usize) -> u64
         read::TEXT_UTF8,
         RECORD_WORDS as u64,
         RECORD_REALS as u64,
+        1,
+        2,
+        3,
+        4,
+        5,
+        6,
+        7,
+        HEADER_LENGTH as u64,
+        MESSAGE_LENGTH_LIMIT as u64,
     ];
     if place < NUMBERS { table[place] } else { 0 }
 }

@@ -45,6 +45,8 @@ version-in-spec =
     (λ c κs. search needs)  -- no-version-requires-17
     (λ c. search needs)  -- enum-told-18
     (λ c κs. search needs)  -- no-version-requires-18
+    (λ c. search needs)  -- enum-told-19
+    (λ c κs. search needs)  -- no-version-requires-19
     (λ c. rw (c .before .error .given .1))
     (λ c. rw (c .no-version .ensures, c .before .enum-told .given .1))
     (λ c. rw (c .no-version2 .ensures, c .before .enum-told2 .given .1))
@@ -63,4 +65,5 @@ version-in-spec =
     (λ c. rw (c .no-version15 .ensures, c .before .enum-told15 .given .1))
     (λ c. rw (c .no-version16 .ensures, c .before .enum-told16 .given .1))
     (λ c. rw (c .no-version17 .ensures, c .before .enum-told17 .given .1))
-    (λ c. rw (c .no-version18 .ensures, c .before .enum-told18 .given .1)))
+    (λ c. rw (c .no-version18 .ensures, c .before .enum-told18 .given .1))
+    (λ c. rw (c .no-version19 .ensures, c .before .enum-told19 .given .1)))
