@@ -4,15 +4,17 @@
  * The model.
  *   - A session lies in memory that the caller owns: a bozterrun_session, 46,848 bytes. So does the handshake that it
  *     begins with. The library allocates nothing, locks nothing, blocks nowhere and keeps nothing between two calls.
- *   - The client's messages are decoded by the caller; each becomes one call, or a record of a read, which hands over
- *     many in one call. What the client is to be sent comes back as event records in `out`; bz_next_event reads them.
- *     What the clerk did comes back from bz_next_request.
+ *   - The client's messages are handed over as the bytes that were received, one message a call (bz_pending_request,
+ *     in the handshake bz_handshake_pending_request); or the caller decodes them, and each becomes one call, or a
+ *     record of a read, which hands over many in one call. What the client is to be sent comes back as event records
+ *     in `out`; bz_next_event reads them. What the clerk did comes back from bz_next_request.
  *   - A call answers 0 (BOZTERRUN_ACCEPTED) or the number of a refusal. After a refusal the session, the handshake and
- *     every lent buffer are as they were, byte for byte (of the bits of a NaN that is tested, not proved). Three calls
- *     say where they part from that: bz_handshake_new, bz_handshake_finish, and bz_handle_requests, which keeps what it
- *     accepted. 64 and 65 are no refusals of the protocol: BOZTERRUN_NONE, BOZTERRUN_BAD_ARGUMENT. They too leave
- *     everything as it was.
- *   - A client's request on an object that is not known is accepted and does nothing.
+ *     every lent buffer are as they were, byte for byte (of the bits of a NaN that is tested, not proved). Four calls
+ *     say where they part from that: bz_handshake_new, bz_handshake_finish, bz_handshake_pending_request, and
+ *     bz_handle_requests, which keeps what it accepted. 64 to 66 are no refusals of the protocol: BOZTERRUN_NONE,
+ *     BOZTERRUN_BAD_ARGUMENT, BOZTERRUN_WAIT. They too leave everything as it was.
+ *   - A client's request on an object that is not known is accepted and does nothing. A message's bytes say which
+ *     object they are for: where none with that id is alive they are refused (BOZTERRUN_NO_OBJECT).
  *   - Any thread may make a call, one at a time on one session. Calls on different sessions share nothing.
  *   - Nothing that a caller hands in makes the library read or write outside what it was lent. That is proved of the
  *     library; it is up to the caller that each pointer is valid for its length, that uint64_t and float are aligned,
@@ -32,7 +34,8 @@
  * A session, from its beginning: bz_check, bz_handshake_new, the client's messages (bz_handshake_..), at its Finish
  * bz_handshake_finish; then bz_add_seat, bz_add_device, bz_resumed; then the client's requests, each, or each read of
  * them, followed by bz_next_request until it answers BOZTERRUN_NONE; at last bz_disconnected. examples/station.c is a
- * whole program.
+ * whole program. From bytes: bz_handshake_pending_request until it says that the session has begun, then
+ * bz_pending_request.
  */
 #ifndef BOZTERRUN_H
 #define BOZTERRUN_H
@@ -95,9 +98,27 @@ enum bozterrun_answer {
     /* What the caller of bz_handle_requests can cause. */
     BOZTERRUN_BAD_PART = 22, /* a record's part goes past the end of the read's texts */
 
+    /* What a client can cause by the bytes of its messages. */
+    BOZTERRUN_MALFORMED = 23,  /* no message: bozterrun_details has the case and its numbers */
+    BOZTERRUN_NO_OBJECT = 24,  /* no object with the addressed id is alive */
+    BOZTERRUN_INVALID_ID = 25, /* Sync with an id that is not above all that the client gave before, or the server's */
+
     /* No refusals. */
-    BOZTERRUN_NONE = 64,        /* nothing is queued, or the interface was not negotiated */
-    BOZTERRUN_BAD_ARGUMENT = 65 /* a number that is no case of its enum; tested before all else, nothing is touched */
+    BOZTERRUN_NONE = 64,         /* nothing is queued, or the interface was not negotiated */
+    BOZTERRUN_BAD_ARGUMENT = 65, /* a number that is no case of its enum; tested before all else, nothing is touched */
+    BOZTERRUN_WAIT = 66          /* the message is not yet whole: call again when more bytes are there */
+};
+
+/* What is wrong with a message that is refused with BOZTERRUN_MALFORMED: the first that is met. Behind each its numbers
+ * in bozterrun_details. */
+enum bozterrun_parse_error {
+    BOZTERRUN_PARSE_ERROR_END_OF_MESSAGE = 1,  /* an argument needs more bytes than the message has */
+    BOZTERRUN_PARSE_ERROR_UTF8 = 2,            /* a text that is not UTF-8 */
+    BOZTERRUN_PARSE_ERROR_INVALID_OPCODE = 3,  /* interface (0: the handshake's), opcode: there is none */
+    BOZTERRUN_PARSE_ERROR_INVALID_VARIANT = 4, /* variant: a context type or a state that there is not */
+    BOZTERRUN_PARSE_ERROR_HEADER_LENGTH = 5,   /* length: below 16 or above 1,024 */
+    BOZTERRUN_PARSE_ERROR_MESSAGE_LENGTH = 6,  /* read, header: the header's length and what is left over; the length */
+    BOZTERRUN_PARSE_ERROR_INVALID_NULL = 7     /* a text that is null */
 };
 
 /* The kinds of delivered requests. bozterrun_request says which fields each has. */
@@ -249,9 +270,11 @@ enum bozterrun_length {
     BOZTERRUN_WORDS_LENGTH = 3840,
     BOZTERRUN_REALS_LENGTH = 1536,
     BOZTERRUN_TEXTS_LENGTH = 8192,
-    BOZTERRUN_RECORD_LENGTH = 8, /* of each record of a read, among the records */
-    BOZTERRUN_POINT_LENGTH = 2,  /* and among the points */
-    BOZTERRUN_OUT_LENGTH = 1225  /* enough `out` for any call but a read, on a session that only calls have changed */
+    BOZTERRUN_RECORD_LENGTH = 8,     /* of each record of a read, among the records */
+    BOZTERRUN_POINT_LENGTH = 2,      /* and among the points */
+    BOZTERRUN_HEADER_LENGTH = 16,    /* of a message: the object's id, the length, the opcode */
+    BOZTERRUN_MESSAGE_LENGTH = 1024, /* the most bytes of a message, with its header */
+    BOZTERRUN_OUT_LENGTH = 1225      /* enough `out` for any call but a read, if only calls have changed the session */
 };
 
 /* ---------------------------------------------------------------------------------------------------------------- */
@@ -408,6 +431,27 @@ typedef struct bozterrun_read {
     size_t texts_length;   /* how many bytes of texts */
 } bozterrun_read;
 
+/*
+ * What is told of a message besides its answer. With BOZTERRUN_MALFORMED: which case, and the numbers that
+ * bozterrun_parse_error lists for it. With BOZTERRUN_INVALID_INTERFACE_VERSION: interface and version. All else is 0.
+ */
+typedef struct bozterrun_details {
+    uint32_t parse_error; /* BOZTERRUN_PARSE_ERROR_.. */
+    __extension__ union {
+        uint32_t first;
+        uint32_t interface;
+        uint32_t variant;
+        uint32_t length;
+        uint32_t read;
+    };
+    __extension__ union {
+        uint32_t second;
+        uint32_t opcode;
+        uint32_t version;
+        uint32_t header;
+    };
+} bozterrun_details;
+
 BZ_ASSERT(sizeof(float) == 4 && sizeof(size_t) == 8, "the library's f32 and usize");
 BZ_ASSERT(sizeof(bozterrun_session) == 46848, "the four slices and nothing between them");
 BZ_ASSERT(sizeof(bozterrun_request) == 48, "five numbers and two coordinates");
@@ -556,6 +600,45 @@ static inline uint32_t bz_handshake_finish(bozterrun_handshake *handshake, bozte
     }
     return bozterrun_handshake_finish(BZ_HANDSHAKE(handshake), BZ_CONTROL(session), BZ_OUT(out, out_length),
                                       BZ_OR(count, &spare));
+}
+
+/*
+ * The first message of the bytes, read as the handshake's and handed on as the call that it stands for; bytes behind
+ * it are not read. Messages are those of the ei protocol, little-endian. `taken` gets how many bytes it had: drop them,
+ * and call again with the rest. A Finish that is accepted begins the session, which nothing else writes to, and `begun`
+ * gets 1: from then on the bytes go to bz_pending_request. `count` and `details` are as there.
+ * Answers BOZTERRUN_WAIT where the message is not whole: its length is told by bytes 8 to 11. Refuses
+ * BOZTERRUN_NO_OBJECT; BOZTERRUN_MALFORMED, by its length; then it waits; BOZTERRUN_MALFORMED; BOZTERRUN_INVALID_ID;
+ * and what the call refuses that the message stands for: BOZTERRUN_NAME_LONG; BOZTERRUN_DUPLICATE_EVENT;
+ * BOZTERRUN_IDS_SPENT; BOZTERRUN_SHORT_OUT; BOZTERRUN_MISSING_INTERFACE, which writes the interface versions and their
+ * count all the same. After a Finish that was accepted a message on the connection is BOZTERRUN_NON_HANDSHAKE_EVENT.
+ * Nothing is taken by a message that waits or is refused.
+ */
+uint32_t bozterrun_handshake_pending_request(uint64_t *handshake, size_t handshake_length, uint8_t *name,
+                                             size_t name_length, uint64_t *control, size_t control_length,
+                                             const uint8_t *message, size_t message_length, uint8_t *out,
+                                             size_t out_length, size_t *taken, size_t *count, uint32_t *begun,
+                                             uint32_t *parse_error, uint32_t *first, uint32_t *second);
+
+static inline uint32_t bz_handshake_pending_request(bozterrun_handshake *handshake, bozterrun_session *session,
+                                                    const void *message, size_t message_length, uint8_t *out,
+                                                    size_t out_length, size_t *taken, size_t *count, uint32_t *begun,
+                                                    bozterrun_details *details)
+{
+    size_t spare_taken = 0, spare_count = 0;
+    uint32_t spare_begun = 0;
+    bozterrun_details spare_details;
+    bozterrun_details *const d = BZ_OR(details, &spare_details);
+    if (handshake == NULL || session == NULL) {
+        *BZ_OR(taken, &spare_taken) = 0;
+        *BZ_OR(begun, &spare_begun) = 0;
+        memset(d, 0, sizeof *d);
+        return bz_no_session(count, NULL);
+    }
+    return bozterrun_handshake_pending_request(
+        BZ_HANDSHAKE(handshake), BZ_CONTROL(session), BZ_TEXT(message, message_length), BZ_OUT(out, out_length),
+        BZ_OR(taken, &spare_taken), BZ_OR(count, &spare_count), BZ_OR(begun, &spare_begun), &d->parse_error, &d->first,
+        &d->second);
 }
 
 /*
@@ -1012,6 +1095,46 @@ static inline uint32_t bz_unexpected_handshake(const bozterrun_session *session,
         return BOZTERRUN_BAD_STATE;
     }
     return bozterrun_unexpected_handshake(BZ_CONTROL(session), opcode, value, BZ_TEXT(text, text_length));
+}
+
+/* ---------------------------------------------------------------------------------------------------------------- */
+/* The client's bytes.                                                                                              */
+/* ---------------------------------------------------------------------------------------------------------------- */
+
+/*
+ * The first message of the bytes, handed on as the one request that it stands for; bytes behind it are not read.
+ * Messages are those of the ei protocol, little-endian: the object's id in 64 bits, the length in 32 with the 16 of the
+ * header, the opcode in 32, the arguments. `taken` gets how many bytes the message had: drop them, and call again with
+ * the rest. `count` gets how many bytes of events were written to `out`, `details` what refusals tell besides. `clock`
+ * is what the request's own call takes.
+ * Answers BOZTERRUN_WAIT where the message is not whole: its length is told by bytes 8 to 11, and is at most
+ * BOZTERRUN_MESSAGE_LENGTH. Refuses BOZTERRUN_NO_OBJECT; BOZTERRUN_MALFORMED, by its length; then it waits;
+ * BOZTERRUN_MALFORMED, by its opcode and arguments; BOZTERRUN_INVALID_ID; and the refusals of the request's own call in
+ * their order. (A text that is not UTF-8 is BOZTERRUN_MALFORMED here.) Nothing is taken by a message that waits or is
+ * refused. After a limit (16 to 19) make room and call again with the same bytes; after another refusal disconnect the
+ * client, or drop the message: as many bytes as its header says.
+ */
+uint32_t bozterrun_pending_request(uint64_t *control, size_t control_length, uint64_t *words, size_t words_length,
+                                   float *reals, size_t reals_length, uint8_t *texts, size_t texts_length,
+                                   const uint8_t *message, size_t message_length, uint64_t clock, uint8_t *out,
+                                   size_t out_length, size_t *taken, size_t *count, uint32_t *parse_error,
+                                   uint32_t *first, uint32_t *second);
+
+static inline uint32_t bz_pending_request(bozterrun_session *session, const void *message, size_t message_length,
+                                          uint64_t clock, uint8_t *out, size_t out_length, size_t *taken,
+                                          size_t *count, bozterrun_details *details)
+{
+    size_t spare_taken = 0, spare_count = 0;
+    bozterrun_details spare_details;
+    bozterrun_details *const d = BZ_OR(details, &spare_details);
+    if (session == NULL) {
+        *BZ_OR(taken, &spare_taken) = 0;
+        memset(d, 0, sizeof *d);
+        return bz_no_session(count, NULL);
+    }
+    return bozterrun_pending_request(BZ_SESSION(session), BZ_TEXT(message, message_length), clock,
+                                     BZ_OUT(out, out_length), BZ_OR(taken, &spare_taken), BZ_OR(count, &spare_count),
+                                     &d->parse_error, &d->first, &d->second);
 }
 
 /* ---------------------------------------------------------------------------------------------------------------- */
@@ -1833,25 +1956,29 @@ static inline const char *bz_interface_name(uint32_t interface)
 /* The name of an answer as docs/REFERENCE.md has it, and a sentence for a person. */
 static inline const char *bz_refusal_name(uint32_t answer)
 {
-    static const char *const names[23] = {
+    static const char *const names[26] = {
         "Accepted",            "UnexpectedHandshakeEvent", "InvalidInterfaceVersion", "InvalidCapabilities",
         "TooManyTouches",      "DuplicatedTouchDown",      "InvalidTextLength",       "NonHandshakeEvent",
         "DuplicateEvent",      "MissingInterface",         "BadUtf8",                 "NameLong",
         "UnknownHandle",       "BadCapabilities",          "FullSeats",               "FullDevices",
         "FullPending",         "FullQueue",                "FullTexts",               "ShortOut",
-        "IdsSpent",            "BadState",                 "BadPart"};
+        "IdsSpent",            "BadState",                 "BadPart",                 "Malformed",
+        "NoObject",            "InvalidId"};
     if (answer == BOZTERRUN_NONE) {
         return "None";
     }
     if (answer == BOZTERRUN_BAD_ARGUMENT) {
         return "BadArgument";
     }
-    return answer < 23 ? names[answer] : "Unknown";
+    if (answer == BOZTERRUN_WAIT) {
+        return "Wait";
+    }
+    return answer < 26 ? names[answer] : "Unknown";
 }
 
 static inline const char *bz_refusal_text(uint32_t answer)
 {
-    static const char *const texts[23] = {
+    static const char *const texts[26] = {
         "The call was accepted.",
         "The client sent a handshake's request in a running session.",
         "The client used a version that the interface does not have.",
@@ -1874,14 +2001,42 @@ static inline const char *bz_refusal_text(uint32_t answer)
         "The lent buffer is too short.",
         "No object ids are left.",
         "The memory that was lent holds no session or no handshake.",
-        "A record's part goes past the end of the texts of its read."};
+        "A record's part goes past the end of the texts of its read.",
+        "The client sent bytes that are no message.",
+        "The client sent a message to an object that is not alive.",
+        "The client gave a new object an id that it may not have."};
     if (answer == BOZTERRUN_NONE) {
         return "There is none.";
     }
     if (answer == BOZTERRUN_BAD_ARGUMENT) {
         return "An argument is no case of its enum.";
     }
-    return answer < 23 ? texts[answer] : "This is no answer of the library.";
+    if (answer == BOZTERRUN_WAIT) {
+        return "The message is not yet whole.";
+    }
+    return answer < 26 ? texts[answer] : "This is no answer of the library.";
+}
+
+/* The name of a case of BOZTERRUN_MALFORMED as docs/REFERENCE.md has it, "" where there is no such number, and a
+ * sentence for a person. */
+static inline const char *bz_parse_error_name(uint32_t parse_error)
+{
+    static const char *const names[8] = {"",               "EndOfMessage", "Utf8",          "InvalidOpcode",
+                                         "InvalidVariant", "HeaderLength", "MessageLength", "InvalidNull"};
+    return parse_error < 8 ? names[parse_error] : "";
+}
+
+static inline const char *bz_parse_error_text(uint32_t parse_error)
+{
+    static const char *const texts[8] = {"",
+                                         "The message ends within an argument.",
+                                         "A text of the message is not UTF-8.",
+                                         "The interface has no request with this opcode.",
+                                         "An argument is no case of its enum in the protocol.",
+                                         "The header says less than its own bytes, or more than a message may have.",
+                                         "Bytes are left behind the last argument.",
+                                         "A text of the message is null."};
+    return parse_error < 8 ? texts[parse_error] : "";
 }
 
 /* The lengths of the slices as the library has them. */
@@ -1897,12 +2052,12 @@ uint64_t bozterrun_number(size_t place);
 
 /*
  * Whether this header is the library's: 0, or the place, from 1 on, of the first number or length that differs. Places
- * 1 to 113 are the library's table, 114 to 119 the lengths in the order above, 120 says that the table goes on. Call it
+ * 1 to 126 are the library's table, 127 to 132 the lengths in the order above, 133 says that the table goes on. Call it
  * once at the start.
  */
 static inline size_t bz_check(void)
 {
-    static const uint8_t numbers[113] = {
+    static const uint16_t numbers[126] = {
         BOZTERRUN_UNEXPECTED_HANDSHAKE_EVENT,
         BOZTERRUN_INVALID_INTERFACE_VERSION,
         BOZTERRUN_INVALID_CAPABILITIES,
@@ -1925,8 +2080,12 @@ static inline size_t bz_check(void)
         BOZTERRUN_IDS_SPENT,
         BOZTERRUN_BAD_STATE,
         BOZTERRUN_BAD_PART,
+        BOZTERRUN_MALFORMED,
+        BOZTERRUN_NO_OBJECT,
+        BOZTERRUN_INVALID_ID,
         BOZTERRUN_NONE,
         BOZTERRUN_BAD_ARGUMENT,
+        BOZTERRUN_WAIT,
         BOZTERRUN_REQUEST_DISCONNECT,
         BOZTERRUN_REQUEST_BIND,
         BOZTERRUN_REQUEST_DEVICE_CLOSED,
@@ -2016,8 +2175,17 @@ static inline size_t bz_check(void)
         BOZTERRUN_READ_TEXT_UTF8,
         BOZTERRUN_RECORD_LENGTH,
         BOZTERRUN_POINT_LENGTH,
+        BOZTERRUN_PARSE_ERROR_END_OF_MESSAGE,
+        BOZTERRUN_PARSE_ERROR_UTF8,
+        BOZTERRUN_PARSE_ERROR_INVALID_OPCODE,
+        BOZTERRUN_PARSE_ERROR_INVALID_VARIANT,
+        BOZTERRUN_PARSE_ERROR_HEADER_LENGTH,
+        BOZTERRUN_PARSE_ERROR_MESSAGE_LENGTH,
+        BOZTERRUN_PARSE_ERROR_INVALID_NULL,
+        BOZTERRUN_HEADER_LENGTH,
+        BOZTERRUN_MESSAGE_LENGTH,
     };
-    for (size_t place = 0; place < 113; place++) {
+    for (size_t place = 0; place < 126; place++) {
         if (bozterrun_number(place) != numbers[place]) {
             return place + 1;
         }
@@ -2029,10 +2197,10 @@ static inline size_t bz_check(void)
     };
     for (size_t place = 0; place < 6; place++) {
         if (!equal[place]) {
-            return 114 + place;
+            return 127 + place;
         }
     }
-    return bozterrun_number(113) == 0 ? 0 : 120;
+    return bozterrun_number(126) == 0 ? 0 : 133;
 }
 
 #undef BZ_ASSERT

@@ -8,9 +8,9 @@ under callgrind with ten seeds and with texts of 20 and of 240 bytes: its sessio
 the texts of odd seeds are not ASCII. For each function the instructions of all its calls are added, what it calls
 included. tests/c/texts.c is run with texts of several lengths and make-ups. Two tables are printed. The rounds of
 rust/examples/twins.rs, which go through the Rust crate, are counted as a whole. The exit status is 1 where the answers
-of two seeds differ, where a function other than text_utf8 and handle_requests, whose reads have a text each, has
-another count at another seed, where those two have another count at another even seed, where ASCII texts of one length
-do, or where the rounds through Rust do.
+of two seeds differ, where a function other than text_utf8, handle_requests, whose reads have a text each, and
+pending_request, to which a text is sent in each round, has another count at another seed, where those have another
+count at another even seed, where ASCII texts of one length do, or where the rounds through Rust do.
 """
 import os
 import re
@@ -26,7 +26,7 @@ TEXT_LENGTHS = [1, 7, 8, 19, 20, 24, 64, 254]
 ASCII = [("digits", 1), ("digits", 2), ("letters", 3), ("ascii", 4), ("ascii", 5)]
 WIDE = ["2-byte", "3-byte", "4-byte", "mixed"]
 TAKES = 10  # how often texts.c sends its text
-TEXTUAL = ("text_utf8", "handle_requests")  # which are handed texts, and may take longer over one that is not ASCII
+TEXTUAL = ("text_utf8", "handle_requests", "pending_request")  # which are handed texts, and may take longer over one that is not ASCII
 
 
 def build(name, archive):

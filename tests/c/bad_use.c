@@ -35,9 +35,9 @@ static void check(bool holds, const char *what)
 /* What the numbers that a call tells are, where there is nothing to tell: 0. Those of other calls are not touched. */
 static void check_told(const call *c, bool nothing)
 {
-    static const size_t places[] = {COUNT, VALUE, FIRST, SECOND};
-    static const unsigned bits[] = {TELLS_COUNT, TELLS_VALUE, TELLS_TWO, TELLS_TWO};
-    for (size_t i = 0; i < 4; i++) {
+    static const size_t places[] = {COUNT, VALUE, FIRST, SECOND, CASE, BEGUN};
+    static const unsigned bits[] = {TELLS_COUNT, TELLS_VALUE, TELLS_TWO, TELLS_TWO, TELLS_CASE, TELLS_BEGUN};
+    for (size_t i = 0; i < sizeof places / sizeof places[0]; i++) {
         if ((c->told & bits[i]) == 0) {
             check(slice_same(places[i]), slices[places[i]].name);
         } else if (nothing) {
@@ -376,6 +376,25 @@ static void try_no_session(void)
     NO_SESSION(bz_handshake_client(h, &first, &count, &second));
     check(first == 0 && second == 0 && count == 0, "what is told");
     NO_SESSION(bz_handshake_client(h, NULL, NULL, NULL));
+    size_t taken = 99;
+    bozterrun_details details;
+    memset(&details, 0x5a, sizeof details);
+    count = 99;
+    first = 99;
+    NO_SESSION(bz_handshake_pending_request(h, &session, finish_image, sizeof finish_image, out, sizeof out, &taken,
+                                            &count, &first, &details));
+    check(taken == 0 && count == 0 && first == 0 && details.parse_error == 0 && details.first == 0 &&
+              details.second == 0,
+          "what is told");
+    NO_SESSION(bz_handshake_pending_request(&whole, s, finish_image, sizeof finish_image, NULL, 0, NULL, NULL, NULL,
+                                            NULL));
+    check(memcmp(&whole, &handshake_image, sizeof whole) == 0, "the handshake has changed");
+    memset(&details, 0x5a, sizeof details);
+    taken = count = 99;
+    NO_SESSION(bz_pending_request(s, sync_image, sizeof sync_image, 1, out, sizeof out, &taken, &count, &details));
+    check(taken == 0 && count == 0 && details.parse_error == 0 && details.first == 0 && details.second == 0,
+          "what is told");
+    NO_SESSION(bz_pending_request(s, NULL, 9, 1, NULL, 9, NULL, NULL, NULL));
     NO_SESSION(bz_pointer_motion_relative(s, 1, 1.0F, 1.0F));
     NO_SESSION(bz_pointer_absolute_motion_absolute(s, 1, 1.0F, 1.0F));
     NO_SESSION(bz_scroll_scroll(s, 1, 1.0F, 1.0F));
@@ -481,6 +500,9 @@ static void try_no_out(void)
     SHORT(bz_interface_release(s, BOZTERRUN_CAPABILITY_KEYBOARD, device + 3, NULL, 1000, NULL));
     SHORT(bz_connection_sync(s, 5, 1, NULL, 1000, NULL, NULL, NULL));
     SHORT(bz_next_request(s, &request, NULL, 1000));
+    SHORT(bz_pending_request(s, sync_image, sizeof sync_image, 1, NULL, 1000, NULL, NULL, NULL));
+    SHORT(bz_handshake_pending_request(&h, s, finish_image, sizeof finish_image, NULL, 1000, NULL, NULL, NULL, NULL));
+    check(memcmp(&h, &handshake_image, sizeof h) == 0, "the handshake has changed");
     SHORT(bz_add_seat(s, NULL, 0, 127, NULL, 1000, NULL, NULL));
     SHORT(bz_add_device(s, seat, NULL, 0, 1, 127, NULL, 1000, NULL, NULL));
     SHORT(bz_remove_seat(s, seat, NULL, 1000, NULL));
@@ -496,6 +518,10 @@ static void try_no_out(void)
     h = handshake_image;
     GOOD(bz_handshake_finish(&h, s, out, sizeof out, NULL));
     GOOD(bz_handshake_client(&h, NULL, NULL, NULL));
+    h = handshake_image;
+    GOOD(bz_handshake_pending_request(&h, s, finish_image, sizeof finish_image, out, sizeof out, NULL, NULL, NULL,
+                                      NULL));
+    GOOD(bz_pending_request(s, sync_image, sizeof sync_image, 1, out, sizeof out, NULL, NULL, NULL));
     GOOD(bz_seat_release(s, seat, out, sizeof out, NULL));
     GOOD(bz_interface_release(s, BOZTERRUN_CAPABILITY_KEYBOARD, device + 3, out, sizeof out, NULL));
     GOOD(bz_connection_sync(s, 5, 1, out, sizeof out, NULL, NULL, NULL));
@@ -537,6 +563,11 @@ static void try_no_text(void)
     GOOD(bz_disconnected(s, 0, "", 0, out, sizeof out, &count));
     check(count == 18 * 14 + 19 && out[count - 1] == 0x80, "an empty explanation");
     fresh();
+    same("bz_pending_request of NULL", bz_pending_request(s, NULL, 28, 1, out, sizeof out, NULL, NULL, NULL),
+         BOZTERRUN_WAIT);
+    same("bz_handshake_pending_request of NULL",
+         bz_handshake_pending_request(&h, s, NULL, 16, out, sizeof out, NULL, NULL, NULL, NULL), BOZTERRUN_WAIT);
+    check(memcmp(&session, &session_image, sizeof session) == 0, "the session has changed");
     same("bz_text_utf8 of NULL", bz_text_utf8(s, with.device + 7, NULL, 5), BOZTERRUN_INVALID_TEXT_LENGTH);
     same("bz_unexpected_handshake with NULL", bz_unexpected_handshake(s, 3, 0, NULL, 500),
          BOZTERRUN_UNEXPECTED_HANDSHAKE_EVENT);

@@ -245,12 +245,16 @@ int main(void)
     check(bz_check() == 0, "the header is not the library's", bz_check());
     try_records();
     try_fields();
-    for (uint32_t n = 0; n <= 66; n++) {
+    for (uint32_t n = 0; n <= 67; n++) {
         printf("refusal %" PRIu32 " %s\n", n, bz_refusal_name(n));
-        check((n > 22 && n != 64 && n != 65) == (strcmp(bz_refusal_text(n), bz_refusal_text(1000)) == 0), "text", n);
+        check((n > 25 && (n < 64 || n > 66)) == (strcmp(bz_refusal_text(n), bz_refusal_text(1000)) == 0), "text", n);
     }
     for (uint32_t n = 0; n <= 13; n++) {
         printf("interface %" PRIu32 " %s\n", n, bz_interface_name(n));
+    }
+    for (uint32_t n = 0; n <= 8; n++) {
+        printf("parse_error %" PRIu32 " %s\n", n, bz_parse_error_name(n));
+        check((n < 1 || n > 7) == (bz_parse_error_text(n)[0] == 0), "text", n);
     }
     for (uint32_t n = 0; n <= 19; n++) {
         printf("event %" PRIu32 " %zu\n", n, bz_event_length(n));

@@ -57,7 +57,8 @@ enum { LINE_LIMIT = 65536, OUT_LIMIT = 1 << 21, OUT_USUAL = 4096, WORDS_LIMIT = 
     X(TOUCHSCREEN_CANCEL, "touchscreen.cancel", "LII") \
     X(TEXT_RELEASE, "text.release", "L") \
     X(TEXT_KEYSYM, "text.keysym", "LIS") \
-    X(TEXT_UTF8, "text.utf8", "LT")
+    X(TEXT_UTF8, "text.utf8", "LT") \
+    X(MESSAGE, "message", "T")
 #define STATION(X) \
     X(NEXT_REQUEST, "next_request", "") \
     X(READ, "read", "NT") \
@@ -387,7 +388,11 @@ typedef struct {
     size_t count;
     uint64_t value;
     uint32_t interface, version; /* that refusal 2 tells */
+    size_t taken;                /* by a message */
+    bozterrun_details details;   /* of one that is malformed */
 } told;
+
+static const told nothing_told = {0, 0, 0, 0, 0, 0, {0, {0}, {0}}};
 
 static void write_refusal(const told *t)
 {
@@ -395,12 +400,35 @@ static void write_refusal(const told *t)
     if (t->answer == BOZTERRUN_INVALID_INTERFACE_VERSION) {
         printf(" interface=%" PRIu32 " version=%" PRIu32, t->interface, t->version);
     }
+    if (t->answer != BOZTERRUN_MALFORMED) {
+        return;
+    }
+    const uint32_t parse_error = t->details.parse_error;
+    printf(" %s", bz_parse_error_name(parse_error));
+    switch (parse_error) {
+    case BOZTERRUN_PARSE_ERROR_INVALID_OPCODE:
+        printf(" %" PRIu32 " %" PRIu32, t->details.interface, t->details.opcode);
+        break;
+    case BOZTERRUN_PARSE_ERROR_INVALID_VARIANT:
+        printf(" %" PRIu32, t->details.variant);
+        break;
+    case BOZTERRUN_PARSE_ERROR_HEADER_LENGTH:
+        printf(" %" PRIu32, t->details.length);
+        break;
+    case BOZTERRUN_PARSE_ERROR_MESSAGE_LENGTH:
+        printf(" %" PRIu32 " %" PRIu32, t->details.read, t->details.header);
+        break;
+    default: /* the other cases have no numbers */
+        break;
+    }
 }
 
 static void write_answer(const told *t)
 {
     if (t->answer == BOZTERRUN_NONE) {
         printf("none");
+    } else if (t->answer == BOZTERRUN_WAIT) {
+        printf("wait");
     } else if (t->answer != BOZTERRUN_ACCEPTED) {
         write_refusal(t);
     } else if (line.verb == ADD_SEAT || line.verb == ADD_DEVICE) {
@@ -409,6 +437,8 @@ static void write_answer(const told *t)
         printf("%" PRIu64, t->value);
     } else if (line.verb == HAS_INTERFACE || line.verb == HAS_CAPABILITY) {
         printf(t->value == 1 ? "true" : "false");
+    } else if (line.verb == MESSAGE) {
+        printf("accepted taken %zu", t->taken);
     } else if (line.verb != NEXT_REQUEST) {
         printf("accepted");
     }
@@ -427,7 +457,8 @@ static size_t at_most(uint64_t length)
 static told shake(void)
 {
     bozterrun_handshake *const h = &run.handshake;
-    told t = {0, 0, 0, 0, 0};
+    uint32_t begun;
+    told t = nothing_told;
     switch (line.verb) {
     case HANDSHAKE_VERSION:
         t.answer = bz_handshake_handshake_version(h, N32(0));
@@ -444,6 +475,13 @@ static told shake(void)
     case HANDSHAKE_FINISH:
         t.answer = bz_handshake_finish(h, &run.session, LENT_OUT);
         if (t.answer == BOZTERRUN_ACCEPTED) {
+            run.phase = RUNNING;
+        }
+        break;
+    case MESSAGE:
+        t.answer = bz_handshake_pending_request(h, &run.session, line.text, line.length, out, at_most(run.out_length),
+                                                &t.taken, &t.count, &begun, &t.details);
+        if (begun == 1) {
             run.phase = RUNNING;
         }
         break;
@@ -464,7 +502,7 @@ static told call(void)
     bozterrun_session *const s = &run.session;
     const uint64_t id = line.n[0];
     bozterrun_request request;
-    told t = {0, 0, 0, 0, 0};
+    told t = nothing_told;
 #define RELEASE(capability) bz_interface_release(s, capability, id, LENT_OUT)
     switch (line.verb) {
     case HANDSHAKE_VERSION:
@@ -574,6 +612,12 @@ static told call(void)
         break;
     case TEXT_UTF8:
         t.answer = bz_text_utf8(s, id, line.text, line.length);
+        break;
+    case MESSAGE:
+        t.answer = bz_pending_request(s, line.text, line.length, run.clock, out, at_most(run.out_length), &t.taken,
+                                      &t.count, &t.details);
+        t.interface = t.details.interface;
+        t.version = t.details.version;
         break;
     case NEXT_REQUEST:
         t.answer = bz_next_request(s, &request, buffer, at_most(run.buffer_length));
@@ -723,7 +767,7 @@ static bool gather(void)
 /* Hands the read over, if it lacks no request. */
 static void hand_over(void)
 {
-    told t = {0, 0, 0, 0, 0};
+    told t = nothing_told;
     size_t accepted;
     if (reading.lacking > 0) {
         return;
@@ -742,7 +786,7 @@ static void hand_over(void)
 /* Does what the line asks for; false where no such call can be made here. */
 static bool play(void)
 {
-    told t = {0, 0, 0, 0, 0};
+    told t = nothing_told;
     if (reading.on) {
         if (!gather()) {
             return false;

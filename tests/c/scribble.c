@@ -15,7 +15,7 @@
 
 static const uint64_t values[] = {0, 1, 2, 15, 16, 17, 63, 64, 65, 255, 256, 1ULL << 31, UINT32_MAX, 1ULL << 32,
                                   1ULL << 63, UINT64_MAX};
-enum { VALUES = sizeof values / sizeof values[0], ANSWERS = 66, CALLS_A_ROUND = 24 };
+enum { VALUES = sizeof values / sizeof values[0], ANSWERS = 67, CALLS_A_ROUND = 24 };
 
 static unsigned long answers[CALLS][ANSWERS], made, failures;
 
@@ -57,7 +57,8 @@ static bool sound_handshake(void)
 
 static bool known(uint32_t answer)
 {
-    return answer <= BOZTERRUN_BAD_STATE || answer == BOZTERRUN_NONE;
+    return answer <= BOZTERRUN_BAD_STATE || answer == BOZTERRUN_NO_OBJECT || answer == BOZTERRUN_INVALID_ID ||
+           answer == BOZTERRUN_NONE;
 }
 
 /* Makes a call and checks it. `keep`: also that nothing has changed where it is not accepted. */
@@ -111,7 +112,7 @@ static void check_overrun(void)
 /* Calls that leave little of a damage: one begins a session anew, the others take seats and devices out. */
 static bool begins_session(size_t k)
 {
-    return calls[k].make == call_handshake_finish;
+    return calls[k].make == call_handshake_finish || calls[k].make == call_handshake_pending_request;
 }
 
 static bool ends_damage(size_t k)

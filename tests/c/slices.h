@@ -20,14 +20,17 @@
 /* ---- Slices ---- */
 
 enum {
-    HANDSHAKE, NAME, CONTROL, WORDS, REALS, TEXTS, OUT, BUFFER, TEXT, RECORDS, POINTS, /* slices */
-    NUMBERS, COORDINATES,                                                              /* arrays */
-    COUNT, VALUE, FIRST, SECOND,                                                       /* one number each */
+    HANDSHAKE, NAME, CONTROL, WORDS, REALS, TEXTS, OUT, BUFFER, TEXT, RECORDS, POINTS, MESSAGE, FINISH, /* slices */
+    NUMBERS, COORDINATES,                                                                               /* arrays */
+    COUNT, VALUE, FIRST, SECOND, CASE, BEGUN, /* one number each */
     SLICES
 };
 
 /* The records of the read that is handed over: a Sync, a key, and a text that is a part of TEXT. */
 enum { READ_SYNC, READ_KEY, READ_TEXT, READ_RECORDS };
+
+/* The messages: a Sync in the session, and in the handshake its Finish. */
+enum { SYNC_LENGTH = 28, FINISH_LENGTH = 16 };
 
 enum { PAGE = 4096, BEFORE_BYTE = 0xa5, LENT_BYTE = 0xee };
 
@@ -52,12 +55,16 @@ static slice slices[SLICES] = {
     {"text", 1, 20, 0, NULL, NULL, NULL, NULL},
     {"records", 8, READ_RECORDS * BOZTERRUN_RECORD_LENGTH, 0, NULL, NULL, NULL, NULL},
     {"points", 4, READ_RECORDS * BOZTERRUN_POINT_LENGTH, 0, NULL, NULL, NULL, NULL},
+    {"message", 1, SYNC_LENGTH, 0, NULL, NULL, NULL, NULL},
+    {"handshake's message", 1, FINISH_LENGTH, 0, NULL, NULL, NULL, NULL},
     {"numbers", 8, 5, 0, NULL, NULL, NULL, NULL},
     {"coordinates", 4, 2, 0, NULL, NULL, NULL, NULL},
     {"count", 8, 1, 0, NULL, NULL, NULL, NULL},
     {"value", 8, 1, 0, NULL, NULL, NULL, NULL},
     {"first told number", 4, 1, 0, NULL, NULL, NULL, NULL},
     {"second told number", 4, 1, 0, NULL, NULL, NULL, NULL},
+    {"case", 4, 1, 0, NULL, NULL, NULL, NULL},
+    {"begun", 4, 1, 0, NULL, NULL, NULL, NULL},
 };
 
 static size_t slice_bytes(const slice *s)
@@ -201,6 +208,9 @@ CALL(handshake_context_type, L_HANDSHAKE, with.context_type)
 CALL(handshake_interface_version, L_HANDSHAKE, BYTES(TEXT), 1)
 CALL(handshake_other, L_HANDSHAKE, BYTES(TEXT))
 CALL(handshake_finish, L_HANDSHAKE, L_CONTROL, L_OUT)
+CALL(handshake_pending_request, L_HANDSHAKE, L_CONTROL, BYTES(FINISH), BYTES(OUT), PLACE_OF(size_t, VALUE),
+     PLACE_OF(size_t, COUNT), PLACE_OF(uint32_t, BEGUN), PLACE_OF(uint32_t, CASE), PLACE_OF(uint32_t, FIRST),
+     PLACE_OF(uint32_t, SECOND))
 CALL(handshake_client, L_HANDSHAKE, PLACE_OF(uint32_t, FIRST), PLACE_OF(size_t, COUNT), PLACE_OF(uint32_t, SECOND))
 CALL(pointer_motion_relative, L_ROWS, interface_of(0), 1.0F, -2.0F)
 CALL(pointer_absolute_motion_absolute, L_ROWS, interface_of(1), 3.0F, 4.0F)
@@ -231,6 +241,8 @@ CALL(pingpong_done, L_CONTROL)
 CALL(unexpected_handshake, L_CONTROL, with.opcode, 1, BYTES(TEXT))
 CALL(handle_requests, L_SESSION, WORDS_OF(RECORDS), REALS_OF(POINTS), BYTES(TEXT), 506, BYTES(OUT),
      PLACE_OF(size_t, VALUE), PLACE_OF(size_t, COUNT), PLACE_OF(uint32_t, FIRST), PLACE_OF(uint32_t, SECOND))
+CALL(pending_request, L_SESSION, BYTES(MESSAGE), 507, BYTES(OUT), PLACE_OF(size_t, VALUE), PLACE_OF(size_t, COUNT),
+     PLACE_OF(uint32_t, CASE), PLACE_OF(uint32_t, FIRST), PLACE_OF(uint32_t, SECOND))
 CALL(next_request, L_SESSION, PLACE_OF(uint64_t, NUMBERS), PLACE_OF(float, COORDINATES), BYTES(BUFFER))
 CALL(add_seat, L_CONTROL, with.given, BYTES(TEXT), with.mask, L_OUT, PLACE_OF(uint64_t, VALUE))
 CALL(add_device, L_CONTROL, with.seat, with.given, BYTES(TEXT), with.device_type, with.mask, L_OUT,
@@ -260,9 +272,17 @@ enum {
  * The calls. `good` is what each answers on the session with two devices that session_make makes, `writes` how many
  * bytes it then writes to out (next_request: to its buffer), by the table of records in docs/REFERENCE.md: a seat or a
  * device with a name of 20 bytes and seven capabilities, a seat with one device of seven interfaces. `told` are the
- * numbers that it tells; the value of a read is how many were accepted. What it writes, its first record writes.
+ * numbers that it tells; the value of a read is how many were accepted, that of a message how many bytes it took. What
+ * a read writes, its first record writes.
  */
-enum { TELLS_COUNT = 1, TELLS_VALUE = 2, TELLS_TWO = 4 };
+enum {
+    TELLS_COUNT = 1,
+    TELLS_VALUE = 2,
+    TELLS_TWO = 4,
+    TELLS_CASE = 8,
+    TELLS_BEGUN = 16,
+    TELLS_MESSAGE = TELLS_COUNT | TELLS_VALUE | TELLS_TWO | TELLS_CASE
+};
 
 typedef struct {
     const char *name;
@@ -282,6 +302,7 @@ static const call calls[] = {
     ROW(handshake_interface_version, M_HANDSHAKE, 0, 0, 0),
     ROW(handshake_other, M_HANDSHAKE, BOZTERRUN_NON_HANDSHAKE_EVENT, 0, 0),
     ROW(handshake_finish, M_HANDSHAKE | M_CONTROL, 0, 12 * 15 + 26, TELLS_COUNT),
+    ROW(handshake_pending_request, M_HANDSHAKE | M_CONTROL, 0, 12 * 15 + 26, TELLS_MESSAGE | TELLS_BEGUN),
     ROW(handshake_client, M_HANDSHAKE, 0, 0, TELLS_COUNT | TELLS_TWO),
     ROW(pointer_motion_relative, M_ROWS, 0, 0, 0),
     ROW(pointer_absolute_motion_absolute, M_ROWS, 0, 0, 0),
@@ -310,6 +331,7 @@ static const call calls[] = {
     ROW(pingpong_done, M_CONTROL, 0, 0, 0),
     ROW(unexpected_handshake, M_CONTROL, BOZTERRUN_UNEXPECTED_HANDSHAKE_EVENT, 0, 0),
     ROW(handle_requests, M_SESSION, 0, 18, TELLS_COUNT | TELLS_VALUE | TELLS_TWO),
+    ROW(pending_request, M_SESSION, 0, 18, TELLS_MESSAGE),
     ROW(next_request, M_SESSION, 0, 20, 0),
     ROW(add_seat, M_CONTROL, 0, 22 + 30 + 7 * 19 + 10, TELLS_COUNT | TELLS_VALUE),
     ROW(add_device, M_CONTROL, 0, 22 + 30 + 14 + 7 * 23 + 10, TELLS_COUNT | TELLS_VALUE),
@@ -337,6 +359,11 @@ static bozterrun_handshake handshake_image;
 static bozterrun_session session_image;
 static bozterrun_record records_image[READ_RECORDS];
 static bozterrun_point points_image[READ_RECORDS];
+
+/* On the connection, opcode 0: the callback 9, version 1. On the handshake, opcode 1. */
+static const uint8_t sync_image[SYNC_LENGTH] = {0, 0, 0, 0, 0, 0, 0, 255, 28, 0, 0, 0, 0,
+                                                0, 0, 0, 9, 0, 0, 0, 0,   0,  0, 0, 1};
+static const uint8_t finish_image[FINISH_LENGTH] = {0, 0, 0, 0, 0, 0, 0, 0, 16, 0, 0, 0, 1};
 
 static void must(const char *what, uint32_t answer)
 {
@@ -398,6 +425,8 @@ static void session_make(unsigned devices, unsigned place)
     records_image[READ_TEXT].length = 5;
     slices[RECORDS].image = records_image;
     slices[POINTS].image = points_image;
+    slices[MESSAGE].image = sync_image;
+    slices[FINISH].image = finish_image;
     slices[HANDSHAKE].image = handshake_image.words;
     slices[NAME].image = handshake_image.name;
     slices[CONTROL].image = s->control;

@@ -1,6 +1,7 @@
 /*
- * twins SEED LENGTH: a session of 40 rounds over every timed request, one by one and then in a read, which is the same
- * for every SEED but for its payload. It prints every answer without the payload, so two seeds must print the same.
+ * twins SEED LENGTH: a session of 40 rounds over every timed request, one by one, then in a read, then as messages,
+ * which is the same for every SEED but for its payload. It prints every answer without the payload, so two seeds must
+ * print the same.
  *
  * Payload is what docs/PROMISES.md and model/specs/Payload have for it: keys, buttons, keysyms and their states,
  * coordinates, amounts, the axes of a stop, and the bytes of a text. Texts have LENGTH bytes (1 to 254); those of an
@@ -97,6 +98,107 @@ static void read_round(unsigned round, const char *makeup, size_t length)
     printf("accepted %zu, %zu bytes\n", accepted, written);
 }
 
+/* ---- Messages ---- */
+
+static uint8_t message[BOZTERRUN_MESSAGE_LENGTH];
+static size_t message_length;
+
+static void put(uint64_t n, size_t width)
+{
+    memcpy(message + message_length, &n, width); /* little-endian, as the machine */
+    message_length += width;
+}
+
+static void put_real(float f)
+{
+    memcpy(message + message_length, &f, sizeof f);
+    message_length += sizeof f;
+}
+
+static void begin_message(uint64_t object, uint32_t opcode)
+{
+    message_length = 0;
+    put(object, 8);
+    put(0, 4);
+    put(opcode, 4);
+}
+
+static void send_message(const char *call)
+{
+    size_t taken, written;
+    bozterrun_details details;
+    const uint32_t length = (uint32_t)message_length;
+    memcpy(message + 8, &length, sizeof length);
+    tell(call, bz_pending_request(&session, message, message_length, 6, out, sizeof out, &taken, &written, &details));
+    printf("taken %zu, %zu bytes, case %" PRIu32 "\n", taken, written, details.parse_error);
+}
+
+/* And as messages, a Sync behind them. */
+static void message_round(unsigned round, const char *makeup, size_t length)
+{
+    const float x = random_real();
+    begin_message(device + 3, 1);
+    put(random_32(), 4);
+    put(random_state_of_press(), 4);
+    send_message("key");
+    begin_message(device + 6, 1);
+    put(random_32(), 4);
+    put(random_state_of_press(), 4);
+    send_message("button");
+    begin_message(device + 1, 1);
+    put_real(x);
+    put_real(random_real());
+    send_message("motion");
+    begin_message(device + 2, 1);
+    put_real(random_real());
+    put_real(x);
+    send_message("absolute motion");
+    begin_message(device + 5, 1);
+    put_real(x);
+    put_real(random_real());
+    send_message("scroll");
+    begin_message(device + 5, 2);
+    put(random_32(), 4);
+    put(random_32(), 4);
+    send_message("discrete");
+    begin_message(device + 5, 3);
+    put(below(3), 4);
+    put(below(3), 4);
+    put(round % 2, 4);
+    send_message("stop");
+    begin_message(device + 7, 1);
+    put(random_32(), 4);
+    put(random_state_of_press(), 4);
+    send_message("keysym");
+    begin_message(device + 4, 1);
+    put(150 + round, 4);
+    put_real(x);
+    put_real(random_real());
+    send_message("down");
+    begin_message(device + 4, 2);
+    put(150 + round, 4);
+    put_real(random_real());
+    put_real(x);
+    send_message("touch motion");
+    begin_message(device + 4, round % 2 == 0 ? 3 : 4);
+    put(149 + round, 4);
+    send_message("up or cancel");
+    begin_message(device + 7, 2);
+    put(length + 1, 4);
+    fill_text(message + message_length, length, makeup);
+    memset(message + message_length + length, 0, 4);
+    message_length += (length + 4) / 4 * 4;
+    send_message("utf8");
+    begin_message(0xff00000000000000, 0);
+    put(1 + round, 8);
+    put(1, 4);
+    send_message("sync");
+    begin_message(device, 3);
+    put(7, 4);
+    put(3000 + round, 8);
+    send_message("frame");
+}
+
 /* What is given, but for its payload. */
 static void take_round(void)
 {
@@ -131,6 +233,8 @@ int main(int count, char **words)
         send_round(round, makeup, length);
         take_round();
         read_round(round, makeup, length);
+        take_round();
+        message_round(round, makeup, length);
         take_round();
         tell("last_serial", bz_last_serial(&session, &serial));
         printf("serial %" PRIu64 "\n", serial);
