@@ -1,5 +1,6 @@
 //! Sessions alike in all but payload, through the crate: `twins SEED` sends every kind of timed request but texts forty
-//! times, in frames, one by one and then in a read, takes apart what is delivered, and writes how much that was.
+//! times, in frames, one by one, then in a read, then as bytes, takes apart what is delivered, and writes how much that
+//! was.
 //!
 //! The seed decides keys, states, buttons, amounts and coordinates and nothing else, so a program that counts
 //! instructions finds the same number at every seed if no path of the crate hangs on them.
@@ -80,6 +81,30 @@ fn request(payload: &mut Payload, interfaces: &[Object; 7], i: usize) -> Request
     }
 }
 
+/// Adds the message of a request to the bytes.
+fn put_message(bytes: &mut Vec<u8>, object: u64, opcode: u32, arguments: &[u32]) {
+    bytes.extend(object.to_le_bytes());
+    bytes.extend((16 + 4 * arguments.len() as u32).to_le_bytes());
+    bytes.extend(opcode.to_le_bytes());
+    for argument in arguments {
+        bytes.extend(argument.to_le_bytes());
+    }
+}
+
+/// The same round as bytes, its frame behind it.
+fn put_round(bytes: &mut Vec<u8>, payload: &mut Payload, device: Device, interfaces: &[Object; 7], timestamp: u32) {
+    let [pointer, absolute, keyboard, touch, scroll, buttons, texts] = interfaces.map(|interface| interface.id);
+    for (object, opcode) in [(pointer, 1), (absolute, 1), (scroll, 1), (scroll, 2)] {
+        put_message(bytes, object, opcode, &[payload.number(), payload.number()]);
+    }
+    for object in [keyboard, buttons, texts] {
+        put_message(bytes, object, 1, &[payload.number(), payload.number() >> 31]);
+    }
+    put_message(bytes, touch, 1, &[1, payload.number(), payload.number()]);
+    put_message(bytes, touch, 3, &[1]);
+    put_message(bytes, device.id(), 3, &[7, timestamp, 0]);
+}
+
 /// Takes a delivered request apart.
 fn take(request: EisRequest) {
     match request {
@@ -124,7 +149,7 @@ fn rounds(
     seed: u64,
 ) -> Result<u64, Refusal> {
     let (mut payload, mut read) = (Payload(seed), Read::with_capacity(10, 0));
-    let mut given = 0;
+    let (mut bytes, mut given) = (Vec::with_capacity(512), 0);
     for timestamp in 0..40 {
         for i in 0..9 {
             converter.handle_request(request(&mut payload, interfaces, i), 5, &mut [])?;
@@ -138,6 +163,13 @@ fn rounds(
         read.push(Request::Device(device, frame));
         if let Some(refusal) = converter.handle_requests(&read, 5, &mut []).refusal {
             return Err(refusal);
+        }
+        given += take_all(converter)?;
+        bytes.clear();
+        put_round(&mut bytes, &mut payload, device, interfaces, timestamp as u32);
+        let mut at = 0;
+        while let Some(received) = converter.pending_request(&bytes[at..], 5, &mut [])? {
+            at += received.taken;
         }
         given += take_all(converter)?;
     }

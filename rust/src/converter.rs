@@ -8,6 +8,7 @@ use crate::{
     },
     event::Events,
     handshake::EisHandshakeResp,
+    message::{Received, Told, WAIT},
     read::{Handled, Read},
     request::{EisRequest, Numbers},
     session::{Session, NONE},
@@ -49,7 +50,8 @@ fn quiet<'o>(status: u32) -> Result<Events<'o>, Refusal> {
 /// Gathers a client's requests into frames, and delivers them in order.
 ///
 /// Each request of the client goes to [`handle_request`](Self::handle_request), or many of them in one call to
-/// [`handle_requests`](Self::handle_requests); what there is to act on comes from
+/// [`handle_requests`](Self::handle_requests), or its bytes as they were received to
+/// [`pending_request`](Self::pending_request); what there is to act on comes from
 /// [`next_request`](Self::next_request). A timed request (a key, a touch, a text) waits for the frame of its device
 /// and gets its time. The station's own calls are those of [`Connection`], which [`handle_mut`](Self::handle_mut)
 /// hands out.
@@ -269,6 +271,102 @@ impl EisRequestConverter {
                 0 => None,
                 _ => Some(Refusal::from_versioned(status, interface, version)),
             },
+        }
+    }
+
+    /// Handles the first message of a client's bytes, as they were received: it is read by the object that it addresses
+    /// and handed on as the one request that it stands for. Bytes behind it are not read. `now` is the clock, as for
+    /// [`handle_request`](Self::handle_request).
+    ///
+    /// Answers how many bytes the message had, and what the client is to be sent; `None` where it is not yet whole.
+    /// Messages are those of the ei protocol, little-endian, of [`MESSAGE_LENGTH`](crate::MESSAGE_LENGTH) bytes at most.
+    ///
+    /// ```
+    /// # include!(concat!(env!("CARGO_MANIFEST_DIR"), "/tests/begin/mod.rs"));
+    /// # fn main() -> Result<(), bozterrun::Refusal> {
+    /// use bozterrun::{DeviceCapability::Keyboard, DeviceType, EisRequest, KeyState, ParseError, Refusal};
+    ///
+    /// # let (mut converter, now) = (begin(7), 0);
+    /// # let mut out = [0; bozterrun::OUT_LENGTH];
+    /// # let (seat, _) = converter.handle_mut().add_seat(None, Keyboard, &mut out)?;
+    /// let (device, _) = converter.handle_mut().add_device(seat, None, DeviceType::Virtual, Keyboard, &mut out)?;
+    /// let keyboard = converter.handle().interface(device, Keyboard)?.expect("the device has a keyboard");
+    ///
+    /// // What the client sends: the object's id, the length, the opcode, the arguments.
+    /// let message = |id: u64, opcode: u32, arguments: &[u8]| {
+    ///     let length = 16 + arguments.len() as u32;
+    ///     [&id.to_le_bytes(), &length.to_le_bytes()[..], &opcode.to_le_bytes(), arguments].concat()
+    /// };
+    /// let key = message(keyboard.id, 1, &[30, 0, 0, 0, 1, 0, 0, 0]); // the key 30 is pressed
+    /// let frame = message(device.id(), 3, &[7, 0, 0, 0, 244, 1, 0, 0, 0, 0, 0, 0]); // serial 7, at 500
+    /// let bytes = [key, frame].concat();
+    ///
+    /// let mut at = 0;
+    /// while let Some(received) = converter.pending_request(&bytes[at..], now, &mut out)? {
+    ///     at += received.taken; // and `received.events` are sent
+    /// }
+    /// assert_eq!(at, 24 + 28);
+    /// let mut text = [0; bozterrun::TEXT_LENGTH];
+    /// let Some(EisRequest::KeyboardKey(pressed)) = converter.next_request(&mut text)? else { panic!() };
+    /// assert_eq!((pressed.key, pressed.state, pressed.time), (30, KeyState::Press, 500));
+    ///
+    /// // A refused message takes nothing.
+    /// let refused = converter.pending_request(&message(keyboard.id, 2, &[]), now, &mut out).unwrap_err();
+    /// assert_eq!(refused, Refusal::Malformed(ParseError::InvalidOpcode("ei_keyboard", 2)));
+    /// # Ok(()) }
+    /// ```
+    ///
+    /// # Errors
+    ///
+    /// [`Refusal::NoObject`] where no object with the addressed id is alive, [`Refusal::Malformed`],
+    /// [`Refusal::InvalidId`]; then the refusals of the request, as [`handle_request`](Self::handle_request) has them.
+    /// Object and length are looked at as soon as the header is there, the rest once the message is whole. Nothing is
+    /// taken by a message that is refused: make room and hand the same bytes in again, or disconnect the client, or go
+    /// on behind it, as many bytes further as its header says.
+    pub fn pending_request<'o>(
+        &mut self,
+        message: &[u8],
+        now: u64,
+        out: &'o mut [u8],
+    ) -> Result<Option<Received<'o>>, Refusal> {
+        let Session {
+            control,
+            words,
+            reals,
+            texts,
+        } = self.session();
+        let mut told = Told::default();
+        // SAFETY: the four slices of the session, `out` and the numbers are borrowed mutably for the call; the message
+        // is only read.
+        let status = unsafe {
+            sys::bozterrun_pending_request(
+                control.as_mut_ptr(),
+                control.len(),
+                words.as_mut_ptr(),
+                words.len(),
+                reals.as_mut_ptr(),
+                reals.len(),
+                texts.as_mut_ptr(),
+                texts.len(),
+                message.as_ptr(),
+                message.len(),
+                now,
+                out.as_mut_ptr(),
+                out.len(),
+                &mut told.taken,
+                &mut told.count,
+                &mut told.error,
+                &mut told.first,
+                &mut told.second,
+            )
+        };
+        match status {
+            0 => Ok(Some(Received {
+                taken: told.taken,
+                events: Events::written(out, told.count),
+            })),
+            WAIT => Ok(None),
+            _ => Err(told.refusal(status)),
         }
     }
 

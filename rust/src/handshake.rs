@@ -6,7 +6,8 @@ use crate::{
         Request,
     },
     event::{Events, Interface},
-    session::{Session, HANDSHAKE_LENGTH, NAME_LENGTH},
+    message::{HandshakeReceived, Told, WAIT},
+    session::{Session, CONTROL_LENGTH, HANDSHAKE_LENGTH, NAME_LENGTH},
     sys, Refusal,
 };
 use std::{collections::HashMap, fmt};
@@ -214,6 +215,109 @@ impl EisHandshaker {
         if status != 0 {
             return Err(Refusal::from_finish(status, count));
         }
+        Ok((self.response(session)?, Events::written(out, count)))
+    }
+
+    /// Handles the first message of a client's bytes, as they were received: it is handed on as the request that it
+    /// stands for. Bytes behind it are not read.
+    ///
+    /// Answers how many bytes the message had, what the client is to be sent, and the response where it was a Finish;
+    /// `None` where it is not yet whole. What is behind a Finish goes to
+    /// [`EisRequestConverter::pending_request`](crate::EisRequestConverter::pending_request).
+    ///
+    /// ```
+    /// use bozterrun::{EisHandshaker, EisRequestConverter, Refusal};
+    ///
+    /// // What the client sends: the object's id, here 0, the length, the opcode, the arguments.
+    /// fn message(opcode: u32, arguments: &[u8]) -> Vec<u8> {
+    ///     let length = 16 + arguments.len() as u32;
+    ///     [&[0; 8], &length.to_le_bytes()[..], &opcode.to_le_bytes(), arguments].concat()
+    /// }
+    /// // A text: its length with a closing zero, its bytes, and zeros up to a multiple of four.
+    /// fn text(bytes: &[u8]) -> Vec<u8> {
+    ///     let length = bytes.len() as u32 + 1;
+    ///     let mut text = [&length.to_le_bytes(), bytes].concat();
+    ///     text.resize(4 + length.next_multiple_of(4) as usize, 0);
+    ///     text
+    /// }
+    /// let mut bytes = message(3, &text(b"token"));
+    /// for name in ["ei_connection", "ei_callback", "ei_pingpong"] {
+    ///     bytes.extend(message(4, &[text(name.as_bytes()), vec![1, 0, 0, 0]].concat()));
+    /// }
+    /// bytes.extend(message(1, &[]));
+    ///
+    /// let mut out = [0; bozterrun::OUT_LENGTH];
+    /// let (mut handshaker, _) = EisHandshaker::new(7, &mut out)?;
+    /// let mut at = 0;
+    /// let mut converter = None;
+    /// while let Some(received) = handshaker.pending_request(&bytes[at..], &mut out)? {
+    ///     at += received.taken; // and `received.events` are sent
+    ///     if let Some(response) = received.response {
+    ///         assert_eq!(response.name.as_deref(), Some("token"));
+    ///         converter = Some(EisRequestConverter::new(response));
+    ///         break;
+    ///     }
+    /// }
+    /// assert_eq!(at, bytes.len());
+    /// let mut converter = converter.expect("the handshake is finished");
+    /// assert!(converter.pending_request(&bytes[at..], 0, &mut out)?.is_none()); // it waits
+    /// # Ok::<(), Refusal>(())
+    /// ```
+    ///
+    /// # Errors
+    ///
+    /// [`Refusal::NoObject`] for an object that is not alive: the handshake's own is until its Finish succeeds.
+    /// [`Refusal::Malformed`], [`Refusal::InvalidId`]; then what [`handle_request`](Self::handle_request) refuses, but
+    /// [`Refusal::BadUtf8`], which is [`Refusal::Malformed`] here. Nothing is taken by a message that is refused.
+    pub fn pending_request<'o>(
+        &mut self,
+        message: &[u8],
+        out: &'o mut [u8],
+    ) -> Result<Option<HandshakeReceived<'o>>, Refusal> {
+        // The session's memory is made where it begins.
+        let mut control = [0; CONTROL_LENGTH];
+        let mut told = Told::default();
+        // SAFETY: each pointer is that of a slice or a number that is borrowed mutably for the call, with its length;
+        // the message is only read.
+        let status = unsafe {
+            sys::bozterrun_handshake_pending_request(
+                self.words.as_mut_ptr(),
+                self.words.len(),
+                self.name.as_mut_ptr(),
+                self.name.len(),
+                control.as_mut_ptr(),
+                control.len(),
+                message.as_ptr(),
+                message.len(),
+                out.as_mut_ptr(),
+                out.len(),
+                &mut told.taken,
+                &mut told.count,
+                &mut told.begun,
+                &mut told.error,
+                &mut told.first,
+                &mut told.second,
+            )
+        };
+        let response = match (status, told.begun) {
+            (0, 0) => None,
+            (0, _) => {
+                let mut session = Session::zeroed();
+                session.control = control;
+                Some(self.response(session)?)
+            }
+            (WAIT, _) => return Ok(None),
+            _ => return Err(told.refusal(status)),
+        };
+        Ok(Some(HandshakeReceived {
+            taken: told.taken,
+            events: Events::written(out, told.count),
+            response,
+        }))
+    }
+
+    /// What the handshake comes to, with the session that it has begun.
+    fn response(&self, session: Box<Session>) -> Result<EisHandshakeResp, Refusal> {
         let (name, context_type) = self.client()?;
         let mut negotiated_interfaces = HashMap::new();
         for interface in Interface::ALL {
@@ -221,13 +325,12 @@ impl EisHandshaker {
                 negotiated_interfaces.insert(interface.name(), version);
             }
         }
-        let response = EisHandshakeResp {
+        Ok(EisHandshakeResp {
             name,
             context_type,
             negotiated_interfaces,
             session,
-        };
-        Ok((response, Events::written(out, count)))
+        })
     }
 
     /// Who the client says it is.

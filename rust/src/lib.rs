@@ -42,7 +42,8 @@
 //! # Ok::<(), bozterrun::Refusal>(())
 //! ```
 //!
-//! What one wakeup brings can be gathered in a [`Read`] and handed over in one call.
+//! What one wakeup brings can be gathered in a [`Read`] and handed over in one call. Or the station decodes nothing: the
+//! bytes that its client sends go to [`EisHandshaker::pending_request`] and [`EisRequestConverter::pending_request`].
 //!
 //! A call that is refused answers a [`Refusal`] and leaves the session as it was. Nothing here panics on what a client
 //! sends, blocks, or locks; memory is allocated once for each session.
@@ -57,6 +58,7 @@ mod converter;
 pub mod eis;
 mod event;
 mod handshake;
+mod message;
 mod read;
 mod refusal;
 pub mod request;
@@ -71,6 +73,7 @@ pub use eis::{
 };
 pub use event::{Event, EventKind, Events, Interface};
 pub use handshake::{EisHandshakeResp, EisHandshaker};
+pub use message::{HandshakeReceived, ParseError, Received, HEADER_LENGTH, MESSAGE_LENGTH};
 pub use read::{Handled, Read};
 pub use refusal::Refusal;
 pub use request::{Device, EisRequest, Seat};

@@ -1,6 +1,6 @@
 //! Why a call is refused.
 
-use crate::event::Interface;
+use crate::{event::Interface, message::ParseError};
 use std::{error, fmt};
 
 /// Why a call is refused.
@@ -74,6 +74,12 @@ pub enum Refusal {
     BadState,
     /// 22: the part of a request with text goes past the end of the texts of its read.
     BadPart,
+    /// 23: bytes that are no message, and why.
+    Malformed(ParseError),
+    /// 24: a message to an object that is not alive.
+    NoObject,
+    /// 25: a Sync whose callback's id is not above all that the client gave before, or is the server's.
+    InvalidId,
 }
 
 impl Refusal {
@@ -101,6 +107,8 @@ impl Refusal {
             19 => Self::ShortOut,
             20 => Self::IdsSpent,
             22 => Self::BadPart,
+            24 => Self::NoObject,
+            25 => Self::InvalidId,
             _ => Self::BadState,
         }
     }
@@ -125,7 +133,7 @@ impl Refusal {
         }
     }
 
-    /// Its number, 1 to 22.
+    /// Its number, 1 to 25.
     ///
     /// ```
     /// assert_eq!(bozterrun::Refusal::ShortOut.number(), 19);
@@ -155,6 +163,9 @@ impl Refusal {
             Self::IdsSpent => 20,
             Self::BadState => 21,
             Self::BadPart => 22,
+            Self::Malformed(_) => 23,
+            Self::NoObject => 24,
+            Self::InvalidId => 25,
         }
     }
 
@@ -188,6 +199,9 @@ impl Refusal {
             Self::IdsSpent => "IdsSpent",
             Self::BadState => "BadState",
             Self::BadPart => "BadPart",
+            Self::Malformed(_) => "Malformed",
+            Self::NoObject => "NoObject",
+            Self::InvalidId => "InvalidId",
         }
     }
 }
@@ -223,6 +237,9 @@ impl fmt::Display for Refusal {
             Self::IdsSpent => "no object ids are left",
             Self::BadState => "the memory is no session's and cannot be trusted",
             Self::BadPart => "the part goes past the end of the texts of its read",
+            Self::Malformed(error) => return write!(f, "the client's message is malformed: {error}"),
+            Self::NoObject => "the client sent a message to an object that is not alive",
+            Self::InvalidId => "the client gave a new object an id that it may not have",
         })
     }
 }
@@ -238,6 +255,7 @@ pub(crate) mod tests {
         match number {
             2 => Refusal::from_versioned(2, 11, 1),
             9 => Refusal::from_finish(9, 15),
+            23 => Refusal::Malformed(ParseError::HeaderLength(15)),
             _ => Refusal::from_number(number),
         }
     }
@@ -256,7 +274,7 @@ pub(crate) mod tests {
 
     #[test]
     fn answers_that_the_library_does_not_give_are_bad_state() {
-        for number in [0, 2, 9, 23, 64, 65, u32::MAX] {
+        for number in [0, 2, 9, 23, 26, 64, 65, 66, u32::MAX] {
             assert_eq!(Refusal::from_number(number), Refusal::BadState);
         }
         assert_eq!(Refusal::from_versioned(2, 0, 7), Refusal::BadState);
@@ -264,7 +282,7 @@ pub(crate) mod tests {
 
     #[test]
     fn each_has_a_name_and_a_sentence_of_its_own() {
-        for number in 1..=22 {
+        for number in 1..=25 {
             let refusal = of_number(number);
             assert!(format!("{refusal:?}").starts_with(refusal.name()));
             assert!(refusal.to_string().contains(' '));

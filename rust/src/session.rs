@@ -55,6 +55,7 @@ impl Session {
 #[cfg(test)]
 mod tests {
     use super::*;
+    use crate::message::{HEADER_LENGTH, MESSAGE_LENGTH, WAIT};
     use crate::{sys, DeviceCapability, DisconnectReason, Interface};
     use crate::{ButtonState, ContextType, DeviceType, KeyState};
 
@@ -90,8 +91,8 @@ mod tests {
 
     #[test]
     fn numbers_are_the_librarys() {
-        let refusals = (1..=22).map(|number| u64::from(crate::refusal::tests::of_number(number).number()));
-        let others = [u64::from(NONE), 65];
+        let refusals = (1..=25).map(|number| u64::from(crate::refusal::tests::of_number(number).number()));
+        let others = [u64::from(NONE), 65, u64::from(WAIT)];
         let kinds = 0..22;
         let interfaces = Interface::ALL.map(|interface| u64::from(interface.number()));
         let capabilities = DeviceCapability::ALL.map(DeviceCapability::bits);
@@ -108,6 +109,8 @@ mod tests {
         .map(|reason| u64::from(reason.number()));
         // The requests of a read, and the words and the reals of a record.
         let (requests, record) = (0..36, [8, 2]);
+        // The cases of a malformed message, the bytes of a header and the most of a message.
+        let (cases, message) = (1..=7, [HEADER_LENGTH as u64, MESSAGE_LENGTH as u64]);
         let ours: Vec<u64> = refusals
             .chain(others)
             .chain(kinds)
@@ -118,6 +121,8 @@ mod tests {
             .chain(reasons)
             .chain(requests)
             .chain(record)
+            .chain(cases)
+            .chain(message)
             .collect();
         let theirs: Vec<u64> = (0..ours.len()).map(number).collect();
         assert_eq!(theirs, ours);

@@ -1,5 +1,6 @@
 //! The functions of the library, as crates/bozterrun exports them: a slice passes as a pointer and its length, what
-//! is answered as numbers. Each returns 0, the number of a refusal, or 64 where there is nothing to give.
+//! is answered as numbers. Each returns 0, the number of a refusal, 64 where there is nothing to give, or 66
+//! where a message is not yet whole.
 
 extern "C" {
     pub fn bozterrun_handshake_new(
@@ -61,6 +62,24 @@ extern "C" {
         out: *mut u8,
         out_length: usize,
         count: *mut usize,
+    ) -> u32;
+    pub fn bozterrun_handshake_pending_request(
+        handshake: *mut u64,
+        handshake_length: usize,
+        name: *mut u8,
+        name_length: usize,
+        control: *mut u64,
+        control_length: usize,
+        message: *const u8,
+        message_length: usize,
+        out: *mut u8,
+        out_length: usize,
+        taken: *mut usize,
+        count: *mut usize,
+        begun: *mut u32,
+        parse_error: *mut u32,
+        first: *mut u32,
+        second: *mut u32,
     ) -> u32;
     pub fn bozterrun_handshake_client(
         handshake: *const u64,
@@ -367,6 +386,27 @@ extern "C" {
         count: *mut usize,
         refused_interface: *mut u32,
         refused_version: *mut u32,
+    ) -> u32;
+
+    pub fn bozterrun_pending_request(
+        control: *mut u64,
+        control_length: usize,
+        words: *mut u64,
+        words_length: usize,
+        reals: *mut f32,
+        reals_length: usize,
+        texts: *mut u8,
+        texts_length: usize,
+        message: *const u8,
+        message_length: usize,
+        clock: u64,
+        out: *mut u8,
+        out_length: usize,
+        taken: *mut usize,
+        count: *mut usize,
+        parse_error: *mut u32,
+        first: *mut u32,
+        second: *mut u32,
     ) -> u32;
 
     pub fn bozterrun_next_request(

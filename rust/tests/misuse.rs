@@ -89,6 +89,19 @@ fn handed_over(read: fn() -> Read) -> Call {
     Box::new(move |converter, out| converter.handle_requests(&read(), 5, out).refusal.map_or(Ok(()), Err))
 }
 
+/// The bytes of a message, all numbers of 32 bits: the object, the opcode, the arguments.
+fn message(object: u64, opcode: u32, arguments: &[u32]) -> Vec<u8> {
+    let mut bytes = object.to_le_bytes().to_vec();
+    bytes.extend((16 + 4 * arguments.len() as u32).to_le_bytes());
+    bytes.extend(opcode.to_le_bytes());
+    bytes.extend(arguments.iter().flat_map(|number| number.to_le_bytes()));
+    bytes
+}
+
+fn received(bytes: Vec<u8>) -> Call {
+    Box::new(move |converter, out| converter.pending_request(&bytes, 5, out).map(drop))
+}
+
 fn made<F>(call: F) -> Call
 where
     F: Fn(&mut bozterrun::Connection, &mut [u8]) -> Result<(), Refusal> + 'static,
@@ -221,6 +234,11 @@ fn every_call() -> Vec<Call> {
         made(|connection, _| connection.interface_version(b"ei_text").map(drop)),
         made(|connection, _| connection.has_capability(DEVICE, DeviceCapability::Text).map(drop)),
         made(|connection, _| connection.interface(DEVICE, DeviceCapability::Text).map(drop)),
+        received(Vec::new()),
+        received(message(0xff00000000000000, 0, &[9, 0, 1])),
+        received(message(DEVICE.id(), 3, &[7, 500, 0])),
+        received(message(interface(2).id, 1, &[30, 1])),
+        received(message(interface(6).id, 2, &[3, 0x6261, 0])),
     ]
 }
 
@@ -905,6 +923,18 @@ fn a_handshake_that_was_scribbled_over_is_refused() {
         words[0] = 254;
         name.fill(0xff);
         let _ = handshaker.handle_request(request, &mut out);
+    }
+    for bytes in [vec![], message(0, 0, &[1]), message(0, 1, &[]), message(9, 1, &[])] {
+        let mut out = [0; 256];
+        let (mut handshaker, _) = EisHandshaker::new(7, &mut out).expect("it fits");
+        handshaker.memory().0[0] = 255;
+        let refused = handshaker.pending_request(&bytes, &mut out).map(drop);
+        assert_eq!(refused.err(), Some(Refusal::BadState));
+        let (words, name) = handshaker.memory();
+        words.fill(u64::MAX);
+        words[0] = 254;
+        name.fill(0xff);
+        let _ = handshaker.pending_request(&bytes, &mut out);
     }
 }
 

@@ -8,7 +8,7 @@ use bozterrun::eis::{
 use bozterrun::request::EisRequest;
 use bozterrun::{
     ButtonState, ContextType, Device, DeviceCapabilities, DeviceCapability, DeviceType, DisconnectReason,
-    EisHandshaker, EisRequestConverter, Events, KeyState, Read, Refusal, Seat,
+    EisHandshaker, EisRequestConverter, Events, Interface, KeyState, ParseError, Read, Refusal, Seat,
 };
 use std::io::{self, Write};
 
@@ -27,6 +27,7 @@ enum Step<'a> {
     Start(u32),
     Client(Request<'a>),
     Read(u16, &'a [u8]),
+    Message(&'a [u8]),
     NextRequest,
     Station(Station<'a>),
 }
@@ -193,6 +194,10 @@ fn parse<'t>(line: &[u8], text: &'t mut Vec<u8>) -> Option<Step<'t>> {
             w.text()?;
             Step::Read(requests, lacks)
         }
+        b"message" => {
+            w.text()?;
+            Step::Message(lacks)
+        }
         b"next_request" => Step::NextRequest,
         b"add_seat" => Step::Station(Station::AddSeat(w.optional().map(some)?, w.capabilities()?)),
         b"add_device" => Step::Station(Station::AddDevice(
@@ -236,6 +241,7 @@ fn parse<'t>(line: &[u8], text: &'t mut Vec<u8>) -> Option<Step<'t>> {
         Step::Client(Request::Handshake(handshake::Request::InterfaceVersion { name, .. })) => *name = text,
         Step::Client(Request::Text(_, text::Request::Utf8 { text: bytes })) => *bytes = text,
         Step::Read(_, texts) => *texts = text,
+        Step::Message(message) => *message = text,
         Step::Station(Station::AddSeat(Some(name), _) | Station::AddDevice(_, Some(name), ..)) => *name = text,
         Step::Station(Station::Disconnected(_, Some(explanation))) => *explanation = text,
         Step::Station(Station::HasInterface(name) | Station::InterfaceVersion(name)) => *name = text,
@@ -481,6 +487,18 @@ fn write_refused(trail: &mut impl Write, refusal: Refusal) -> io::Result<()> {
         Refusal::InvalidInterfaceVersion { interface, version } => {
             write!(trail, " interface={} version={version}", interface.number())
         }
+        Refusal::Malformed(error) => {
+            write!(trail, " {}", error.name())?;
+            match error {
+                ParseError::InvalidOpcode(name, opcode) => {
+                    let found = Interface::ALL.into_iter().find(|interface| interface.name() == name);
+                    write!(trail, " {} {opcode}", found.map_or(0, Interface::number))
+                }
+                ParseError::InvalidVariant(number) | ParseError::HeaderLength(number) => write!(trail, " {number}"),
+                ParseError::MessageLength(read, header) => write!(trail, " {read} {header}"),
+                ParseError::EndOfMessage | ParseError::Utf8 | ParseError::InvalidNull => Ok(()),
+            }
+        }
         _ => Ok(()),
     }
 }
@@ -502,6 +520,17 @@ fn write_answer(trail: &mut impl Write, answer: Result<Events, Refusal>) -> io::
             write_events(trail, events)
         }
         Err(refusal) => write_refusal(trail, refusal, &[]),
+    }
+}
+
+/// What a message answers: how many bytes it took, with its events, or that it waits. A Finish may have written.
+fn write_received(trail: &mut impl Write, received: Option<(usize, Events)>) -> io::Result<()> {
+    match received {
+        Some((taken, events)) => {
+            write!(trail, "accepted taken {taken}")?;
+            write_events(trail, events)
+        }
+        None => writeln!(trail, "wait"),
     }
 }
 
@@ -591,6 +620,28 @@ impl<W: Write> Play<W> {
             }
             (Step::Client(request), Stage::Session(converter)) => {
                 write_answer(trail, converter.handle_request(request, self.now, out))?;
+            }
+            (Step::Message(message), Stage::Handshake(handshaker)) => {
+                let mut response = None;
+                match handshaker.pending_request(message, out) {
+                    Ok(received) => {
+                        let received = received.map(|received| {
+                            response = received.response;
+                            (received.taken, received.events)
+                        });
+                        write_received(trail, received)?;
+                    }
+                    Err(refusal) => write_refusal(trail, refusal, out)?,
+                }
+                if let Some(response) = response {
+                    self.stage = Stage::Session(EisRequestConverter::new(response));
+                }
+            }
+            (Step::Message(message), Stage::Session(converter)) => {
+                match converter.pending_request(message, self.now, out) {
+                    Ok(received) => write_received(trail, received.map(|received| (received.taken, received.events)))?,
+                    Err(refusal) => write_refusal(trail, refusal, &[])?,
+                }
             }
             (Step::Read(requests, texts), Stage::Session(_)) => {
                 self.reading = Some((requests, Read::with_texts(texts.to_vec())));
