@@ -1,5 +1,5 @@
 -- What was read, as what a call promises; and a request's text lies within its message. Assumes nothing.
-use Prim.Native.Nat.{ℕ, _+_, _≤_, _<_}
+use Prim.Native.Nat.{ℕ, _≤_, _<_}
 use mathlib.Core.Path.{_≡_, refl, sym, ap, subst, _∙_}
 use mathlib.Core.Bool.{Bool, true, false, cond, false≢true}
 use mathlib.Core.List.{List}
@@ -13,13 +13,12 @@ use Rattle.parse.specs.declared.Arguments.{Arguments}
 use Rattle.parse.specs.declared.First.{First}
 use Rattle.parse.proofs.Firsts.{IsFirst, first-within}
 use Rattle.handshake.specs.Handshake as paper
-use Rattle.handshake.specs.View.{viewOf, isSound, isRefusal, unfinished, Done, Handled}
+use Rattle.handshake.specs.View.{viewOf, isSound, unfinished, Done, Handled}
 use Rattle.handshake.specs.declared.handshake.EisHandshaker.{EisHandshaker}
 use Rattle.handshake.specs.declared.handshake.HandshakeError.{HandshakeError}
 use Rattle.handshake.specs.declared.handshake.HandshakeOutcome.{HandshakeOutcome}
-use Rattle.handshake.specs.declared.handshake.HandshakeAnswer.{HandshakeAnswer}
 use Rattle.handshake.proofs.Answers.{sound-is}
-use Rattle.handshake_messages.specs.Reading.{objectOf, isPeerId, checkId, bodyRead, readingOf, requestIn, isHanded, HandedOn, Follows, Received}
+use Rattle.handshake_messages.specs.Reading.{objectOf, isPeerId, checkId, bodyRead, readingOf, requestIn, isHanded, Follows, Received}
 use Rattle.handshake_messages.specs.declared.Object.{Object}
 use Rattle.handshake_messages.specs.declared.Reading.{Reading}
 use Rattle.handshake_messages.specs.declared.Told.{Told}

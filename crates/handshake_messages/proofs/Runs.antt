@@ -1,20 +1,20 @@
 -- Lists of calls on a handshake, requests and messages among them: what is seen of them is what the definitions say. Assumes nothing.
 use Prim.Native.Nat.{ℕ, _+_}
 use mathlib.Core.Path.{_≡_, refl, sym, ap, ap₂, _∙_}
-use mathlib.Core.Bool.{Bool, true, false, cond}
+use mathlib.Core.Bool.{Bool, true, cond}
 use mathlib.Core.List.{List, [], _∷_, map}
 use lib.ListN.{length, take, drop}
 use lib.Seq.{take-append-seam}
 use Rattle.wire.specs.Bits.{splice}
 use Rattle.handshake.specs.Handshake as paper
-use Rattle.handshake.specs.View.{viewOf, isSound, isRefusal, outcomeOf, unfinished, Meets}
+use Rattle.handshake.specs.View.{viewOf, isSound, isRefusal, outcomeOf, Meets}
 use Rattle.handshake.specs.Run.{seenIn}
 use Rattle.handshake.specs.declared.handshake.EisHandshaker.{EisHandshaker}
 use Rattle.handshake.specs.declared.handshake.EisHandshakeResp.{EisHandshakeResp}
 use Rattle.handshake.specs.declared.handshake.HandshakeAnswer.{HandshakeAnswer}
 use Rattle.handshake.specs.declared.handshake.HandshakeOutcome.{HandshakeOutcome}
 use Rattle.handshake_messages.specs.Reading.{handshakeReading, requestIn, Nothing, HandedOn, Follows}
-use Rattle.handshake_messages.specs.Run.{TurnGiven, TurnSeen, stepIn, isRefused, nothing, handed, messageTurn, turn, turns, MessageExchange, HandshakeTurn, answerOf, givenOf, seenOf, Turned, HandshakeTurns, Seen-is-turns, Equal-turns}
+use Rattle.handshake_messages.specs.Run.{TurnSeen, stepIn, isRefused, nothing, handed, messageTurn, turn, turns, MessageExchange, HandshakeTurn, answerOf, givenOf, seenOf, Turned, HandshakeTurns, Seen-is-turns, Equal-turns}
 use Rattle.handshake_messages.specs.declared.Reading.{Reading}
 use Rattle.handshake_messages.specs.declared.Told.{Told}
 use Rattle.handshake_messages.specs.declared.HandshakeReceived.{HandshakeReceived}

@@ -1,12 +1,10 @@
 -- How the bytes read, by what was tested of them; and the calls that messages stand for. Assumes nothing.
 use Prim.Native.Nat.{ℕ, _+_, _-_, _≤_, _<_}
 use mathlib.Core.Path.{_≡_, sym, ap, _∙_}
-use mathlib.Core.Bool.{cond}
 use mathlib.Core.List.{List}
-use mathlib.Core.Option.{Option, none, some}
+use mathlib.Core.Option.{none, some}
 use native.Mathlib.Omega.{arith}
 use borrow.Author.Tests.{lt-ltb, le-ltb, eq-eqb, ne-eqb}
-use lib.Dec.{eqb, ltb}
 use lib.ListN.{length, take, drop}
 use Rattle.parse.specs.First.{firstOf}
 use Rattle.parse.specs.Parse.{le64}
@@ -15,11 +13,11 @@ use Rattle.parse.specs.declared.First.{First}
 use Rattle.requests.specs.Row.{low}
 use Rattle.requests.specs.declared.eis.Request.{Request}
 use Rattle.handlers.specs.Call.{callOf}
-use Rattle.model.specs.Call.{Input, Plain, Call}
-use Rattle.model.specs.Session.{View, view}
+use Rattle.model.specs.Call.{Plain, Call}
+use Rattle.model.specs.Session.{View}
 use Rattle.model.specs.Live.{Object, live}
 use Rattle.model_reads.specs.Message.{Reading}
-use Rattle.session.specs.View.{Store, session, isWhole, Whole, Lending}
+use Rattle.session.specs.View.{Store, Whole, Lending}
 use Rattle.session.proofs.Views.{whole-is}
 use Rattle.answers.specs.declared.Answer.{Answer}
 use Rattle.answers.specs.Meets.{Handled, Answered}

@@ -1,6 +1,6 @@
 -- Messages that differ in payload alone are read alike. Assumes nothing.
 use Prim.Native.Nat.{ℕ, _+_, _*_, _≤_, _<_}
-use mathlib.Core.Path.{_≡_, refl, sym, ap, ap₂, _∙_}
+use mathlib.Core.Path.{_≡_, refl, ap₂}
 use mathlib.Core.Bool.{Bool, true, false, _||_, cond}
 use mathlib.Core.List.{List}
 use mathlib.Core.Logic.{inl, inr}
@@ -18,13 +18,12 @@ use Rattle.parse.specs.declared.Parsed.{Parsed}
 use Rattle.parse.proofs.Same.{alike}
 use Rattle.lent_read.specs.Numbers.{requestOf}
 use Rattle.model.specs.Call.{Input, Call}
-use Rattle.model.specs.Session.{View}
 use Rattle.model.specs.Payload.{SameButPayload}
 use Rattle.model.specs.Live.{Object, live}
 use Rattle.model_reads.specs.Message.{Reading}
 use Rattle.model_reads.specs.Acts.{MatchedCall, MatchedReading}
 use Rattle.messages.specs.Reading.{requestIn, callIn, readAs, readingOn, readingOf, reading}
-use Rattle.messages.specs.Same.{SameMessage, Same-matched}
+use Rattle.messages.specs.Same.{Same-matched}
 
 -- ---- the same
 

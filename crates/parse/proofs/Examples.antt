@@ -5,8 +5,10 @@ use mathlib.Core.List.{[], _∷_}
 use lib.Ieee.{nan, fin, ofBits}
 use lib.IntN.{negsuc}
 use Rattle.wire.specs.declared.ParseError.{ParseError}
-use Rattle.wire.specs.declared.ParseError.the-variants.{EndOfMessage, Utf8, InvalidOpcode, InvalidVariant, MessageLength, InvalidNull}
+use Rattle.wire.specs.declared.ParseError.the-variants.{HeaderLength, EndOfMessage, Utf8, InvalidOpcode, InvalidVariant, MessageLength, InvalidNull}
+use Rattle.parse.specs.declared.First.{First}
 use Rattle.parse.specs.declared.Parsed.{Parsed}
+use Rattle.parse.specs.First.{firstOf}
 use Rattle.parse.specs.Parse.{argumentsOf, zeroReal, parsed}
 use Rattle.parse.specs.Same.{numbered}
 
@@ -130,3 +132,34 @@ no-interface :
     ≡ malformed (InvalidOpcode 13 0)
 unfolding parsed
 no-interface = refl
+
+-- ---- the first of some bytes
+
+-- a key pressed, with two bytes behind it
+first-of-more :
+    firstOf 10 (0x05 ∷ 0x00 ∷ 0x00 ∷ 0x00 ∷ 0x00 ∷ 0x00 ∷ 0x00 ∷ 0xff ∷ 0x18 ∷ 0x00 ∷ 0x00 ∷ 0x00 ∷ 0x01 ∷ 0x00 ∷ 0x00 ∷ 0x00 ∷ 0x1e ∷ 0x00 ∷ 0x00 ∷ 0x00 ∷ 0x01 ∷ 0x00 ∷ 0x00 ∷ 0x00 ∷ 0x05 ∷ 0x00 ∷ [])
+    ≡ First.Read (argumentsOf 27 30 1 0 0 0 zeroReal zeroReal) 24
+unfolding firstOf
+first-of-more = refl
+
+-- not whole: its opcode is not looked at
+first-waits :
+    firstOf 10 (0x05 ∷ 0x00 ∷ 0x00 ∷ 0x00 ∷ 0x00 ∷ 0x00 ∷ 0x00 ∷ 0xff ∷ 0x18 ∷ 0x00 ∷ 0x00 ∷ 0x00 ∷ 0x02 ∷ 0x00 ∷ 0x00 ∷ 0x00 ∷ []) ≡ First.Wait
+unfolding firstOf
+first-waits = refl
+
+-- 1,024 bytes are waited for; 1,025 and 15 are not
+first-of-1024 :
+    firstOf 10 (0x05 ∷ 0x00 ∷ 0x00 ∷ 0x00 ∷ 0x00 ∷ 0x00 ∷ 0x00 ∷ 0xff ∷ 0x00 ∷ 0x04 ∷ 0x00 ∷ 0x00 ∷ 0x01 ∷ 0x00 ∷ 0x00 ∷ 0x00 ∷ []) ≡ First.Wait
+unfolding firstOf
+first-of-1024 = refl
+
+first-of-1025 :
+    firstOf 10 (0x05 ∷ 0x00 ∷ 0x00 ∷ 0x00 ∷ 0x00 ∷ 0x00 ∷ 0x00 ∷ 0xff ∷ 0x01 ∷ 0x04 ∷ 0x00 ∷ 0x00 ∷ 0x01 ∷ 0x00 ∷ 0x00 ∷ 0x00 ∷ []) ≡ First.Malformed (HeaderLength 1025)
+unfolding firstOf
+first-of-1025 = refl
+
+first-of-15 :
+    firstOf 10 (0x05 ∷ 0x00 ∷ 0x00 ∷ 0x00 ∷ 0x00 ∷ 0x00 ∷ 0x00 ∷ 0xff ∷ 0x0f ∷ 0x00 ∷ 0x00 ∷ 0x00 ∷ 0x01 ∷ 0x00 ∷ 0x00 ∷ 0x00 ∷ []) ≡ First.Malformed (HeaderLength 15)
+unfolding firstOf
+first-of-15 = refl

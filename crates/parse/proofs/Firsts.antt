@@ -7,7 +7,6 @@ use native.Mathlib.Omega.{arith}
 use borrow.Author.Tests.{ltb-false}
 use lib.Dec.{ltb}
 use lib.ListN.{length, take}
-use Rattle.wire.specs.declared.ParseError.{ParseError}
 use Rattle.parse.specs.declared.Arguments.{Arguments}
 use Rattle.parse.specs.declared.First.{First}
 use Rattle.parse.specs.declared.Parsed.{Parsed}

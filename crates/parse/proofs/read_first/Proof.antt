@@ -1,10 +1,8 @@
 -- The length by its limits and the slice's, then the message by `parse`. Assumes nothing.
-use Prim.Native.Nat.{_≤_}
-use mathlib.Core.Path.{_≡_, sym, ap, _∙_}
 use native.Mathlib.Omega.{arith}
 use borrow.Author.Needs.{needs}
 use borrow.Author.Tests.{lt-ltb, le-ltb}
-use lib.ListN.{length, take, length-take}
+use lib.ListN.{length-take}
 use Rattle.parse.specs.First.{firstOf, firstAs}
 use Rattle.parse.proofs.read_first.Statement.{statement}
 use Rattle.parse.proofs.read_first.Tie as tie
