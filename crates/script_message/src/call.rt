@@ -23,7 +23,15 @@ pub fn receive(
 {
     let from: usize = 0;
     let n = script_session::room(said, out.len());
-    messages::pending_request(control, words, reals, texts, message, clock, &mut out[from..n])
+    messages::pending_request(
+        control,
+        words,
+        reals,
+        texts,
+        message,
+        clock,
+        &mut out[from..n],
+    )
 }
 
 // On the handshake.

@@ -116,7 +116,13 @@ fn message_count(r: Received) -> usize
 pub fn message_answer(line: &mut [u8], r: Received, out: &[u8], explained: bool) -> usize
     ensures { λ n. ⌜ Puts line 0 n (messageLine r (now (out .entry)) explained) ⌝ }
 {
-    script_show::whole(line, message_shown(r, explained), message_count(r), out, explained)
+    script_show::whole(
+        line,
+        message_shown(r, explained),
+        message_count(r),
+        out,
+        explained,
+    )
 }
 
 // What the handshake answers to a message that was handed on to it.

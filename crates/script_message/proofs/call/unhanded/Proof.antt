@@ -13,7 +13,6 @@ returns-3 c = rw (c .before .told .given .1)
 returns-4 : tie.Need-returns-4
 returns-4 c = rw (c .before .enum-told3 .given .1) (ap (λ (a : Answer). Received.Handed a 0) (answer-is (c .refused .ensures .0) (c .refused .ensures .1)))
 
-
 pub unhanded-spec : {M : Type 1} → statement M
 unhanded-spec =
     tie.close

@@ -8,7 +8,6 @@ returns : tie.Need-returns
 unfolding handshakeMessageLine
 returns c = rw (c .before .before .before .handshake-taken .ensures) at (c .before .before .whole .ensures)
 
-
 pub handshake-message-answer-spec : {M : Type 1} → statement M
 handshake-message-answer-spec =
     tie.close

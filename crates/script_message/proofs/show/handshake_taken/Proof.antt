@@ -11,7 +11,6 @@ returns c = c .handshake-outcome .ensures ∙ rw (c .before .enum-told .given .1
 returns-2 : tie.Need-returns-2
 returns-2 c = c .single .ensures ∙ not-refused (c .before .before .args .explained) (c .before .before .args .taken) (c .before .before .args .o) (c .before .match .keys2)
 
-
 pub handshake-taken-spec : {M : Type 1} → statement M
 handshake-taken-spec =
     tie.close

@@ -24,7 +24,6 @@ returns-6 c = rw (c .before .before .before .e4 .given .1) (rw (c .before .malfo
 returns-7 : tie.Need-returns-7
 returns-7 c = rw (c .before .before .enum-told3 .given .1) (rw (c .before .malformed-at7 .ensures) at (c .case-of7 .ensures))
 
-
 pub malformed-spec : {M : Type 1} → statement M
 malformed-spec =
     tie.close

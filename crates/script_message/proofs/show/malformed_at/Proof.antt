@@ -10,7 +10,6 @@ returns c = rw (c .if1 .taken) (omega arith)
 returns-2 : tie.Need-returns-2
 returns-2 c = rw (c .if1 .left) (omega arith)
 
-
 pub malformed-at-spec : {M : Type 1} → statement M
 malformed-at-spec =
     tie.close

@@ -8,7 +8,6 @@ returns : tie.Need-returns
 unfolding messageLine
 returns c = rw (c .before .before .before .before .message-shown .ensures, c .before .before .before .message-count .ensures) at (c .before .before .whole .ensures)
 
-
 pub message-answer-spec : {M : Type 1} → statement M
 message-answer-spec =
     tie.close

@@ -15,7 +15,6 @@ returns-3 c = rw (c .before .before .r .given .1) (c .malformed .ensures)
 returns-4 : tie.Need-returns-4
 returns-4 c = rw (c .before .before .r2 .given .1) (c .taken-outcome .ensures)
 
-
 pub message-shown-spec : {M : Type 1} → statement M
 message-shown-spec =
     tie.close

@@ -11,7 +11,6 @@ returns c = rw (c .before .enum-told .given .1) (c .single .ensures)
 returns-2 : tie.Need-returns-2
 returns-2 c = c .outcome .ensures ∙ not-accepted (c .before .before .args .explained) (c .before .before .args .taken) (c .before .before .args .o) (c .before .match .keys2)
 
-
 pub taken-outcome-spec : {M : Type 1} → statement M
 taken-outcome-spec =
     tie.close
