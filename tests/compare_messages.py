@@ -104,6 +104,7 @@ class Script:
 
     def to_session(self):
         r = self.r
+        self.emit("out 4096")
         wanted = list(range(4, 13))
         if r.random() < 0.4:
             wanted = r.sample(wanted, r.randrange(10))
@@ -111,7 +112,6 @@ class Script:
         r.shuffle(wanted)
         self.finish_handshake(wanted)
         while not self.session():
-            self.emit("out 4096")
             self.finish_handshake([1, 2, 3])
         for _ in range(r.choice([1, 1, 2])):
             self.emit(f"add_seat {r.choice(['none', 't:41'])} {r.choice([127, 127, 127, r.randrange(128)])}")
@@ -137,6 +137,7 @@ class Script:
                 self.to_session()
             if self.of_interface(interface):
                 return
+            self.emit("out 4096")
             room = self.runner.state.next_id + 9 <= FIRST + IDS
             if not room or FIRST not in self.live():
                 self.emit(f"start {self.r.getrandbits(32)}")

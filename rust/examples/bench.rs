@@ -8,6 +8,8 @@
 //! - `deep`: as keys, but 198 requests stay queued: 3 next_request a turn, none of them none (6 calls).
 //! - `single32`: one device; 31 keys and their frame, each a call, next_request until none (33 calls).
 //! - `read32`: the same 32 requests gathered in a read and handed over in one call.
+//! - `messages`: 31 keys and their frame as a client's 772 bytes, the same in each turn: 32 calls, each with what is left
+//!   of them, next_request until none.
 //!
 //! A program that times it takes the difference of two Ns, which leaves its start out. Each request is made where it is
 //! sent, and each delivered one taken apart by a `match`, as a station does.
@@ -30,6 +32,28 @@ struct Bench {
     buffer: [u8; bozterrun::TEXT_LENGTH],
     /// What read32 gathers.
     read: Read,
+    /// What a client sends in a turn of messages.
+    bytes: Vec<u8>,
+}
+
+/// 31 keys and their frame as messages.
+fn bytes(device: Device, keyboard: Object) -> Vec<u8> {
+    let message = |id: u64, opcode: u32, arguments: &[u8]| {
+        let length = 16 + arguments.len() as u32;
+        [
+            &id.to_le_bytes(),
+            &length.to_le_bytes()[..],
+            &opcode.to_le_bytes(),
+            arguments,
+        ]
+        .concat()
+    };
+    let mut bytes = Vec::new();
+    for k in 0..31 {
+        bytes.extend(message(keyboard.id, 1, &[k, 0, 0, 0, 1 - k % 2, 0, 0, 0]));
+    }
+    bytes.extend(message(device.id(), 3, &[7, 0, 0, 0, 244, 1, 0, 0, 0, 0, 0, 0]));
+    bytes
 }
 
 impl Bench {
@@ -55,6 +79,7 @@ impl Bench {
         }
         Ok(Self {
             converter,
+            bytes: bytes(added[0].0, added[0].1),
             devices: added,
             buffer: [0; bozterrun::TEXT_LENGTH],
             read: Read::new(),
@@ -121,6 +146,17 @@ impl Bench {
         handled.refusal.map_or(Ok(()), Err)
     }
 
+    /// 31 keys and their frame, from bytes.
+    #[inline(always)]
+    fn messages(&mut self) -> Result<(), Refusal> {
+        let mut left = &self.bytes[..];
+        while !left.is_empty() {
+            let received = self.converter.pending_request(left, NOW, &mut [])?;
+            left = &left[received.map_or(left.len(), |received| received.taken)..];
+        }
+        Ok(())
+    }
+
     /// A touch that moves, and its frame.
     #[inline(always)]
     fn stroke(&mut self, i: u64) -> Result<(), Refusal> {
@@ -183,6 +219,7 @@ enum Workload {
     Deep,
     Single32,
     Read32,
+    Messages,
 }
 
 /// Repeats the turn of a workload and takes what is left; how many requests were given, which is how many were sent.
@@ -192,7 +229,7 @@ fn run(workload: Workload, times: u64) -> Result<u64, Refusal> {
         Workload::Touches => Bench::new(1, Touch.into(), Touch)?,
         Workload::Texts => Bench::new(1, Text.into(), Text)?,
         Workload::Eight => Bench::new(8, DeviceCapabilities::ALL, Keyboard)?,
-        Workload::Keys | Workload::Deep | Workload::Single32 | Workload::Read32 => {
+        Workload::Keys | Workload::Deep | Workload::Single32 | Workload::Read32 | Workload::Messages => {
             Bench::new(1, Keyboard.into(), Keyboard)?
         }
     };
@@ -232,6 +269,10 @@ fn run(workload: Workload, times: u64) -> Result<u64, Refusal> {
                 bench.read32(i)?;
                 bench.next(33)?
             }
+            Workload::Messages => {
+                bench.messages()?;
+                bench.next(33)?
+            }
         };
     }
     Ok(given + bench.next(256)?)
@@ -248,10 +289,11 @@ fn main() -> ExitCode {
         "deep" => Some(Workload::Deep),
         "single32" => Some(Workload::Single32),
         "read32" => Some(Workload::Read32),
+        "messages" => Some(Workload::Messages),
         _ => None,
     };
     let (Some(workload), Some(times)) = (workload, times) else {
-        eprintln!("usage: bench keys|touches|texts|eight|deep|single32|read32 N");
+        eprintln!("usage: bench keys|touches|texts|eight|deep|single32|read32|messages N");
         return ExitCode::from(2);
     };
     match run(workload, times) {

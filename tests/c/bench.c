@@ -7,9 +7,11 @@
  *   texts    one device: a text of 20 digits, frame, next_request 3 times (5 calls)
  *   eight    as keys, on each of eight devices in turn, every device with all seven interfaces (7 calls)
  *   deep     as keys, while 198 requests stay queued: next_request 3 times (6 calls)
- * and two of its own, over the same 32 requests:
+ * and three of its own, over 32 requests:
  *   single32 one device: 31 keys and their frame, each a call, next_request 33 times
  *   read32   the same 32 gathered in a read and handed over in one call, next_request 33 times
+ *   messages 31 keys and their frame as a client's 772 bytes, the same in each turn: 32 calls, each with what is left of
+ *            them, next_request 33 times
  * The last next_request of a turn finds none, but for deep. What is left is taken at the end. Time is measured from
  * outside, by the difference of two N.
  */
@@ -95,6 +97,45 @@ static void read32(uint64_t i)
     take(33);
 }
 
+/* What a client sends in a turn of messages: 31 of 24 bytes and one of 28. */
+static uint8_t bytes[31 * 24 + 28];
+
+static void put(size_t at, uint64_t value, size_t count)
+{
+    for (size_t k = 0; k < count; k++) {
+        bytes[at + k] = (uint8_t)(value >> 8 * k);
+    }
+}
+
+static void put_messages(void)
+{
+    for (uint64_t k = 0; k < 31; k++) {
+        const size_t at = 24 * (size_t)k;
+        put(at, device + 1, 8);
+        put(at + 8, 24, 4);
+        put(at + 12, 1, 4);
+        put(at + 16, k, 4);
+        put(at + 20, 1 - k % 2, 4);
+    }
+    put(744, device, 8);
+    put(752, 28, 4);
+    put(756, 3, 4);
+    put(760, 7, 4);
+    put(764, 500, 8);
+}
+
+static void messages(uint64_t i)
+{
+    (void)i;
+    for (size_t at = 0, taken; at < sizeof bytes; at += taken) {
+        if (bz_pending_request(&session, bytes + at, sizeof bytes - at, 5, NULL, 0, &taken, NULL, NULL) !=
+            BOZTERRUN_ACCEPTED) {
+            return;
+        }
+    }
+    take(33);
+}
+
 static const struct {
     const char *name;
     void (*turn)(uint64_t);
@@ -104,7 +145,7 @@ static const struct {
     {"keys", keys, 1, BOZTERRUN_CAPABILITY_KEYBOARD}, {"touches", touches, 1, BOZTERRUN_CAPABILITY_TOUCH},
     {"texts", texts, 1, BOZTERRUN_CAPABILITY_TEXT},   {"eight", eight, 8, 127},
     {"deep", deep, 1, BOZTERRUN_CAPABILITY_KEYBOARD}, {"single32", single32, 1, BOZTERRUN_CAPABILITY_KEYBOARD},
-    {"read32", read32, 1, BOZTERRUN_CAPABILITY_KEYBOARD},
+    {"read32", read32, 1, BOZTERRUN_CAPABILITY_KEYBOARD}, {"messages", messages, 1, BOZTERRUN_CAPABILITY_KEYBOARD},
 };
 
 int main(int count, char **words)
@@ -115,6 +156,7 @@ int main(int count, char **words)
         }
         const uint64_t turns = strtoull(words[2], NULL, 10);
         device = begin_session(workloads[w].devices, workloads[w].capabilities);
+        put_messages();
         for (uint64_t i = 0; workloads[w].turn == deep && i < 66; i++) {
             send_keys(device, device + 1, i);
         }
@@ -125,6 +167,6 @@ int main(int count, char **words)
         printf("%s: %llu requests given\n", words[1], (unsigned long long)given);
         return 0;
     }
-    fprintf(stderr, "usage: bench keys|touches|texts|eight|deep|single32|read32 N\n");
+    fprintf(stderr, "usage: bench keys|touches|texts|eight|deep|single32|read32|messages N\n");
     return 2;
 }
