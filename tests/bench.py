@@ -10,8 +10,9 @@ time of ours is that of the program less that of its start, divided by the calls
 hand, the instructions of a call follow, from the difference of two runs.
 
 Below the line: the queue's own turns, called from Rattle: a Disconnect queued and taken (push and pop), and frames of 1 and of 64 keys with their delivery.
-Last, 31 keys and their frame with their delivery: one by one, and gathered in a read that is handed over in one call (from Rattle in an array of 32, by the
-program bench_reads). Both are told for each of the 32 requests. The crate has no such call, and the oracle no such workload.
+Last, 31 keys and their frame with their delivery: one by one, gathered in a read that is handed over in one call (from Rattle in an array of 32, by the
+program bench_reads), and from C and Rust as a client's bytes. All are told for each of the 32 requests. The crate has no reads, and the oracle none of
+these workloads.
 """
 import os
 import re
@@ -23,7 +24,7 @@ import time
 
 CALLS = {"keys": 7, "touches": 9, "texts": 5, "eight": 7, "deep": 6}
 OWN = {"push": 2, "frame1": 4, "frame64": 130}
-READS = {"single32": "one by one", "read32": "in a read"}
+READS = {"single32": "one by one", "read32": "in a read", "messages": "as messages"}
 READ = 32
 ARCHIVE = "target/staticlib/libbozterrun.a"
 PROGRAMS = {"Rattle": "target/bin/bench", "C": "target/c/bench", "Rust": "rust/target/release/examples/bench"}
@@ -84,7 +85,7 @@ def main():
         median = {name: statistics.median(times) for name, times in taken.items()}
         ratios = [f"{median['crate'] / median[name]:.1f}" for name in PROGRAMS]
         print(f"| {workload} | " + " | ".join(f"{median[name]:.1f}" for name in names) + " | " + " | ".join(ratios) + " |", flush=True)
-    read_times = {(name, workload): [] for name in PROGRAMS for workload in READS}
+    read_times = {(name, workload): [] for name in PROGRAMS for workload in READS if (name, workload) != ("Rattle", "messages")}
     for _ in range(rounds):
         for name, workload in read_times:
             read_times[name, workload].append(ours(READ_PROGRAMS[name], workload, READ))
