@@ -499,7 +499,7 @@ def main():
         for program in programs:
             held(f"{program} beside the reference", seed, lines, of, trail, played([program], lines))
 
-        # The crate's parser, on the trail that the programs have, or the first of them has.
+        # The crate's parser, beside the reference's trail, which is that of the programs where nothing was told above.
         questions, places = asked(lines, trail, of)
         told = played([oracle, "--messages"], questions)
         assert len(told) == len(places), f"seed {seed}: the oracle ended with {told[-1:]}"
