@@ -166,7 +166,7 @@ reads-are-singles s (Made.message bytes clock out later received e ∷ xs) whole
         let r = later-ones (whole-is e (t .handled .whole)) in
         record {
           singles = Exchange.called call (message-other (view (session s)) bytes q) clock out later (t .answer) e ∷ r .singles;
-          are = rw (t .told) (Singles.handed (r .are));
+          are = rw (t .told) (Singles.handed q (r .are));
           calls = Calls.called (handled-answered s e out later call clock (t .answer) whole (t .handled)) (r .calls);
           after = r .after;
           given = r .given;

@@ -9,10 +9,10 @@ use mathlib.Core.List.{List, [], _∷_, _++_, map}
 use mathlib.Core.Option.{Option}
 use lib.ListN.{length, take, drop}
 use Rattle.model.specs.Call.{Input, Load, Plain, Call}
-use Rattle.model.specs.Session.{Item, fresh}
+use Rattle.model.specs.Session.{Item, fresh, view}
 use Rattle.model.specs.Demand3.{Observed, taken}
 use Rattle.model_reads.specs.Read.{Entry, loaded}
-use Rattle.model_reads.specs.Message.{Reading}
+use Rattle.model_reads.specs.Message.{Reading, takenOf}
 use Rattle.model_reads.specs.Acts.{Act, mapAct, ObservedAct, observedActs, loadedBy, MatchedActs}
 use Rattle.session.specs.View.{Store, session, isWhole}
 use Rattle.answers.specs.declared.Error.{Error}
@@ -132,17 +132,19 @@ pub data InTurn (clock : ℕ) : (out later : List ℕ) → List (Entry (Call Inp
       (record { accepted = suc (others .accepted); count = answer .count + others .count; refusal = others .refusal })
       (Exchange.called call other clock out mid answer e ∷ zs)
 
--- calls, reads and messages, each read replaced by its single calls, and each message by its request, or by nothing where it is no request
-pub data Singles : List Made → List Exchange → Type 0 where
-  none : Singles [] []
-  one : {x : Exchange} {xs : List Made} {ys : List Exchange} → Singles xs ys → Singles (Made.one x ∷ xs) (x ∷ ys)
-  read : {records : List RequestRecord} {lent : List ℕ} {clock : ℕ} {out later : List ℕ} {answer : ReadAnswer} {e : Store} {xs : List Made} {zs ys : List Exchange}
-      → InTurn clock out later (entriesOf records lent) answer zs → Singles xs ys → Singles (Made.read records lent clock out later answer e ∷ xs) (zs ++ ys)
-  handed : {bytes : List ℕ} {clock : ℕ} {out later : List ℕ} {call : Call Input} {other : call ≡ Call.plain Plain.nextRequest → ⊥} {answer : Answer} {taken : ℕ} {e : Store}
-      {xs : List Made} {ys : List Exchange} → Singles xs ys
-      → Singles (Made.message bytes clock out later (Received.Handed answer taken) e ∷ xs) (Exchange.called call other clock out later answer e ∷ ys)
-  told : {bytes : List ℕ} {clock : ℕ} {out later : List ℕ} {received : Received} {e : Store} {xs : List Made} {ys : List Exchange}
-      → ((answer : Answer) (taken : ℕ) → received ≡ Received.Handed answer taken → ⊥) → Singles xs ys → Singles (Made.message bytes clock out later received e ∷ xs) ys
+-- Calls, reads and messages on the slices s, each read replaced by its single calls, and each message by the request that its bytes stand for in the session that the
+-- slices hold, or by nothing where they are none
+pub data Singles : (s : Store) → List Made → List Exchange → Type 0 where
+  none : {s : Store} → Singles s [] []
+  one : {s : Store} {x : Exchange} {xs : List Made} {ys : List Exchange} → Singles (slicesAfter s (x ∷ [])) xs ys → Singles s (Made.one x ∷ xs) (x ∷ ys)
+  read : {s : Store} {records : List RequestRecord} {lent : List ℕ} {clock : ℕ} {out later : List ℕ} {answer : ReadAnswer} {e : Store} {xs : List Made} {zs ys : List Exchange}
+      → InTurn clock out later (entriesOf records lent) answer zs → Singles e xs ys → Singles s (Made.read records lent clock out later answer e ∷ xs) (zs ++ ys)
+  handed : {s : Store} {bytes : List ℕ} {clock : ℕ} {out later : List ℕ} {call : Call Input} {n : ℕ} {other : call ≡ Call.plain Plain.nextRequest → ⊥} {answer : Answer} {e : Store}
+      {xs : List Made} {ys : List Exchange} → reading (view (session s)) bytes ≡ Reading.request call n → Singles e xs ys
+      → Singles s (Made.message bytes clock out later (Received.Handed answer (takenOf (outcomeOf (answer .outcome)) n)) e ∷ xs)
+      (Exchange.called call other clock out later answer e ∷ ys)
+  told : {s : Store} {bytes : List ℕ} {clock : ℕ} {out later : List ℕ} {received : Received} {e : Store} {xs : List Made} {ys : List Exchange}
+      → ((answer : Answer) (taken : ℕ) → received ≡ Received.Handed answer taken → ⊥) → Singles e xs ys → Singles s (Made.message bytes clock out later received e ∷ xs) ys
 
 -- the timed requests that `next_request` gave for a device; a read gives none, and a message neither
 unfoldable pub givenIn : (device : ℕ) → List Made → List (Item Load)
@@ -156,7 +158,7 @@ givenIn d (Made.message bytes clock out later received e ∷ xs) = givenIn d xs
 -- and to the same slices, that give the same
 pub record Replaced (s : Store) (xs : List Made) : Type 0 where
   pub singles : List Exchange
-  pub are : Singles xs singles
+  pub are : Singles s xs singles
   pub calls : Calls s singles
   pub after : slicesAfter s singles ≡ afterMade s xs
   pub given : (d : ℕ) → givenTo d singles ≡ givenIn d xs
