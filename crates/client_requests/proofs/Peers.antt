@@ -32,28 +32,33 @@ use Rattle.answers.specs.declared.Error.{Error}
 use Rattle.answers.specs.declared.Outcome.{Outcome}
 use Rattle.answers.proofs.Outcome as outcome
 use Rattle.answers.specs.declared.Answer.{Answer}
-use Rattle.answers.proofs.Meetings.{whole-after, told-handled, error-refuses}
+use Rattle.answers.proofs.Meetings.{whole-after, over-handled, error-refuses}
 
 -- an accepted call with the client's object besides
-unfoldable peered : ℕ → Step Load → Step Load
+unfoldable pub peered : ℕ → Step Load → Step Load
 peered id r =
     cond (refuses (r .outcome)) r
     (record { session = enact (Edit.peerObject id) Load.None (r .session); outcome = r .outcome; events = r .events; gave = r .gave })
 
-module _ (s : Session Load) (callback version clock : ℕ) (out : List ℕ) (mine : isPeerId (view s) callback ≡ true) where
-  abbrev plainly : Split Load
-  plainly = split (turn (Call.plain (Plain.sync callback version)) clock out)
+module _ (s : Session Load) (callback version clock room : ℕ) where
+  abbrev pub plainly : Split Load
+  plainly = split (record { call = Call.plain (Plain.sync callback version); now = clock; room = room })
 
-  abbrev message : Split Load
-  message = split (turn (Call.plain (Plain.syncMessage callback version)) clock out)
+  abbrev pub message : Split Load
+  message = split (record { call = Call.plain (Plain.syncMessage callback version); now = clock; room = room })
 
   abbrev done : List Sent
   done = on callback (Event.CallbackDone 0) ∷ []
 
+  -- 25 comes before all else
+  pub not-mine : isPeerId (view s) callback ≡ false → step message s ≡ unchanged s (plan.Result.refused 25)
+  unfolding split mapCall decide decidePlain handleSyncMessage refuse
+  not-mine h = step-answer message s (plan.Result.refused 25) (rw h)
+
   -- what becomes of the one and of the other
-  record Both : Type 0 where
-    is : step message s ≡ peered callback (step plainly s)
-    ends : (refuses (step plainly s .outcome) ≡ true) ⊎ (step plainly s .outcome ≡ plan.Result.accepted)
+  pub record Both : Type 0 where
+    pub is : step message s ≡ peered callback (step plainly s)
+    pub ends : (refuses (step plainly s .outcome) ≡ true) ⊎ (step plainly s .outcome ≡ plan.Result.accepted)
 
   both-refused : (o : plan.Result) → refuses o ≡ true → step plainly s ≡ unchanged s o → step message s ≡ unchanged s o → Both
   unfolding peered unchanged
@@ -63,21 +68,21 @@ module _ (s : Session Load) (callback version clock : ℕ) (out : List ℕ) (min
   unfolding peered carriedOut send refuses refusal enactAll gaveAll gave
   both-done p m = record { is = m ∙ sym (ap (peered callback) p); ends = inr (ap (λ (x : Step Load). x .outcome) p) }
 
-  both : Both
+  pub both : isPeerId (view s) callback ≡ true → Both
   unfolding split mapCall decide decidePlain handleSync handleSyncMessage quietAll quietOne refuses refusal
-  both = by-version (eqb version 1) refl
+  both mine = by-version (eqb version 1) refl
     where
-      by-room : (b : Bool) → leb (length (records done)) (length out) ≡ b → eqb version 1 ≡ true → Both
+      by-room : (b : Bool) → leb (length (records done)) room ≡ b → eqb version 1 ≡ true → Both
       by-room true l e =
-          let room = leb-true (length (records done)) (length out) l in
-          both-done (step-sent plainly s done [] (rw e) quiet-none room) (step-sent message s done (Edit.peerObject callback ∷ []) (rw (mine, e)) refl room)
+          let fits = leb-true (length (records done)) room l in
+          both-done (step-sent plainly s done [] (rw e) quiet-none fits) (step-sent message s done (Edit.peerObject callback ∷ []) (rw (mine, e)) refl fits)
       by-room false l e =
-          let room = leb-false (length (records done)) (length out) l in
-          both-refused (plan.Result.refused 19) refl (step-sent-short plainly s done [] (rw e) quiet-none room)
-          (step-sent-short message s done (Edit.peerObject callback ∷ []) (rw (mine, e)) refl room)
+          let short = leb-false (length (records done)) room l in
+          both-refused (plan.Result.refused 19) refl (step-sent-short plainly s done [] (rw e) quiet-none short)
+          (step-sent-short message s done (Edit.peerObject callback ∷ []) (rw (mine, e)) refl short)
 
       by-version : (b : Bool) → eqb version 1 ≡ b → Both
-      by-version true e = by-room (leb (length (records done)) (length out)) refl e
+      by-version true e = by-room (leb (length (records done)) room) refl e
       by-version false e =
           let o = plan.Result.refusedVersion eiCallback version in
           both-refused o refl (step-answer plainly s o (rw e)) (step-answer message s o (rw (mine, e)))
@@ -141,22 +146,21 @@ module _ (s : Store) (out : List ℕ) (callback version clock : ℕ) (r : Answer
 
   -- 25
   pub not-peer : Whole s → isPeerId (view (session s)) callback ≡ false → (r .outcome ≡ Outcome.Refused Error.InvalidId) × (r .count ≡ 0) → Handled s s out out asked clock r
-  unfolding decidePlain handleSyncMessage refuse
-  not-peer w h told = told-handled s out (Plain.syncMessage callback version) clock (Outcome.Refused Error.InvalidId) r w (rw h) told
+  not-peer w h told = over-handled s out asked clock (Outcome.Refused Error.InvalidId) r w (not-mine (session s) callback version clock (length out) h) told
 
   module _ (mine : isPeerId (view (session s)) callback ≡ true) {later : List ℕ} (h : Handled s s out later (Call.plain (Plain.sync callback version)) clock r) where
     abbrev sync : Step Load
-    sync = step (plainly (session s) callback version clock out mine) (session s)
+    sync = step (plainly (session s) callback version clock (length out)) (session s)
 
-    abbrev pair : Both (session s) callback version clock out mine
-    pair = both (session s) callback version clock out mine
+    abbrev pair : Both (session s) callback version clock (length out)
+    pair = both (session s) callback version clock (length out) mine
 
-    is-refused : refuses (sync .outcome) ≡ true → step (message (session s) callback version clock out mine) (session s) ≡ sync
+    is-refused : refuses (sync .outcome) ≡ true → step (message (session s) callback version clock (length out)) (session s) ≡ sync
     unfolding peered
     is-refused e = pair .is ∙ rw e
 
     is-made : refuses (sync .outcome) ≡ false
-        → step (message (session s) callback version clock out mine) (session s)
+        → step (message (session s) callback version clock (length out)) (session s)
         ≡ record { session = enact (Edit.peerObject callback) Load.None (sync .session); outcome = sync .outcome; events = sync .events; gave = sync .gave }
     unfolding peered
     is-made e = pair .is ∙ rw e

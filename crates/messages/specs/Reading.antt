@@ -28,13 +28,17 @@ requestIn a = requestOf (argumentsOf (a .request) (a .first) (a .second) (a .thi
 abbrev syncNumber : ℕ
 syncNumber = 5
 
--- "handed on as the .. single request it stands for": its version is the object's, and its text a part of the message
+-- its text, which is a part of the message
+abbrev pub textIn : Arguments → (message : List ℕ) → List ℕ
+textIn a m = take (a .length) (drop (a .start) m)
+
+-- "handed on as the .. single request it stands for": its version is the object's
 unfoldable pub callIn : Arguments → (object version : ℕ) → (message : List ℕ) → Call Input
 unfolding requestIn
 callIn a object version m =
     cond (eqb (a .request) syncNumber)
     (Call.plain (Plain.syncMessage (a .first) (low (a .second))))
-    (callOf (requestIn a) object version (take (a .length) (drop (a .start) m)))
+    (callOf (requestIn a) object version (textIn a m))
 
 -- what was read, on an object of this version: a request's message is so many of the bytes
 unfoldable pub readAs : (object version : ℕ) → (bytes : List ℕ) → First → Reading (Call Input)
