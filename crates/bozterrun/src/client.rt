@@ -1,7 +1,7 @@
 // A client's requests.
 use crate::answer;
 use crate::answer::BAD_ARGUMENT;
-use crate::cells;
+use client_calls::cells;
 use eiproto::event::DeviceCapability;
 use eiproto::event::DeviceCapabilityOf;
 use requests::cell::Cell;

@@ -19,6 +19,8 @@ ghost use Rattle.client_requests.specs.Decision.{OnlyQueued, Waits};
 ghost use Rattle.handlers.specs.Call.{handshakeCall, seatCall, deviceCall, touchscreenCall};
 ghost use Rattle.client_calls.specs.Request.{AsksControl, AsksRows, AsksRowsAt, AsksAll};
 
+pub mod cells;
+
 // A timed request of which nothing is asked but a known interface.
 pub fn queue_for_interface(
     control: &mut [u64],

@@ -1,7 +1,7 @@
 -- 1 is a press. Assumes nothing.
 use borrow.Author.Tests.{eq-eqb, ne-eqb}
-use Rattle.bozterrun.proofs.cells.button_state.Statement.{statement}
-use Rattle.bozterrun.proofs.cells.button_state.Tie as tie
+use Rattle.client_calls.proofs.cells.button_state.Statement.{statement}
+use Rattle.client_calls.proofs.cells.button_state.Tie as tie
 
 pub button-state-spec : {M : Type 1} → statement M
 button-state-spec =

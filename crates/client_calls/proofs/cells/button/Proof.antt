@@ -6,17 +6,17 @@ use Rattle.model.specs.Edit.{item}
 use Rattle.session.specs.View.{requestIn, itemIn, requestAt, itemAt}
 use Rattle.handlers.proofs.Timed.{row-waits}
 use borrow.Author.Needs.{needs}
-use Rattle.bozterrun.proofs.cells.text_keysym.Statement.{statement}
-use Rattle.bozterrun.proofs.cells.text_keysym.Tie as tie
+use Rattle.client_calls.proofs.cells.button.Statement.{statement}
+use Rattle.client_calls.proofs.cells.button.Tie as tie
 
 returns : tie.Need-returns
 unfolding sight load item itemAt requestAt requestIn itemIn entry
-returns c = row-waits (Input.Keysym _ _) (EisRequest.TextKeysym 0 0 _ _) (c .text-keysym .ensures) (λ t. rw (c .before .key-state .ensures))
+returns c = row-waits (Input.Button _ _) (EisRequest.Button 0 0 _ _) (c .button .ensures) (λ t. rw (c .before .button-state .ensures))
 
-pub text-keysym-spec : {M : Type 1} → statement M
-text-keysym-spec =
+pub button-spec : {M : Type 1} → statement M
+button-spec =
     tie.close
     (tie.spec
-    (λ c κs. search needs)  -- key-state-requires
-    (λ c κs. search needs)  -- text-keysym-requires
+    (λ c κs. search needs)  -- button-state-requires
+    (λ c κs. search needs)  -- button-requires
     returns)

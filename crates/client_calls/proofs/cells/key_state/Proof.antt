@@ -1,7 +1,7 @@
 -- 1 is a press. Assumes nothing.
 use borrow.Author.Tests.{eq-eqb, ne-eqb}
-use Rattle.bozterrun.proofs.cells.key_state.Statement.{statement}
-use Rattle.bozterrun.proofs.cells.key_state.Tie as tie
+use Rattle.client_calls.proofs.cells.key_state.Statement.{statement}
+use Rattle.client_calls.proofs.cells.key_state.Tie as tie
 
 pub key-state-spec : {M : Type 1} → statement M
 key-state-spec =

@@ -7,16 +7,16 @@ use Rattle.model.specs.Edit.{item}
 use Rattle.session.specs.View.{requestIn, itemIn, requestAt, itemAt}
 use Rattle.handlers.proofs.Timed.{row-waits}
 use borrow.Author.Needs.{needs}
-use Rattle.bozterrun.proofs.cells.pointer_motion.Statement.{statement}
-use Rattle.bozterrun.proofs.cells.pointer_motion.Tie as tie
+use Rattle.client_calls.proofs.cells.scroll_delta.Statement.{statement}
+use Rattle.client_calls.proofs.cells.scroll_delta.Tie as tie
 
 returns : tie.Need-returns
 unfolding sight load item itemAt requestAt requestIn itemIn entry
-returns c = row-waits (Input.MotionRelative _ _) (EisRequest.PointerMotion 0 0 _ _) (c .pointer-motion .ensures) (λ t. refl)
+returns c = row-waits (Input.Scroll _ _) (EisRequest.ScrollDelta 0 0 _ _) (c .scroll-delta .ensures) (λ t. refl)
 
-pub pointer-motion-spec : {M : Type 1} → statement M
-pointer-motion-spec =
+pub scroll-delta-spec : {M : Type 1} → statement M
+scroll-delta-spec =
     tie.close
     (tie.spec
-    (λ c κs. search needs)  -- pointer-motion-requires
+    (λ c κs. search needs)  -- scroll-delta-requires
     returns)
