@@ -24,11 +24,12 @@ use Rattle.answers.specs.Answer.{errorOf, outcomeOf}
 use Rattle.answers.specs.declared.Error.{Error}
 use Rattle.answers.specs.declared.Outcome.{Outcome}
 use Rattle.answers.specs.declared.Answer.{Answer}
+use Rattle.answers.specs.Texts.{TextsAfter}
 use Rattle.answers.specs.Meets.{Meets, turn, Handled, HandledRows, HandledControl, Answered}
 
 -- nothing changed, nothing written
-pub meets-unchanged : (s : Store) (out : List ℕ) (to : Step Load) (o : plan.Result) (r : Answer) → Whole s → to ≡ unchanged (session s) o
-    → outcomeOf (r .outcome) ≡ o → r .count ≡ 0 → Meets s s out out to r
+pub meets-unchanged : (s : Store) (out : List ℕ) {call : Call Input} (to : Step Load) (o : plan.Result) (r : Answer) → Whole s → to ≡ unchanged (session s) o
+    → outcomeOf (r .outcome) ≡ o → r .count ≡ 0 → Meets s s out out call to r
 unfolding unchanged records
 meets-unchanged s out to o r w e told none =
     record {
@@ -38,14 +39,15 @@ meets-unchanged s out to o r w e told none =
       count = none ∙ sym (ap (λ (x : Step Load). length (records (x .events))) e);
       bytes = sym (splice-none out 0) ∙ sym (ap (λ (x : Step Load). splice out 0 (records (x .events))) e);
       kept = λ h. refl;
+      texts = TextsAfter.kept refl;
     }
 
 -- a plan that was carried out
-pub meets-done : (s e : Store) (out later : List ℕ) (to : Step Load) (p : Plan) (load : Load) (r : Answer) → Whole e → to ≡ carriedOut p load (session s)
+pub meets-done : (s e : Store) (out later : List ℕ) {call : Call Input} (to : Step Load) (p : Plan) (load : Load) (r : Answer) → Whole e → to ≡ carriedOut p load (session s)
     → Enacted s e (p .edits) load → refuses (p .outcome) ≡ false → outcomeOf (r .outcome) ≡ p .outcome → r .count ≡ length (records (p .events))
-    → later ≡ splice out 0 (records (p .events)) → Meets s e out later to r
+    → later ≡ splice out 0 (records (p .events)) → TextsAfter s e call → Meets s e out later call to r
 unfolding carriedOut
-meets-done s e out later to p load r w is done fine told count bytes =
+meets-done s e out later to p load r w is done fine told count bytes texts =
     record {
       whole = w;
       view = done .view ∙ sym (ap (λ (x : Step Load). x .session) is);
@@ -53,6 +55,7 @@ meets-done s e out later to p load r w is done fine told count bytes =
       count = count ∙ sym (ap (λ (x : Step Load). length (records (x .events))) is);
       bytes = bytes ∙ sym (ap (λ (x : Step Load). splice out 0 (records (x .events))) is);
       kept = λ h. let z : _≡_ {A = ℕ} 0 1 = ap (λ (b : Bool). cond b 0 1) (sym h ∙ ap (λ (x : Step Load). refuses (x .outcome)) is ∙ fine) in absurd (omega arith);
+      texts = texts;
     }
 
 -- a test that a function answers, behind `if !..`

@@ -11,13 +11,14 @@ use Rattle.model.specs.Plan.{records}
 use Rattle.model.specs.Step.{Step, refuses, step}
 use Rattle.session.specs.View.{Store, store, session, Whole, Lending, isIntact}
 use Rattle.answers.specs.Answer.{outcomeOf}
+use Rattle.answers.specs.Texts.{TextsAfter}
 use Rattle.answers.specs.declared.Error.{Error}
 use Rattle.answers.specs.declared.Outcome.{Outcome}
 use Rattle.answers.specs.declared.Answer.{Answer}
 
--- The answer is the step's. s are the slices before the call, e those after it, out and later the lent `out`.
+-- The answer is the call's step. s are the slices before the call, e those after it, out and later the lent `out`.
 -- "Outcome, session, count and each byte of the lent buffers, refused calls included."
-pub record Meets (s e : Store) (out later : List ℕ) (to : Step Load) (r : Answer) : Type 0 where
+pub record Meets (s e : Store) (out later : List ℕ) (call : Call Input) (to : Step Load) (r : Answer) : Type 0 where
   pub whole : Whole e
   pub view : session e ≡ to .session
   pub outcome : outcomeOf (r .outcome) ≡ to .outcome
@@ -26,6 +27,8 @@ pub record Meets (s e : Store) (out later : List ℕ) (to : Step Load) (r : Answ
   pub bytes : later ≡ splice out 0 (records (to .events))
   -- "A refusal returns the session unchanged", bit for bit
   pub kept : refuses (to .outcome) ≡ true → e ≡ s
+  -- "closing a frame leaves the text store bit for bit as it was"
+  pub texts : TextsAfter s e call
 
 -- a call, with the clock and the length of `out`
 abbrev pub turn : Call Input → (clock : ℕ) → (out : List ℕ) → Turn
@@ -33,7 +36,7 @@ turn call clock out = record { call = call; now = clock; room = length out }
 
 -- on a session that is not damaged: the step of the model
 abbrev pub Handled : (s e : Store) (out later : List ℕ) (call : Call Input) (clock : ℕ) (r : Answer) → Type 0
-Handled s e out later call clock r = Meets s e out later (step (split (turn call clock out)) (session s)) r
+Handled s e out later call clock r = Meets s e out later call (step (split (turn call clock out)) (session s)) r
 
 -- a call that no text is changed by, whatever they are
 abbrev pub HandledRows : (c w : List ℕ) (r : List Float) (d v : List ℕ) (q : List Float) (out later : List ℕ) (call : Call Input) (clock : ℕ) (a : Answer) → Type 0

@@ -1,5 +1,5 @@
 -- A decision carried out: what its answer meets, and what holds between a change of the held touches and the pending list. Assumes nothing.
-use Prim.Native.Nat.{ℕ, _≤_, _<_}
+use Prim.Native.Nat.{ℕ, _*_, _≤_, _<_}
 use mathlib.Core.Path.{_≡_, refl, sym, ap, _∙_}
 use mathlib.Core.Logic.{_⊎_, inl, inr}
 use mathlib.Core.Bool.{true}
@@ -11,21 +11,25 @@ use lib.Ieee.{Float}
 use lib.ListN.{length, getD}
 use Rattle.eiproto.specs.declared.event.DeviceCapability.{DeviceCapability}
 use Rattle.utf8.specs.Rfc3629.{isUtf8}
+use Rattle.wire.specs.Bits.{splice}
 use Rattle.wire.proofs.Splices.{splice-none}
+use Rattle.requests.specs.Row.{rowAt}
 use Rattle.requests.specs.declared.cell.Cell.{Cell}
 use Rattle.model.specs.Call.{Kind, Input, sight, Load, load, loadOf, Call, mapCall, split}
+use Rattle.model.specs.Session.{Session}
 use Rattle.model.specs.Edit.{Amend, Edit, enactAll}
 use Rattle.model.specs.Plan.{records, refusal, answer, refuse, edit}
 use Rattle.model.specs.Plan as plan
 use Rattle.model.specs.Decide.{handler, pendAfter, handle}
 use Rattle.model.specs.Step.{textsBy, texts, Counts, counts, refuses, step}
-use Rattle.model_steps.proofs.Counted.{counts-amend}
+use Rattle.model_steps.proofs.Counted.{afterPend, counts-amend, counts-pend}
 use Rattle.control.specs.Control.{deviceCount, pendingAt, coreAt}
 use Rattle.control.specs.Sound.{Sound}
-use Rattle.session.specs.View.{Store, store, session, Whole, Lent}
+use Rattle.session.specs.View.{Store, store, session, Free, Whole, Lent}
 use Rattle.session.specs.Enact.{Enacted, EnactedControl}
 use Rattle.session.proofs.Views.{lent-after, enacted-none, devices-length, pending-count, deviceSeen}
 use Rattle.answers.specs.Answer.{outcomeOf}
+use Rattle.answers.specs.Texts.{Stored, TextsAfter}
 use Rattle.answers.specs.Meets.{turn, Handled}
 use Rattle.answers.specs.declared.Error.{Error}
 use Rattle.answers.specs.declared.Outcome.{Outcome}
@@ -34,7 +38,7 @@ use Rattle.answers.proofs.Meetings.{meets-unchanged, meets-done}
 use Rattle.client_requests.specs.Decision.{amendsOf, decidedStep, CanQueue, Decided}
 use Rattle.client_requests.specs.declared.timed.TouchChange.{TouchChange}
 use Rattle.client_requests.specs.declared.timed.Decision.{Decision}
-use Rattle.client_requests.proofs.Decisions.{interfaceSlot, step-unknown, step-told, step-full, step-texts, step-queued}
+use Rattle.client_requests.proofs.Decisions.{interfaceSlot, interface-within, step-unknown, step-told, step-full, step-texts, step-queued}
 
 -- ---- what was decided
 
@@ -60,7 +64,7 @@ module _ (s : Store) (out : List ℕ) (interface version clock : ℕ) (input : I
   met-queued e {k} {change} is words reals texts done told =
       meets-done s e out out _ (edit (map (λ a. Edit.amend k a) (amendsOf change) ++ (Edit.pend k (sight input) ∷ []))) (load input) r
       (record { sound = done .sound; words-long = words ∙ whole .words-long; reals-long = reals ∙ whole .reals-long; texts-long = ap length texts ∙ whole .texts-long })
-      (stepped is) done refl (ap outcomeOf (told .0)) (told .1) (sym (splice-none out 0))
+      (stepped is) done refl (ap outcomeOf (told .0)) (told .1) (sym (splice-none out 0)) (TextsAfter.kept texts)
 
 -- ---- the held touches
 
@@ -156,11 +160,23 @@ module _ (s : Store) (out : List ℕ) (interface version clock : ℕ) (text : Li
             (step-texts DeviceCapability.Text interface version (sight (Input.Utf8 text)) valid refl s (split (turn call clock out)) refl e [] text-plan room refl h)
             (ap outcomeOf (told .0)) (told .1)
 
-        pub text-queued : (later : Store) → counts (session s) .texts < 32 → length (later .words) ≡ length (s .words) → length (later .reals) ≡ length (s .reals) → length (later .texts) ≡ length (s .texts)
-            → Enacted s later (Edit.pend k (sight (Input.Utf8 text)) ∷ []) (Load.Text text) → (r .outcome ≡ Outcome.Accepted) × (r .count ≡ 0) → Handled s later out out call clock r
-        unfolding split mapCall sight load loadOf handler pendAfter edit refuses refusal records
-        text-queued later h words reals texts done told =
+        pub text-queued : (later : Store) {slot : ℕ} → counts (session s) .texts < 32 → length (later .words) ≡ length (s .words) → length (later .reals) ≡ length (s .reals) → length (later .texts) ≡ length (s .texts)
+            → slot < 32 → Free (s .control) (rowAt (s .words) (s .reals)) slot
+            → Enacted s later (Edit.pend k (sight (Input.Utf8 text)) ∷ []) (Load.Text text) × (later .texts ≡ splice (s .texts) (256 * slot) text)
+            → (r .outcome ≡ Outcome.Accepted) × (r .count ≡ 0) → Handled s later out out call clock r
+        unfolding split mapCall sight load loadOf handler pendAfter edit refuses refusal records enactAll counts afterPend texts textsBy
+        text-queued later h words reals long low free (done, bytes) told =
+            let within = interface-within DeviceCapability.Text interface (s .control) e in
+            let counted = counts-pend k (sight (Input.Utf8 text)) (Load.Text text) (session s) (omega (arith, within, devices-length s)) in
+            let stored : Stored s later text = record {
+              slot = _;
+              low = low;
+              free = free;
+              short = omega arith;
+              bytes = bytes;
+              more = ap (λ (x : Session Load). counts x .texts) (done .view) ∙ ap (λ (n : Counts). n .texts) counted;
+            } in
             meets-done s later out out _ (edit (Edit.pend k (sight (Input.Utf8 text)) ∷ [])) (Load.Text text) r
-            (record { sound = done .sound; words-long = words ∙ whole .words-long; reals-long = reals ∙ whole .reals-long; texts-long = texts ∙ whole .texts-long })
+            (record { sound = done .sound; words-long = words ∙ whole .words-long; reals-long = reals ∙ whole .reals-long; texts-long = long ∙ whole .texts-long })
             (step-queued DeviceCapability.Text interface version (sight (Input.Utf8 text)) valid refl s (split (turn call clock out)) refl e [] text-plan room (inr h))
-            done refl (ap outcomeOf (told .0)) (told .1) (sym (splice-none out 0))
+            done refl (ap outcomeOf (told .0)) (told .1) (sym (splice-none out 0)) (TextsAfter.stored interface version text refl stored)

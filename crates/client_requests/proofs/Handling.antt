@@ -37,6 +37,7 @@ use Rattle.events.specs.Events.{Sends, Destroys}
 use Rattle.events.specs.declared.Mark.{Mark}
 use Rattle.events.proofs.Writes.{one-length, destroyed-length}
 use Rattle.answers.specs.Answer.{outcomeOf}
+use Rattle.answers.specs.Texts.{TextsAfter}
 use Rattle.answers.specs.Meets.{turn, Handled}
 use Rattle.answers.specs.declared.Error.{Error}
 use Rattle.answers.specs.declared.Outcome.{Outcome}
@@ -114,13 +115,13 @@ module _ (s : Store) (out : List ℕ) (call : Call Input) (clock : ℕ) (r : Ans
         (step-queue-full (split (turn call clock out)) (session s) u p (omega (arith, leb-false (queueLength (s .control) + 1) 256 full, requests-length s)))
         (ap outcomeOf (a .0)) (a .1)
 
-    pub queue-done : {e : Store} → hasRoom (s .control) 1 ≡ true → Whole e → Enacted s e (Edit.queue u ∷ []) (loadOf call) → Tells r Outcome.Accepted 0
-        → Handled s e out out call clock r
+    pub queue-done : {d v : List ℕ} {q : List Float} → hasRoom (s .control) 1 ≡ true → Whole (store d v q (s .texts))
+        → Enacted s (store d v q (s .texts)) (Edit.queue u ∷ []) (loadOf call) → Tells r Outcome.Accepted 0 → Handled s (store d v q (s .texts)) out out call clock r
     unfolding split hasRoom edit records refuses refusal
-    queue-done {e} fits w done a =
-        meets-done s e out out _ (edit (Edit.queue u ∷ [])) (loadOf call) r w
+    queue-done fits w done a =
+        meets-done s _ out out _ (edit (Edit.queue u ∷ [])) (loadOf call) r w
         (step-queue (split (turn call clock out)) (session s) u p (omega (arith, leb-true (queueLength (s .control) + 1) 256 fits, requests-length s)))
-        done refl (ap outcomeOf (a .0)) (a .1) (sym (splice-none out 0))
+        done refl (ap outcomeOf (a .0)) (a .1) (sym (splice-none out 0)) (TextsAfter.kept refl)
 
   -- behind the frame of the device in slot k
   module _ (k serial time : ℕ) (l : k < deviceCount (s .control)) where
@@ -139,14 +140,15 @@ module _ (s : Store) (out : List ℕ) (call : Call Input) (clock : ℕ) (r : Ans
           (omega (arith, leb-false (queueLength (s .control) + (n + 1)) 256 full, m, requests-length s, needs-are)))
           (ap outcomeOf (a .0)) (a .1)
 
-      pub flush-done : {e : Store} {n : ℕ} → n ≡ frameEntries waits → hasRoom (s .control) (n + 1) ≡ true → Whole e
-          → Enacted s e (Edit.frame k serial time ∷ Edit.queue u ∷ []) (loadOf call) → Tells r Outcome.Accepted 0 → Handled s e out out call clock r
+      pub flush-done : {d v : List ℕ} {q : List Float} {n : ℕ} → n ≡ frameEntries waits → hasRoom (s .control) (n + 1) ≡ true → Whole (store d v q (s .texts))
+          → Enacted s (store d v q (s .texts)) (Edit.frame k serial time ∷ Edit.queue u ∷ []) (loadOf call) → Tells r Outcome.Accepted 0
+          → Handled s (store d v q (s .texts)) out out call clock r
       unfolding split hasRoom edit records refuses refusal
-      flush-done {e} {n} m fits w done a =
-          meets-done s e out out _ (edit (Edit.frame k serial time ∷ Edit.queue u ∷ [])) (loadOf call) r w
+      flush-done {n = n} m fits w done a =
+          meets-done s _ out out _ (edit (Edit.frame k serial time ∷ Edit.queue u ∷ [])) (loadOf call) r w
           (step-flush (split (turn call clock out)) (session s) k serial time u p
           (omega (arith, leb-true (queueLength (s .control) + (n + 1)) 256 fits, m, requests-length s, needs-are)))
-          done refl (ap outcomeOf (a .0)) (a .1) (sym (splice-none out 0))
+          done refl (ap outcomeOf (a .0)) (a .1) (sym (splice-none out 0)) (TextsAfter.kept refl)
 
     module _ (p : decide (view (session s)) clock (mapCall sight call) ≡ edit (Edit.frame k serial time ∷ [])) where
       -- a queue that is sound has room for nothing
@@ -160,14 +162,15 @@ module _ (s : Store) (out : List ℕ) (call : Call Input) (clock : ℕ) (r : Ans
           (omega (arith, q, m, some .1, requests-length s, pending-count s k l)))
           (ap outcomeOf (a .0)) (a .1)
 
-      pub frame-done : {e : Store} {n : ℕ} → n ≡ frameEntries waits → hasRoom (s .control) n ≡ true → Whole e
-          → Enacted s e (Edit.frame k serial time ∷ []) (loadOf call) → Tells r Outcome.Accepted 0 → Handled s e out out call clock r
+      pub frame-done : {d v : List ℕ} {q : List Float} {n : ℕ} → n ≡ frameEntries waits → hasRoom (s .control) n ≡ true → Whole (store d v q (s .texts))
+          → Enacted s (store d v q (s .texts)) (Edit.frame k serial time ∷ []) (loadOf call) → Tells r Outcome.Accepted 0
+          → Handled s (store d v q (s .texts)) out out call clock r
       unfolding split hasRoom edit records refuses refusal
-      frame-done {e} {n} m fits w done a =
-          meets-done s e out out _ (edit (Edit.frame k serial time ∷ [])) (loadOf call) r w
+      frame-done {n = n} m fits w done a =
+          meets-done s _ out out _ (edit (Edit.frame k serial time ∷ [])) (loadOf call) r w
           (step-frame (split (turn call clock out)) (session s) k serial time p
           (omega (arith, leb-true (queueLength (s .control) + n) 256 fits, m, requests-length s, needs-are)))
-          done refl (ap outcomeOf (a .0)) (a .1) (sym (splice-none out 0))
+          done refl (ap outcomeOf (a .0)) (a .1) (sym (splice-none out 0)) (TextsAfter.kept refl)
 
 -- ---- what is found
 
@@ -247,7 +250,7 @@ module _ (s : Store) (out : List ℕ) (callback version clock : ℕ) (r : Answer
   sync-done q w l d a =
       meets-done s s out _ _ (send done []) (loadOf (Call.plain (Plain.sync callback version))) r w
       (step-sent (split (turn (Call.plain (Plain.sync callback version)) clock out)) (session s) done [] sync-plan quiet-none (omega (arith, done-length q)))
-      (enacted-none s _ (w .sound)) refl (ap outcomeOf (a .0)) (a .1 ∙ d .next ∙ zero-add (length (records done))) (d .bytes)
+      (enacted-none s _ (w .sound)) refl (ap outcomeOf (a .0)) (a .1 ∙ d .next ∙ zero-add (length (records done))) (d .bytes) (TextsAfter.kept refl)
 
 -- ---- destroyed
 
@@ -279,16 +282,16 @@ module _ (s : Store) (out : List ℕ) (call : Call Input) (clock object : ℕ) (
       (omega (arith, destroyed-length last (object ∷ []))))
       (ap outcomeOf (a .0)) (a .1)
 
-  pub destroyed-done : {e : Store} {later : List ℕ} {serial : ℕ} {m : Mark} → Whole e → 14 ≤ length out → serial ≡ last
-      → Destroys out later (record { at = 0; serial = serial }) (object ∷ []) m → Enacted s e (Edit.raise 1 ∷ edits) (loadOf call) → Tells r Outcome.Accepted (m .at)
-      → Handled s e out later call clock r
+  pub destroyed-done : {d v later : List ℕ} {f : List Float} {serial : ℕ} {m : Mark} → Whole (store d v f (s .texts)) → 14 ≤ length out → serial ≡ last
+      → Destroys out later (record { at = 0; serial = serial }) (object ∷ []) m → Enacted s (store d v f (s .texts)) (Edit.raise 1 ∷ edits) (loadOf call)
+      → Tells r Outcome.Accepted (m .at) → Handled s (store d v f (s .texts)) out later call clock r
   unfolding split send refuses refusal
-  destroyed-done {e} {later} w l q d done a =
-      meets-done s e out later _ (send (destroyed last (object ∷ [])) (Edit.raise 1 ∷ edits)) (loadOf call) r w
+  destroyed-done {later = later} w l q d done a =
+      meets-done s _ out later _ (send (destroyed last (object ∷ [])) (Edit.raise 1 ∷ edits)) (loadOf call) r w
       (step-sent (split (turn call clock out)) (session s) (destroyed last (object ∷ [])) (Edit.raise 1 ∷ edits) (p ∙ sent-next s object edits) quiet
       (omega (arith, destroyed-length last (object ∷ []))))
       done refl (ap outcomeOf (a .0)) (a .1 ∙ omega (arith, d .at, destroyed-length last (object ∷ [])))
-      (d .bytes ∙ ap (λ (n : ℕ). splice out 0 (records (destroyed n (object ∷ [])))) q)
+      (d .bytes ∙ ap (λ (n : ℕ). splice out 0 (records (destroyed n (object ∷ [])))) q) (TextsAfter.kept refl)
 
 -- ---- Release of a seat
 

@@ -27,6 +27,7 @@ use Rattle.session.proofs.Views.{view-connection}
 use Rattle.requests.proofs.Arms.{among}
 use Rattle.session.specs.Enact.{Enacted}
 use Rattle.answers.specs.Answer.{outcomeOf}
+use Rattle.answers.specs.Texts.{TextsAfter}
 use Rattle.answers.specs.Meets.{Meets, turn, Handled}
 use Rattle.answers.specs.declared.Error.{Error}
 use Rattle.answers.specs.declared.Outcome.{Outcome}
@@ -169,12 +170,16 @@ module _ (s : Store) (out : List ℕ) (callback version clock : ℕ) (r : Answer
     peer-refused other = go (pair .ends)
       where
         go : (refuses (sync .outcome) ≡ true) ⊎ (sync .outcome ≡ plan.Result.accepted) → Handled s s out later asked clock r
-        go (inl e) = rw (is-refused e) h
+        go (inl e) =
+            rw (is-refused e)
+            (record { whole = h .whole; view = h .view; outcome = h .outcome; count = h .count; bytes = h .bytes; kept = h .kept; texts = TextsAfter.kept refl })
         go (inr e) = absurd (other (accepted-is (r .outcome) (h .outcome ∙ e)))
 
-    pub peer-made : r .outcome ≡ Outcome.Accepted → {e : Store} → Whole e → Enacted s e (Edit.peerObject callback ∷ []) Load.None → Handled s e out later asked clock r
+    pub peer-made : r .outcome ≡ Outcome.Accepted → {d : List ℕ} → Whole (store d (s .words) (s .reals) (s .texts))
+        → Enacted s (store d (s .words) (s .reals) (s .texts)) (Edit.peerObject callback ∷ []) Load.None
+        → Handled s (store d (s .words) (s .reals) (s .texts)) out later asked clock r
     unfolding enactAll refuses refusal
-    peer-made told {e} w made =
+    peer-made told w made =
         let fine : refuses (sync .outcome) ≡ false = ap refuses (sym (h .outcome) ∙ ap outcomeOf told) in
         rw (is-made fine)
         (record {
@@ -184,4 +189,5 @@ module _ (s : Store) (out : List ℕ) (callback version clock : ℕ) (r : Answer
           count = h .count;
           bytes = h .bytes;
           kept = λ z. absurd (false≢true (sym fine ∙ z));
+          texts = TextsAfter.kept refl;
         })

@@ -35,6 +35,7 @@ use Rattle.answers.specs.declared.Outcome.{Outcome}
 use Rattle.answers.specs.declared.Answer.{Answer}
 use Rattle.answers.specs.Answer.{outcomeOf}
 use Rattle.answers.specs.Check.{Checks}
+use Rattle.answers.specs.Texts.{TextsAfter}
 use Rattle.answers.specs.Meets.{turn, Handled}
 use Rattle.answers.proofs.Meetings.{meets-done, whole-after, over-handled, told-handled}
 
@@ -161,4 +162,4 @@ module _ (s : Store) (w : Whole s) (out : List ℕ) (clock : ℕ) (reason : Disc
           meets-done s e out later (step t (session s)) (send told edits) (t .load) r
           (whole-after s w (both .sound) words reals)
           (step-remove t (session s) told edits planned (removes-seats _ _) (pending-few s w) (omega (arith, told-length)))
-          both refl (ap outcomeOf (answers .0)) (omega (arith, answers .1, written .next)) (written .bytes)
+          both refl (ap outcomeOf (answers .0)) (omega (arith, answers .1, written .next)) (written .bytes) (TextsAfter.kept refl)

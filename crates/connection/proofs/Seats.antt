@@ -26,6 +26,7 @@ use Rattle.answers.specs.declared.Error.{Error}
 use Rattle.answers.specs.declared.Outcome.{Outcome}
 use Rattle.answers.specs.declared.Answer.{Answer}
 use Rattle.answers.specs.Check.{Checks}
+use Rattle.answers.specs.Texts.{TextsAfter}
 use Rattle.answers.specs.Meets.{turn, Handled}
 use Rattle.answers.proofs.Meetings.{meets-done, whole-after, over-handled, told-handled}
 use Rattle.connection.specs.Seat.{Tested}
@@ -96,4 +97,4 @@ module _ (s : Store) (w : Whole s) (out : List ℕ) (clock : ℕ) (name : Option
             meets-done s e out later (step t (session s)) (seatPlan id caps told) (t .load) _
             (whole-after s w (enacted .sound) refl refl)
             (step-seat t (session s) planned (omega (arith, seats-length s)) (omega arith) room)
-            enacted refl refl (omega (arith, sends .next)) (sends .bytes)
+            enacted refl refl (omega (arith, sends .next)) (sends .bytes) (TextsAfter.kept refl)

@@ -24,7 +24,7 @@ use Rattle.model.specs.Step.{Step, textBytes, carriedOut, refuses, unchanged, s
 use Rattle.model_steps.proofs.Steps.{deliverPlan, step-answer, step-deliver, step-deliver-short, deliver-gave}
 use Rattle.control.specs.Table.{tab}
 use Rattle.control.specs.Control.{queueHead, queueLength}
-use Rattle.session.specs.View.{Store, slotLength, textsLength, queueRow, textIn, requestIn, textOf, requestAt, queueIn, session, isWhole, Whole}
+use Rattle.session.specs.View.{Store, store, slotLength, textsLength, queueRow, textIn, requestIn, textOf, requestAt, queueIn, session, isWhole, Whole}
 use Rattle.session.specs.Enact.{Enacted}
 use Rattle.session.proofs.Shapes.{carried, shape}
 use Rattle.session.proofs.Views.{requests-are}
@@ -102,6 +102,7 @@ module _ (s : Store) where
           gave = g ∙ sym (ap (λ (x : Step Load). x .gave) e);
           bytes = sym (splice-none buffer 0) ∙ sym (ap (λ (x : Step Load). splice buffer 0 (givenText (x .gave))) e);
           kept = λ h. refl;
+          texts = refl;
         }
 
     pub given-none : Whole s → queueLength (s .control) ≡ 0 → Gives s s buffer buffer nextStep NextRequest.None
@@ -156,7 +157,8 @@ module _ (s : Store) where
         gave-is =
             ap (λ (x : Step Load). x .gave) taken ∙ deliver-gave (split (turn (Call.plain Plain.nextRequest) clock buffer)) (session s) (some-queued l)
 
-        pub given-done : {e : Store} → Whole e → Enacted s e (Edit.deliver ∷ []) Load.None → Gives s e buffer later nextStep (NextRequest.Given q)
+        pub given-done : {d v : List ℕ} {f : List Float} → Whole (store d v f (s .texts)) → Enacted s (store d v f (s .texts)) (Edit.deliver ∷ []) Load.None
+            → Gives s (store d v f (s .texts)) buffer later nextStep (NextRequest.Given q)
         unfolding carriedOut refuses refusal
         given-done w done =
             record {
@@ -166,6 +168,7 @@ module _ (s : Store) where
               gave = ap (λ (x : Queued Load). x ∷ []) told ∙ sym gave-is;
               bytes = copied ∙ ap (splice buffer 0) (sym (ap givenText gave-is ∙ held));
               kept = λ h. absurd (false≢true (sym (ap (λ (x : Step Load). refuses (x .outcome)) taken) ∙ h));
+              texts = refl;
             }
 
 -- ---- 21 before all else

@@ -57,6 +57,8 @@ pub record Gives (s e : Store) (buffer later : List ℕ) (to : Step Load) (r : N
   -- "a text goes to the lent buffer, of which the rest keeps its bytes"
   pub bytes : later ≡ splice buffer 0 (givenText (to .gave))
   pub kept : refuses (to .outcome) ≡ true → e ≡ s
+  -- a text is copied out of its slot, which keeps its bytes
+  pub texts : e .texts ≡ s .texts
 
 pub record Delivered (s e : Store) (buffer later : List ℕ) (r : NextRequest) : Type 0 where
   pub damaged : isWhole s ≡ false → (r ≡ NextRequest.Refused Error.BadState) × ((e ≡ s) × (later ≡ buffer))

@@ -32,6 +32,7 @@ use Rattle.answers.specs.Answer.{outcomeOf}
 use Rattle.answers.specs.declared.Error.{Error}
 use Rattle.answers.specs.declared.Outcome.{Outcome}
 use Rattle.answers.specs.declared.Answer.{Answer}
+use Rattle.answers.specs.Texts.{TextsAfter}
 use Rattle.answers.specs.Meets.{turn, Handled}
 use Rattle.answers.proofs.Meetings.{meets-done, whole-after, over-handled, told-handled}
 use Rattle.device.specs.declared.Notice.{Notice}
@@ -101,7 +102,7 @@ module _ (s : Store) (whole : Whole s) (out : List ℕ) (device clock : ℕ) (n 
       meets-done s (store d (s .words) (s .reals) (s .texts)) out later (step turned (session s)) (send events edits) (turned .load) r
       (whole-after s whole (both .sound) refl refl)
       (step-sent turned (session s) events edits planned (notice-quiet n k) (omega (arith, events-length)))
-      both refl (ap outcomeOf (a .0)) (omega (arith, a .1, b .next)) (b .bytes)
+      both refl (ap outcomeOf (a .0)) (omega (arith, a .1, b .next)) (b .bytes) (TextsAfter.kept refl)
 
 -- ---- whether a device has a capability
 

@@ -3,3 +3,4 @@ pub mod Received
 pub mod Same
 pub mod Single
 pub mod Trials
+pub mod Texts

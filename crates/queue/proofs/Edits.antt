@@ -19,7 +19,7 @@ use Rattle.session.specs.View.{queueStart, store, pendingRow, queueRow, request
 use Rattle.session.specs.Enact.{Enacted}
 use Rattle.session.proofs.Views.{session-of, device-ext, queue-ext}
 use Rattle.session.proofs.Edits.{amended-session}
-use Rattle.queue.specs.Queue.{Copied}
+use Rattle.queue.specs.Queue.{Copied, Slots-stay}
 use Rattle.queue.proofs.Tables.{tab-add, tab-rest, framed-tab, framed-slot}
 use Rattle.queue.proofs.Entries.{framed-request}
 
@@ -52,6 +52,10 @@ copied-step {rows} {mid} {later} {k} {n} {head} {queued} {device} {time} from to
           (λ e. p .other (queueRow head (queued + j)) (λ z. omega arith) ∙ m .here j (omega arith));
       other = λ i h. p .other i (λ z. h n (omega arith) (z ∙ t)) ∙ m .other i (λ j l. h j (omega arith));
     }
+
+pub slots-stay : Slots-stay
+unfolding framedRow
+slots-stay before after k n head queued device time j copied l = ap (λ (w : Row). w .slot) (copied .here j l)
 
 -- ---- the queue
 

@@ -42,3 +42,9 @@ pub record Copyable (words : List ℕ) (reals : List Float) (k n head queued : �
 pub record Copied (before after : ℕ → Row) (k n head queued device time : ℕ) : Type 0 where
   pub here : (j : ℕ) → j < n → after (queueRow head (queued + j)) ≡ framedRow device time (before (pendingRow k j))
   pub other : (i : ℕ) → ((j : ℕ) → j < n → i ≡ queueRow head (queued + j) → ⊥) → after i ≡ before i
+
+-- "only the reference moves to the queue": the text of each request that a frame queues lies in the slot where it lay. proofs/Edits.antt proves it
+abbrev pub Slots-stay : Type 0
+Slots-stay =
+    (before after : ℕ → Row) (k n head queued device time j : ℕ) → Copied before after k n head queued device time → j < n
+    → after (queueRow head (queued + j)) .slot ≡ before (pendingRow k j) .slot

@@ -4,3 +4,4 @@ pub mod Laws
 pub mod Lending
 pub mod Calls
 pub mod Agreed
+pub mod Texts

@@ -1,3 +1,4 @@
 pub mod Record
 pub mod Handed
 pub mod Agrees
+pub mod Texts

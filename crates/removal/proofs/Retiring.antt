@@ -25,6 +25,7 @@ use Rattle.answers.specs.Answer.{outcomeOf}
 use Rattle.answers.specs.declared.Error.{Error}
 use Rattle.answers.specs.declared.Outcome.{Outcome}
 use Rattle.answers.specs.declared.Answer.{Answer}
+use Rattle.answers.specs.Texts.{TextsAfter}
 use Rattle.answers.specs.Meets.{turn, Handled}
 use Rattle.answers.proofs.Meetings.{meets-done, whole-after, over-handled}
 use Rattle.removal.specs.Retire.{Retired}
@@ -86,4 +87,4 @@ module _ (s : Store) (w : Whole s) (out : List ℕ) (call : Plain) (clock : ℕ)
       meets-done s (store d v f (s .texts)) out later (step t (session s)) (send told all) (t .load) r
       (whole-after s w (done .sound) words reals)
       (step-remove t (session s) told all planned q (pending-few s w) (omega (arith, told-length)))
-      done refl (ap outcomeOf (a .0)) (omega (arith, a .1, gone .sent .next)) (gone .sent .bytes)
+      done refl (ap outcomeOf (a .0)) (omega (arith, a .1, gone .sent .next)) (gone .sent .bytes) (TextsAfter.kept refl)

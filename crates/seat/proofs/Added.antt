@@ -31,6 +31,7 @@ use Rattle.answers.specs.declared.Error.{Error}
 use Rattle.answers.specs.declared.Outcome.{Outcome}
 use Rattle.answers.specs.declared.Answer.{Answer}
 use Rattle.answers.specs.Check.{Checks}
+use Rattle.answers.specs.Texts.{TextsAfter}
 use Rattle.answers.specs.Meets.{turn, Handled}
 use Rattle.answers.proofs.Meetings.{meets-done, whole-after, over-handled, told-handled}
 use Rattle.seat.specs.Seat.{Tested}
@@ -142,4 +143,4 @@ module _ (s : Store) (w : Whole s) (out : List ℕ) (clock seat : ℕ) (name : O
             meets-done s e out later (step t (session s)) (devicePlan id seat both told) (t .load) _
             (whole-after s w (enacted .sound) refl refl)
             (step-device t (session s) planned (omega (arith, devices-length s)) (omega (arith, next-is)) room)
-            enacted refl refl (omega (arith, sends .next)) (sends .bytes)
+            enacted refl refl (omega (arith, sends .next)) (sends .bytes) (TextsAfter.kept refl)

@@ -1,6 +1,6 @@
 -- What the four lent slices of a session mean: the session of the model, with the payloads as they are delivered. Every slice of numbers means
 -- something. Assumes nothing.
-use Prim.Native.Nat.{ℕ, _+_, _*_, _%_}
+use Prim.Native.Nat.{ℕ, _+_, _*_, _%_, _<_}
 use mathlib.Core.Path.{_≡_}
 use mathlib.Core.Bool.{Bool, false, _&&_}
 use mathlib.Core.List.{List, []}
@@ -144,6 +144,11 @@ sessionIn c rows texts =
 unfoldable pub session : Store → Session Load
 unfolding sessionIn rowAt
 session s = sessionIn (s .control) (rowAt (s .words) (s .reals)) (s .texts)
+
+-- no pending and no queued request has its text in the slot
+pub record Free (c : List ℕ) (rows : ℕ → Row) (slot : ℕ) : Type 0 where
+  pub pending : (k j : ℕ) → k < deviceCount c → j < coreAt c k .pending → rows (pendingRow k j) .slot ≡ slot → ⊥
+  pub queued : (j : ℕ) → j < queueLength c → rows (queueRow (queueHead c) j) .slot ≡ slot → ⊥
 
 -- ---- damaged states
 

@@ -1,8 +1,8 @@
 -- The texts in their slots: one that is put there is read there, and leaves the others. Assumes nothing.
-use Prim.Native.Nat.{ℕ, _+_, _-_, _*_, _%_, _≤_, _<_}
+use Prim.Native.Nat.{ℕ, _+_, _*_, _%_, _≤_, _<_}
 use mathlib.Core.Path.{_≡_, refl, sym, ap, ap₂, _∙_}
 use mathlib.Core.Bool.{true}
-use mathlib.Core.List.{List, [], _∷_, _++_, append-assoc, map}
+use mathlib.Core.List.{List, [], _∷_, map}
 use mathlib.Core.Logic.{dite}
 use native.Mathlib.Decide.{decLt}
 use native.Mathlib.Nat.{mod-eq-of-lt}
@@ -11,8 +11,8 @@ use native.Mathlib.Omega.{arith}
 use borrow.Author.Tests.{le-leb, leb-true}
 use lib.Dec.{leb}
 use lib.Ieee.{Float}
-use lib.ListN.{length, getD, take, drop, set, length-append, length-drop, take-append-drop, List·getD-map, List·getD-eq-default}
-use lib.Seq.{take-all, take-suc, length-take-le, take-append-le, drop-append-le, take-at, drop-at, drop-drop, getD-take, getD-drop}
+use lib.ListN.{length, getD, take, drop, set, length-drop, List·getD-map, List·getD-eq-default}
+use lib.Seq.{take-all, take-suc, length-take-le, getD-take, getD-drop}
 use Rattle.eiproto.specs.Bits.{every}
 use Rattle.eiproto.proofs.Bits.{every-at}
 use Rattle.requests.specs.declared.cell.Cell.{Cell}
@@ -21,14 +21,14 @@ use Rattle.requests.specs.Request.{textLength}
 use Rattle.requests.specs.Row.{textsLimit, Row, meanings, requestOf, entry, rowOf, cellAt, rowAt}
 use Rattle.model.specs.Call.{Kind, Sight, Input, sight, Load}
 use Rattle.model.specs.Edit.{Edit, item, enactAll}
-use Rattle.control.specs.Control.{queueHead}
+use Rattle.control.specs.Control.{deviceCount, queueHead, queueLength, coreAt}
 use Rattle.control.proofs.Tables.{case-eq}
-use Rattle.session.specs.View.{store, slotLength, textsLength, pendingRow, queueRow, requestIn, itemIn, textOf, requestAt, itemAt, session}
+use Rattle.session.specs.View.{store, slotLength, textsLength, pendingRow, queueRow, requestIn, itemIn, textOf, requestAt, itemAt, session, Free}
 use Rattle.session.specs.Enact.{Enacted}
 use Rattle.session.proofs.Views.{device-ext, queue-ext, session-ext}
-use Rattle.texts.specs.Texts.{textLengthLimit, Free}
+use Rattle.texts.specs.Texts.{textLengthLimit}
 use Rattle.wire.specs.Bits.{splice}
-use Rattle.wire.proofs.Splices.{splice-none, length-splice, splice-front, splice-splice}
+use Rattle.wire.proofs.Splices.{splice-none, length-splice, splice-front, splice-splice, splice-here, splice-before, splice-behind}
 
 -- ---- a text byte by byte
 
@@ -69,44 +69,6 @@ module _ {mid : List ℕ} (out from : List ℕ) (at n i : ℕ) (e : mid ≡ spli
   unfolding part
   copy-end h = e ∙ ap (splice out 0) (take-all i (take n (drop at from)) (let long = part-length from at n source in omega arith))
 
--- ---- what is read
-
-front : (p q : List ℕ) (a n : ℕ) → a + n ≤ length p → take n (drop a (p ++ q)) ≡ take n (drop a p)
-front p q a n h = ap (take n) (drop-append-le a p q (omega arith)) ∙ take-append-le n (drop a p) q (let e = length-drop a p in omega arith)
-
-module _ (texts text : List ℕ) (at : ℕ) (fits : at + length text ≤ length texts) where
-  abbrev rest : List ℕ
-  rest = drop (at + length text) texts
-
-  head-length : length (take at texts) ≡ at
-  head-length = length-take-le at texts (omega arith)
-
-  -- the text itself
-  text-here : take (length text) (drop at (splice texts at text)) ≡ text
-  unfolding splice
-  text-here = ap (take (length text)) (drop-at (take at texts) (text ++ rest) at head-length) ∙ take-at text rest (length text) refl
-
-  -- what ends before it
-  text-before : (a n : ℕ) → a + n ≤ at → take n (drop a (splice texts at text)) ≡ take n (drop a texts)
-  unfolding splice
-  text-before a n h =
-      let q = head-length in
-      front (take at texts) (text ++ rest) a n (omega arith)
-      ∙ sym (front (take at texts) (drop at texts) a n (omega arith)) ∙ ap (λ (l : List ℕ). take n (drop a l)) (take-append-drop at texts)
-
-  -- what begins behind it
-  text-behind : (a n : ℕ) → at + length text ≤ a → take n (drop a (splice texts at text)) ≡ take n (drop a texts)
-  unfolding splice
-  text-behind a n h =
-      let b = at + length text in
-      let e : a ≡ b + (a - b) = omega arith in
-      let q : length (take at texts ++ text) ≡ b = length-append (take at texts) text ∙ ap (λ (k : ℕ). k + length text) head-length in
-      let whole : take at texts ++ (text ++ rest) ≡ take at texts ++ text ++ rest = sym (append-assoc (take at texts) text rest) in
-      ap (take n)
-      (ap₂ (λ (k : ℕ) (l : List ℕ). drop k l) e whole ∙ sym (drop-drop (a - b) b (take at texts ++ text ++ rest))
-      ∙ ap (drop (a - b)) (drop-at (take at texts ++ text) rest b q)
-      ∙ drop-drop (a - b) b texts ∙ ap (λ (k : ℕ). drop k texts) (sym e))
-
 -- ---- the texts of the rows
 
 lengths-small : (c : Cell) → every (λ n. leb n 255) (map textLength (meanings c)) ≡ true
@@ -124,6 +86,48 @@ row-length w r i =
     (λ h. omega (arith, e, leb-true (getD lengths (c .kind) 0) 255 (every-at (λ n. leb n 255) lengths (c .kind) 0 (lengths-small c) h)))
     (λ h. omega (arith, e, List·getD-eq-default lengths 0 {n = c .kind} (omega arith)))
 
+-- texts that tell the same of every request in use hold the same session
+module _ (c w : List ℕ) (r : List Float) (texts later : List ℕ) where
+  abbrev Same : ℕ → Type 0
+  Same i = textOf later (rowAt w r i) ≡ textOf texts (rowAt w r i)
+
+  request-same : (i : ℕ) → Same i → requestAt later (rowAt w r i) ≡ requestAt texts (rowAt w r i)
+  unfolding requestAt
+  request-same i same = ap (requestIn (rowAt w r i .request)) same
+
+  item-same : (i : ℕ) → Same i → itemAt later (rowAt w r i) ≡ itemAt texts (rowAt w r i)
+  unfolding itemAt
+  item-same i same = ap itemIn (request-same i same)
+
+  session-same : ((k j : ℕ) → k < deviceCount c → j < coreAt c k .pending → Same (pendingRow k j)) → ((j : ℕ) → j < queueLength c → Same (queueRow (queueHead c) j))
+      → session (store c w r later) ≡ session (store c w r texts)
+  unfolding session
+  session-same pending queued =
+      let rows = rowAt w r in
+      session-ext c c rows rows texts later refl refl
+      (λ k l. device-ext c c rows rows texts later k k refl (λ j m. item-same (pendingRow k j) (pending k j l m)))
+      (queue-ext c c rows rows texts later refl refl (λ j m. request-same (queueRow (queueHead c) j) (queued j m)))
+
+-- the last byte of a slot is no text's
+pub last-byte-unseen : (c w : List ℕ) (r : List Float) (texts : List ℕ) (slot byte : ℕ) → slot < textsLimit → length texts ≡ textsLength
+    → session (store c w r (set texts (slotLength * slot + 255) byte)) ≡ session (store c w r texts)
+unfolding textOf
+last-byte-unseen c w r texts slot byte small long =
+    rw put (session-same c w r texts (splice texts (slotLength * slot + 255) (byte ∷ [])) (λ k j l m. unseen (pendingRow k j)) (λ j m. unseen (queueRow (queueHead c) j)))
+  where
+    put : set texts (slotLength * slot + 255) byte ≡ splice texts (slotLength * slot + 255) (byte ∷ [])
+    put =
+        let at = slotLength * slot + 255 in
+        ap (λ (l : List ℕ). set l at byte) (sym (splice-none texts (at + 1))) ∙ splice-front texts at (at + 1) byte [] refl (omega arith)
+
+    unseen : (i : ℕ) → textOf (splice texts (slotLength * slot + 255) (byte ∷ [])) (rowAt w r i) ≡ textOf texts (rowAt w r i)
+    unseen i =
+        let at = slotLength * slot + 255 in
+        let row = rowAt w r i in
+        let short = row-length w r i in
+        dite (decLt slot (row .slot)) (λ l. splice-behind texts (byte ∷ []) at (omega arith) (slotLength * row .slot) (textLength (row .request)) (omega arith))
+        (λ n. splice-before texts (byte ∷ []) at (omega arith) (slotLength * row .slot) (textLength (row .request)) (omega arith))
+
 module _ (texts text : List ℕ) (slot : ℕ) (small : slot < textsLimit) (short : length text ≤ textLengthLimit) (long : length texts ≡ textsLength) where
   abbrev later : List ℕ
   later = splice texts (slotLength * slot) text
@@ -132,34 +136,22 @@ module _ (texts text : List ℕ) (slot : ℕ) (small : slot < textsLimit) (short
   row-kept : (row : Row) → textLength (row .request) ≤ 255 → (row .slot ≡ slot → ⊥) → textOf later row ≡ textOf texts row
   unfolding textOf
   row-kept row h ne =
-      dite (decLt (row .slot) slot) (λ l. text-before texts text (slotLength * slot) (omega arith) (slotLength * row .slot) (textLength (row .request)) (omega arith))
+      dite (decLt (row .slot) slot) (λ l. splice-before texts text (slotLength * slot) (omega arith) (slotLength * row .slot) (textLength (row .request)) (omega arith))
       (λ n.
-      text-behind texts text (slotLength * slot) (omega arith) (slotLength * row .slot) (textLength (row .request))
+      splice-behind texts text (slotLength * slot) (omega arith) (slotLength * row .slot) (textLength (row .request))
       (case-eq (row .slot) slot (λ e. absurd (ne e)) (λ x. omega arith)))
 
-  module _ (w : List ℕ) (r : List Float) (i : ℕ) (ne : rowAt w r i .slot ≡ slot → ⊥) where
-    request-kept : requestAt later (rowAt w r i) ≡ requestAt texts (rowAt w r i)
-    unfolding requestAt
-    request-kept = ap (requestIn (rowAt w r i .request)) (row-kept (rowAt w r i) (row-length w r i) ne)
-
-    item-kept : itemAt later (rowAt w r i) ≡ itemAt texts (rowAt w r i)
-    unfolding itemAt
-    item-kept = ap itemIn request-kept
-
   session-kept : (c w : List ℕ) (r : List Float) → Free c (rowAt w r) slot → session (store c w r later) ≡ session (store c w r texts)
-  unfolding session
   session-kept c w r free =
-      let rows = rowAt w r in
-      session-ext c c rows rows texts later refl refl
-      (λ k l. device-ext c c rows rows texts later k k refl (λ j m. item-kept w r (pendingRow k j) (free .pending k j l m)))
-      (queue-ext c c rows rows texts later refl refl (λ j m. request-kept w r (queueRow (queueHead c) j) (free .queued j m)))
+      session-same c w r texts later (λ k j l m. row-kept (rowAt w r (pendingRow k j)) (row-length w r (pendingRow k j)) (free .pending k j l m))
+      (λ j m. row-kept (rowAt w r (queueRow (queueHead c) j)) (row-length w r (queueRow (queueHead c) j)) (free .queued j m))
 
   -- the request that has the text
   text-item : item (sight (Input.Utf8 text)) (Load.Text text) ≡ itemAt later (entry (TextUtf8 0 0 (length text)) slot)
   unfolding item sight itemAt itemIn requestAt requestIn textOf entry
   text-item =
       let p : text ≡ take (length text) (drop (slotLength * (slot % textsLimit)) later) =
-      sym (ap (λ (s : ℕ). take (length text) (drop (slotLength * s) later)) (mod-eq-of-lt small) ∙ text-here texts text (slotLength * slot) (omega arith)) in
+      sym (ap (λ (s : ℕ). take (length text) (drop (slotLength * s) later)) (mod-eq-of-lt small) ∙ splice-here texts text (slotLength * slot) (omega arith)) in
       λ i. record { kind = Kind.TextUtf8; touch = 0; size = length text; load = Load.Text (p i) }
 
   -- what `pend` of the queue does with it, after the text was put in its slot

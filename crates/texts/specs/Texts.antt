@@ -7,10 +7,10 @@ use lib.Dec.{ltb}
 use lib.Ieee.{Float}
 use lib.ListN.{length}
 use Rattle.eiproto.specs.Bits.{bit, bitsOf}
-use Rattle.requests.specs.Row.{textsLimit, Row, rowAt}
+use Rattle.requests.specs.Row.{textsLimit, rowAt}
 use Rattle.model.specs.Step.{counts}
-use Rattle.control.specs.Control.{pendingLimit, queueLimit, deviceCount, queueHead, queueLength, pendingAt, coreAt}
-use Rattle.session.specs.View.{Store, store, rowCount, wordsLength, realsLength, pendingRow, queueRow, session, Whole}
+use Rattle.control.specs.Control.{pendingLimit, queueLimit, deviceCount, pendingAt}
+use Rattle.session.specs.View.{Store, store, rowCount, wordsLength, realsLength, session, Free, Whole}
 use Rattle.texts.specs.declared.LiveTexts.{LiveTexts}
 
 -- how many of the first n slots are a text's
@@ -41,11 +41,6 @@ pub record FirstRun (head queued n : ℕ) : Type 0 where
   pub some : n ≤ queued
   pub in-ring : head + n ≤ queueLimit
   pub all : n < queued → head + n ≡ queueLimit
-
--- no pending and no queued request has its text in the slot
-pub record Free (c : List ℕ) (rows : ℕ → Row) (slot : ℕ) : Type 0 where
-  pub pending : (k j : ℕ) → k < deviceCount c → j < coreAt c k .pending → rows (pendingRow k j) .slot ≡ slot → ⊥
-  pub queued : (j : ℕ) → j < queueLength c → rows (queueRow (queueHead c) j) .slot ≡ slot → ⊥
 
 -- what a pass over the live requests tells
 pub record Live (c w : List ℕ) (r : List Float) (live : LiveTexts) : Type 0 where

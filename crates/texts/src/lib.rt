@@ -122,7 +122,7 @@ fn put_text(texts: &mut [u8], slot: usize, text: &[u8])
     }
 }
 
-// A text more in the pending list of the device in slot k, in a slot that is free. The texts of all other requests are as they were.
+// A text more in the pending list of the device in slot k, in a slot that is free. No other byte of the texts is written.
 pub fn pend_text(
     control: &mut [u64],
     words: &mut [u64],
@@ -133,7 +133,7 @@ pub fn pend_text(
     text: &[u8],
 )
     requires { ⌜ Pendable (store (now control) (now words) (now reals) (now texts)) k slot (now text) ⌝ }
-    ensures { λ _. ⌜ EnactsAll control words reals texts (Edit.pend k (sight (Input.Utf8 (now (text .entry)))) ∷ []) (Load.Text (now (text .entry))) ⌝ }
+    ensures { λ _. ⌜ EnactsAll control words reals texts (Edit.pend k (sight (Input.Utf8 (now (text .entry)))) ∷ []) (Load.Text (now (text .entry))) × (now (texts .exit) ≡ splice (now (texts .entry)) (slotLength * slot) (now (text .entry))) ⌝ }
 {
     put_text(texts, slot, text);
     // Its device and its time come with its frame.

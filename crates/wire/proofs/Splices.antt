@@ -1,6 +1,6 @@
 -- Laws of `splice` and `fitted`: writing one run of bytes behind another. Assumes nothing.
-use Prim.Native.Nat.{ℕ, suc, _+_, _≤_, _<_}
-use mathlib.Core.Path.{_≡_, refl, sym, ap, _∙_}
+use Prim.Native.Nat.{ℕ, suc, _+_, _-_, _≤_, _<_}
+use mathlib.Core.Path.{_≡_, refl, sym, ap, ap₂, _∙_}
 use mathlib.Core.List.{List, [], _∷_, _++_, append-assoc}
 use mathlib.Core.Logic.{dite}
 use native.Mathlib.Decide.{decLe}
@@ -9,7 +9,7 @@ use native.Mathlib.Numerals.{add-one}
 use native.Mathlib.Omega.{arith}
 use borrow.Author.Tests.{le-leb, lt-leb}
 use lib.ListN.{length, getD, take, drop, set, length-append, length-drop, take-append-drop}
-use lib.Seq.{drop-cons, take-suc, set-at, length-take-le, drop-drop, take-at, drop-at}
+use lib.Seq.{drop-cons, take-suc, set-at, length-take-le, take-append-le, drop-append-le, drop-drop, take-at, drop-at}
 use Rattle.wire.specs.Bits.{splice, fitted}
 use Rattle.wire.specs.Put.{PutWhole, Wrote}
 
@@ -52,6 +52,47 @@ splice-splice out at xs ys h =
     ∙ ap (drop (length ys)) (drop-at (take at out ++ xs) rest (at + length xs) e) ∙ drop-drop (length ys) (at + length xs) out
     ∙ ap (λ (n : ℕ). drop n out) (add-assoc at (length xs) (length ys) ∙ ap (λ (n : ℕ). at + n) (sym (length-append xs ys))) in
     rw (a, b, append-assoc (take at out) xs, append-assoc xs ys)
+
+-- ---- what is read of it
+
+-- a part of the first of two lists
+front : (p q : List ℕ) (a n : ℕ) → a + n ≤ length p → take n (drop a (p ++ q)) ≡ take n (drop a p)
+front p q a n h = ap (take n) (drop-append-le a p q (omega arith)) ∙ take-append-le n (drop a p) q (let e = length-drop a p in omega arith)
+
+module _ (out xs : List ℕ) (at : ℕ) (fits : at + length xs ≤ length out) where
+  abbrev rest : List ℕ
+  rest = drop (at + length xs) out
+
+  head-length : length (take at out) ≡ at
+  head-length = length-take-le at out (omega arith)
+
+  -- the run itself
+  pub splice-here : take (length xs) (drop at (splice out at xs)) ≡ xs
+  unfolding splice
+  splice-here = ap (take (length xs)) (drop-at (take at out) (xs ++ rest) at head-length) ∙ take-at xs rest (length xs) refl
+
+  -- what ends before it
+  pub splice-before : (a n : ℕ) → a + n ≤ at → take n (drop a (splice out at xs)) ≡ take n (drop a out)
+  unfolding splice
+  splice-before a n h =
+      let q = head-length in
+      front (take at out) (xs ++ rest) a n (omega arith)
+      ∙ sym (front (take at out) (drop at out) a n (omega arith)) ∙ ap (λ (l : List ℕ). take n (drop a l)) (take-append-drop at out)
+
+  -- what begins behind it
+  pub splice-behind : (a n : ℕ) → at + length xs ≤ a → take n (drop a (splice out at xs)) ≡ take n (drop a out)
+  unfolding splice
+  splice-behind a n h =
+      let b = at + length xs in
+      let e : a ≡ b + (a - b) = omega arith in
+      let q : length (take at out ++ xs) ≡ b = length-append (take at out) xs ∙ ap (λ (k : ℕ). k + length xs) head-length in
+      let whole : take at out ++ (xs ++ rest) ≡ take at out ++ xs ++ rest = sym (append-assoc (take at out) xs rest) in
+      ap (take n)
+      (ap₂ (λ (k : ℕ) (l : List ℕ). drop k l) e whole ∙ sym (drop-drop (a - b) b (take at out ++ xs ++ rest))
+      ∙ ap (drop (a - b)) (drop-at (take at out ++ xs) rest b q)
+      ∙ drop-drop (a - b) b out ∙ ap (λ (k : ℕ). drop k out) (sym e))
+
+-- ---- writes
 
 -- a second write, behind the first
 pub wrote-join : {out mid later : List ℕ} {at b r n m : ℕ} {xs ys : List ℕ} → Wrote out mid at n xs b → Wrote mid later b m ys r → at + (n + m) ≤ length out → Wrote out later at (n + m) (xs ++ ys) r

@@ -18,10 +18,13 @@ returns c =
     let p = start .pre in
     let pend = c .before .before .before .before .before .before .pend in
     let last = pend .last in
+    let put = c .before .before .before .before .before .before .before .before .before .before .before .before .before .put-text .ensures in
+    let placed =
     subst
     (λ (ts : List ℕ). Enacted (store (a .control .now) (a .words .now) (a .reals .now) (a .texts .now)) (store (last .0) (last .1 .0) (last .1 .1 .0) ts) (Edit.pend (a .k) (sight (Input.Utf8 (a .text .now))) ∷ []) (Load.Text (a .text .now)))
-    (sym (c .before .before .before .before .before .before .before .before .before .before .before .before .before .put-text .ensures))
-    (text-pended (a .texts .now) (a .text .now) (a .slot) (p .low) (p .short) (p .whole .texts-long) (a .k) (p .free) (c .before .before .before .before .before .before .before .before .before .before .text-utf8 .ensures) (pend .ensures))
+    (sym put)
+    (text-pended (a .texts .now) (a .text .now) (a .slot) (p .low) (p .short) (p .whole .texts-long) (a .k) (p .free) (c .before .before .before .before .before .before .before .before .before .before .text-utf8 .ensures) (pend .ensures)) in
+    (placed, put)
 
 pub pend-text-spec : {M : Type 1} → statement M
 pend-text-spec =

@@ -104,10 +104,11 @@ returns-4 c =
     let p = at-start .pre in
     let s = store (a .control .now) (a .words .now) (a .reals .now) (a .texts .now) in
     let k = sym (at-device-for-interface .device-for-interface .ensures) ∙ ap slotTold (at-k .k .given .1) in
+    let slot = at-pend-text .before .free-slot .ensures in
     let last = at-pend-text .pend-text .last in
     let kept = at-pend-text .pend-text .kept in
     λ version clock out.
-    text-queued s out (a .interface) version clock (a .text .now) _ (p .0) (p .1) k (omega (arith, at-if1 .if1 .left)) (ltb-false 254 (length (a .text .now)) (at-if2 .if2 .left)) (omega (arith, at-pending-count .pending-count .ensures, at-if3 .if3 .left)) (store (last .0) (last .1 .0) (last .1 .1 .0) (last .1 .1 .1 .0)) (omega (arith, at-live-texts .live-texts .ensures .count (a .texts .now), at-if4 .if4 .left)) (kept .1 .0) (kept .1 .1 .0) (kept .1 .1 .1 .0) (at-pend-text .pend-text .ensures) (c .accepted .ensures)
+    text-queued s out (a .interface) version clock (a .text .now) _ (p .0) (p .1) k (omega (arith, at-if1 .if1 .left)) (ltb-false 254 (length (a .text .now)) (at-if2 .if2 .left)) (omega (arith, at-pending-count .pending-count .ensures, at-if3 .if3 .left)) (store (last .0) (last .1 .0) (last .1 .1 .0) (last .1 .1 .1 .0)) (omega (arith, at-live-texts .live-texts .ensures .count (a .texts .now), at-if4 .if4 .left)) (kept .1 .0) (kept .1 .1 .0) (kept .1 .1 .1 .0) (slot .0) (at-live-texts .live-texts .ensures .free _ (slot .0) (slot .1)) (at-pend-text .pend-text .ensures) (c .accepted .ensures)
 
 returns-5 : tie.Need-returns-5
 returns-5 c =
