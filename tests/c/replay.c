@@ -2,7 +2,8 @@
  * replay: reads a call script on standard input and writes its trail, through the functions of bozterrun.h alone.
  *
  * docs/CALL-SCRIPTS.md says what a script and a trail are. A line that is no call ends the trail with `error line N`,
- * and the exit status is then 2.
+ * and the exit status is then 2. A call that writes more of the session's texts than it may, which a trail does not
+ * show, ends it too, with the status 3: each text that is taken goes to one slot, and nothing else is written there.
  */
 #define _POSIX_C_SOURCE 200809L
 #include "bozterrun.h"
@@ -114,6 +115,10 @@ static struct {
 static bozterrun_record records[READ_LIMIT];
 static bozterrun_point points[READ_LIMIT];
 static uint8_t read_texts[LINE_LIMIT / 2];
+
+/* The session's texts before a call, and the bytes of a slot. */
+static uint8_t texts_before[BOZTERRUN_TEXTS_LENGTH];
+enum { SLOT_LENGTH = 256 };
 
 /* ---- Reading ---- */
 
@@ -764,17 +769,41 @@ static bool gather(void)
     }
 }
 
+static void keep_texts(void)
+{
+    memcpy(texts_before, run.session.texts, sizeof texts_before);
+}
+
+/* Ends the program where more slots of the texts were written than texts were taken. */
+static void check_texts(size_t taken)
+{
+    size_t written = 0;
+    for (size_t at = 0; at < sizeof texts_before; at += SLOT_LENGTH) {
+        written += memcmp(run.session.texts + at, texts_before + at, SLOT_LENGTH) != 0;
+    }
+    if (written > taken) {
+        fflush(stdout);
+        fprintf(stderr, "%zu slots of the texts were written, %zu texts taken\n", written, taken);
+        exit(3);
+    }
+}
+
 /* Hands the read over, if it lacks no request. */
 static void hand_over(void)
 {
     told t = nothing_told;
-    size_t accepted;
+    size_t accepted, texts = 0;
     if (reading.lacking > 0) {
         return;
     }
     reading.on = false;
+    keep_texts();
     t.answer = bz_handle_requests(&run.session, &reading.read, run.clock, out, at_most(run.out_length), &accepted,
                                   &t.count, &t.interface, &t.version);
+    for (size_t i = 0; i < accepted; i++) {
+        texts += records[i].request == BOZTERRUN_READ_TEXT_UTF8;
+    }
+    check_texts(texts);
     printf("accepted %zu", accepted);
     if (t.answer != BOZTERRUN_ACCEPTED) {
         printf(" ");
@@ -824,7 +853,9 @@ static bool play(void)
             hand_over();
             return true;
         }
+        keep_texts();
         t = run.phase == RUNNING ? call() : shake();
+        check_texts(t.answer == BOZTERRUN_ACCEPTED && (line.verb == TEXT_UTF8 || line.verb == MESSAGE));
     }
     write_answer(&t);
     return true;

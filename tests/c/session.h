@@ -1,4 +1,4 @@
-/* What nan.c, twins.c, texts.c and bench.c begin with: a session whose client knows every interface, and one seat. */
+/* What several of the tests begin with: a session whose client knows every interface, and one seat. */
 #ifndef SESSION_H
 #define SESSION_H
 
