@@ -1,9 +1,9 @@
 -- The text store at a call that is lent all four slices, which are whole or damaged, accepted or refused. proofs/Texts.antt proves the statements. Assumes nothing.
-use Prim.Native.Nat.{ℕ, _*_, _≤_, _<_}
+use Prim.Native.Nat.{ℕ, _*_, _≤_}
 use mathlib.Core.Path.{_≡_}
 use mathlib.Core.List.{List}
 use lib.ListN.{take, drop}
-use Rattle.requests.specs.Row.{textsLimit, rowAt}
+use Rattle.requests.specs.Row.{rowAt}
 use Rattle.model.specs.Call.{Input, Call}
 use Rattle.model.specs.Step.{counts}
 use Rattle.session.specs.View.{Store, slotLength, session, Free, Lending}

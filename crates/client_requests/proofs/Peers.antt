@@ -16,7 +16,7 @@ use Rattle.model.specs.Call.{Input, Load, Plain, Call, Split, mapCall, split}
 use Rattle.model.specs.Session.{Session, view}
 use Rattle.model.specs.Edit.{Edit, enact, enactAll}
 use Rattle.model.specs.Plan as plan
-use Rattle.model.specs.Plan.{Sent, on, records, answer, refuse, send, refusal}
+use Rattle.model.specs.Plan.{Sent, on, records, refuse, send, refusal}
 use Rattle.model.specs.Decide.{isPeerId, handleSync, handleSyncMessage, decidePlain, decide}
 use Rattle.model.specs.Step.{Step, refuses, unchanged, gave, gaveAll, carriedOut, step}
 use Rattle.model_steps.proofs.Counted.{quietOne, quietAll, quiet-none}
@@ -28,7 +28,7 @@ use Rattle.requests.proofs.Arms.{among}
 use Rattle.session.specs.Enact.{Enacted}
 use Rattle.answers.specs.Answer.{outcomeOf}
 use Rattle.answers.specs.Texts.{TextsAfter}
-use Rattle.answers.specs.Meets.{Meets, turn, Handled}
+use Rattle.answers.specs.Meets.{Handled}
 use Rattle.answers.specs.declared.Error.{Error}
 use Rattle.answers.specs.declared.Outcome.{Outcome}
 use Rattle.answers.proofs.Outcome as outcome
