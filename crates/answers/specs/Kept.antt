@@ -1,4 +1,4 @@
--- The text store at a call that is lent all four slices, which are whole or damaged, accepted or refused. proofs/Texts.antt proves the statements. Assumes nothing.
+-- The text store at a call, accepted or refused, that is lent all four slices, whole or damaged. proofs/Texts.antt proves the statements. Assumes nothing.
 use Prim.Native.Nat.{ℕ, _*_, _≤_}
 use mathlib.Core.Path.{_≡_}
 use mathlib.Core.List.{List}

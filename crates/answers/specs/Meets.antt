@@ -27,7 +27,7 @@ pub record Meets (s e : Store) (out later : List ℕ) (call : Call Input) (to : 
   pub bytes : later ≡ splice out 0 (records (to .events))
   -- "A refusal returns the session unchanged", bit for bit
   pub kept : refuses (to .outcome) ≡ true → e ≡ s
-  -- "closing a frame leaves the text store bit for bit as it was"
+  -- "closing a frame leaves the text store bit for bit as it was"; so does all but a Utf8 that is taken
   pub texts : TextsAfter s e call
 
 -- a call, with the clock and the length of `out`

@@ -19,7 +19,7 @@ pub record Stored (s e : Store) (text : List ℕ) : Type 0 where
   pub more : counts (session e) .texts ≡ counts (session s) .texts + 1
 
 -- "the text should remain in its slot while only the reference moves to the queue: closing a frame leaves the text store bit for bit as it was". So does every
--- call but a Utf8 that is taken, which stores its text
+-- call, unless it is a Utf8 that is taken, which may store its own text and write no other byte
 pub data TextsAfter (s e : Store) (call : Call Input) : Type 0 where
   kept : e .texts ≡ s .texts → TextsAfter s e call
   stored : (interface version : ℕ) (text : List ℕ) → call ≡ Call.timed interface version (Input.Utf8 text) → Stored s e text → TextsAfter s e call

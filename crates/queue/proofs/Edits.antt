@@ -19,7 +19,7 @@ use Rattle.session.specs.View.{queueStart, store, pendingRow, queueRow, request
 use Rattle.session.specs.Enact.{Enacted}
 use Rattle.session.proofs.Views.{session-of, device-ext, queue-ext}
 use Rattle.session.proofs.Edits.{amended-session}
-use Rattle.queue.specs.Queue.{Copied, Slots-stay}
+use Rattle.queue.specs.Queue.{Copied}
 use Rattle.queue.proofs.Tables.{tab-add, tab-rest, framed-tab, framed-slot}
 use Rattle.queue.proofs.Entries.{framed-request}
 
@@ -53,9 +53,13 @@ copied-step {rows} {mid} {later} {k} {n} {head} {queued} {device} {time} from to
       other = λ i h. p .other i (λ z. h n (omega arith) (z ∙ t)) ∙ m .other i (λ j l. h j (omega arith));
     }
 
-pub slots-stay : Slots-stay
+-- a copied row names the slot of its text, and the Frame behind them is no such row
+pub slots-stay : {rows mid later : ℕ → Row} {k n head queued device time place oldest length waits : ℕ} {new : Row} → Copied rows mid k n head queued device time
+    → Put mid later place new → place ≡ queueRow head (queued + n) → queued + n + 1 ≤ queueLimit → head ≡ oldest → queued ≡ length → n ≡ waits
+    → (j : ℕ) → j < waits → later (queueRow oldest (length + j)) .slot ≡ rows (pendingRow k j) .slot
 unfolding framedRow
-slots-stay before after k n head queued device time j copied l = ap (λ (w : Row). w .slot) (copied .here j l)
+slots-stay {head = head} {queued = queued} copied p last room h l w j less =
+    rw (← h, ← l) (ap (λ (row : Row). row .slot) (p .other (queueRow head (queued + j)) (λ z. omega arith) ∙ copied .here j (omega arith)))
 
 -- ---- the queue
 

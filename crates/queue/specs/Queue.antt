@@ -8,8 +8,8 @@ use lib.Ieee.{Float}
 use lib.ListN.{length}
 use Rattle.model.specs.Call.{Sight, Load}
 use Rattle.model.specs.Edit.{Edit, item}
-use Rattle.control.specs.Control.{devicesLimit, pendingLimit, queueLimit, queueLength}
-use Rattle.requests.specs.Row.{Row, framedRow}
+use Rattle.control.specs.Control.{devicesLimit, pendingLimit, queueLimit, queueHead, queueLength, coreAt}
+use Rattle.requests.specs.Row.{Row, framedRow, rowAt}
 use Rattle.session.specs.View.{wordsLength, realsLength, pendingRow, queueRow, itemAt}
 use Rattle.session.specs.Slices.{Numbers, Reals, rowsBefore, rowsAfter}
 use Rattle.session.specs.Enact.{Enacted}
@@ -43,8 +43,9 @@ pub record Copied (before after : ℕ → Row) (k n head queued device time : �
   pub here : (j : ℕ) → j < n → after (queueRow head (queued + j)) ≡ framedRow device time (before (pendingRow k j))
   pub other : (i : ℕ) → ((j : ℕ) → j < n → i ≡ queueRow head (queued + j) → ⊥) → after i ≡ before i
 
--- "only the reference moves to the queue": the text of each request that a frame queues lies in the slot where it lay. proofs/Edits.antt proves it
-abbrev pub Slots-stay : Type 0
-Slots-stay =
-    (before after : ℕ → Row) (k n head queued device time j : ℕ) → Copied before after k n head queued device time → j < n
-    → after (queueRow head (queued + j)) .slot ≡ before (pendingRow k j) .slot
+-- "only the reference moves to the queue": each request that a frame of slot k queues names the slot that it named while it was pending
+abbrev pub SlotsStay : (control words : Numbers) (reals : Reals) (k : ℕ) → Type 0
+SlotsStay c w r k =
+    (j : ℕ) → j < coreAt (c .entry .now) k .pending
+    → rowAt (w .exit .now) (r .exit .now) (queueRow (queueHead (c .entry .now)) (queueLength (c .entry .now) + j)) .slot
+    ≡ rowAt (w .entry .now) (r .entry .now) (pendingRow k j) .slot

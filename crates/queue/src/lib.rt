@@ -17,7 +17,7 @@ ghost use Rattle.control.specs.Control.{pendingLimit, queueLimit, deviceCount, 
 ghost use Rattle.control.specs.Sound.{Sound};
 ghost use Rattle.session.specs.View.{rowCount, Lent, requestIn, queueRow};
 ghost use Rattle.session.specs.Enact.{EnactsControl, EnactsRows};
-ghost use Rattle.queue.specs.Queue.{Pends, Copyable, Copied, frameEntries, hasRoom};
+ghost use Rattle.queue.specs.Queue.{Pends, Copyable, Copied, SlotsStay, frameEntries, hasRoom};
 
 // Whether the queue has room for n entries more.
 pub fn has_room(control: &[u64], n: usize) -> bool
@@ -112,7 +112,7 @@ pub fn frame(
     time: u64,
 )
     requires { ⌜ Lent (now control) (now words) (now reals) × ((k < deviceCount (now control)) × (queueLength (now control) + frameEntries (pendingAt (now control) k) ≤ queueLimit)) ⌝ }
-    ensures { λ _. ⌜ EnactsRows control words reals (Edit.frame k serial time ∷ []) ⌝ }
+    ensures { λ _. ⌜ EnactsRows control words reals (Edit.frame k serial time ∷ []) × SlotsStay control words reals k ⌝ }
 {
     let n = control::pending_count(control, k);
     if n == 0 {

@@ -7,7 +7,7 @@ use Rattle.control.specs.Control.{devicesLimit, queueLimit}
 use Rattle.queue.proofs.Room.{frame-room}
 use Rattle.queue.proofs.Entries.{frame-request}
 use Rattle.control.proofs.Sounds.{pending-bound}
-use Rattle.queue.proofs.Edits.{enacted, framed-none, framed-some}
+use Rattle.queue.proofs.Edits.{enacted, slots-stay, framed-none, framed-some}
 use Rattle.queue.proofs.frame.Statement.{statement}
 use Rattle.queue.proofs.frame.Tie as tie
 
@@ -32,11 +32,13 @@ slot-low c = omega (arith, start c .pre .0 .sound .devices, start c .pre .1 .0)
 returns : tie.Need-returns
 returns c =
     let a = c .before .before .before .before .before .before .args in
-    let p = c .before .before .before .before .before .before .pre in
-    λ texts load.
-    enacted (p .0 .sound)
-    (framed-none (a .control .now) (rowAt (a .words .now) (a .reals .now)) texts (a .k) (a .serial) (a .time) (p .1 .0)
-    (omega (arith, c .before .pending-count .ensures, c .if1 .taken)) load)
+    let p = c .before .before .before .before .before .before .pre in (
+      λ texts load.
+          enacted (p .0 .sound)
+          (framed-none (a .control .now) (rowAt (a .words .now) (a .reals .now)) texts (a .k) (a .serial) (a .time) (p .1 .0)
+          (omega (arith, c .before .pending-count .ensures, c .if1 .taken)) load),
+      λ j less. absurd (omega (arith, less, c .before .pending-count .ensures, c .if1 .taken)),
+    )
 
 copy-pending-requires : tie.Need-copy-pending-requires
 copy-pending-requires c κs =
@@ -88,12 +90,15 @@ returns-2 c =
     let q = copy .before .before .before .before .before in
     let a = start q .args in
     let p = start q .pre in
-    let e = c .before .before .set-pending .ensures in
-    λ texts load.
-    enacted (e .sound)
-    (framed-some (p .0 .sound) (copy .copy-pending .ensures) (put .put-cell .ensures) (c .before .before .before .before .before .before .set-queue .ensures) e (p .1 .0) (q .before .before .before .before .before .pending-count .ensures) (some q)
-    (q .before .before .queue-head .ensures) (q .queue-length .ensures) (fits q) (device .ensures) (omega (arith, put .before .before .queue-row .ensures .0)) (omega arith) (omega arith) texts
-    (a .serial) (frame-request texts (device .result) (a .serial) (a .time) (put .before .frame .ensures)) load)
+    let e = c .before .before .set-pending .ensures in (
+      λ texts load.
+          enacted (e .sound)
+          (framed-some (p .0 .sound) (copy .copy-pending .ensures) (put .put-cell .ensures) (c .before .before .before .before .before .before .set-queue .ensures) e (p .1 .0) (q .before .before .before .before .before .pending-count .ensures) (some q)
+          (q .before .before .queue-head .ensures) (q .queue-length .ensures) (fits q) (device .ensures) (omega (arith, put .before .before .queue-row .ensures .0)) (omega arith) (omega arith) texts
+          (a .serial) (frame-request texts (device .result) (a .serial) (a .time) (put .before .frame .ensures)) load),
+      slots-stay (copy .copy-pending .ensures) (put .put-cell .ensures) (put .before .before .queue-row .ensures .0) (fits q) (q .before .before .queue-head .ensures)
+          (q .queue-length .ensures) (q .before .before .before .before .before .pending-count .ensures),
+    )
 
 pub frame-spec : {M : Type 1} → statement M
 frame-spec =

@@ -65,7 +65,7 @@ push-requires c κs =
     let at-start = at-find-device .before .before .before .before .before in
     let a = at-start .args in
     let f = sym (at-find-device .find-device .ensures) ∙ ap slotTold (at-k .k .given .1) in
-    let o = at-frame .frame .ensures [] Load.None in (
+    let o = at-frame .frame .ensures .0 [] Load.None in (
       record {
         sound = o .sound;
         words-long = at-frame .frame .kept .1 .0 ∙ at-start .pre .words-long;
@@ -90,7 +90,7 @@ returns-2 c =
     let f = sym (at-find-device .find-device .ensures) ∙ ap slotTold (at-k .k .given .1) in
     λ call x out texts w.
     let s = store (a .control .now) (a .words .now) (a .reals .now) texts in
-    let o = enacted-join (at-frame .frame .ensures texts _) (at-push .push .ensures (x .untimed) (x .is) texts _) in
+    let o = enacted-join (at-frame .frame .ensures .0 texts _) (at-push .push .ensures (x .untimed) (x .is) texts _) in
     flush-done s out call (a .clock) _ _ _ (a .clock) (device-passes (a .control .now) (λ d. eqb (d .id) (a .device)) _ f .within) (x .untimed)
     (x .plan (view (session s)) ∙ device-flush s (a .device) f (a .clock) (x .untimed) (at-last-serial .last-serial .ensures)) (at-frame-entries .frame-entries .ensures .0)
     (sym (at-has-room .has-room .ensures) ∙ not-false _ (at-if1 .if1 .left))

@@ -63,7 +63,7 @@ returns-2 c =
     let f = sym (at-find-device .find-device .ensures) ∙ ap slotTold (at-k .k .given .1) in
     λ clock out texts w.
     let s = store (a .control .now) (a .words .now) (a .reals .now) texts in
-    let o = at-frame .frame .ensures texts _ in
+    let o = at-frame .frame .ensures .0 texts _ in
     frame-done s out (Call.plain (Plain.deviceFrame (a .device) (a .serial) (a .time))) clock _ _ (a .serial) (a .time)
     (device-passes (a .control .now) (λ d. eqb (d .id) (a .device)) _ f .within)
     (frame-plan (view (session s)) clock (a .device) (a .serial) (a .time) ∙ device-frame s (a .device) f (a .serial) (a .time)) refl
