@@ -3,7 +3,8 @@
  *
  * docs/CALL-SCRIPTS.md says what a script and a trail are. A line that is no call ends the trail with `error line N`,
  * and the exit status is then 2. A call that writes more of the session's texts than it may, which a trail does not
- * show, ends it too, with the status 3: each text that is taken goes to one slot, and nothing else is written there.
+ * show, ends it too, with the status 3: a text that is taken is put at the start of one slot, and a read writes no more
+ * slots than it takes texts.
  */
 #define _POSIX_C_SOURCE 200809L
 #include "bozterrun.h"
@@ -774,17 +775,47 @@ static void keep_texts(void)
     memcpy(texts_before, run.session.texts, sizeof texts_before);
 }
 
-/* Ends the program where more slots of the texts were written than texts were taken. */
-static void check_texts(size_t taken)
+/* How many slots of the texts were written since. */
+static size_t slots_written(void)
 {
     size_t written = 0;
     for (size_t at = 0; at < sizeof texts_before; at += SLOT_LENGTH) {
         written += memcmp(run.session.texts + at, texts_before + at, SLOT_LENGTH) != 0;
     }
-    if (written > taken) {
+    return written;
+}
+
+static void must_hold(bool holds)
+{
+    if (!holds) {
         fflush(stdout);
-        fprintf(stderr, "%zu slots of the texts were written, %zu texts taken\n", written, taken);
+        fprintf(stderr, "%zu slots of the texts were written\n", slots_written());
         exit(3);
+    }
+}
+
+/* Nothing was written, or this text at the start of a slot. */
+static void check_text(const uint8_t *text, size_t length)
+{
+    for (size_t at = 0; at < sizeof texts_before && slots_written() > 0; at += SLOT_LENGTH) {
+        if (length <= SLOT_LENGTH && memcmp(run.session.texts + at, texts_before + at, SLOT_LENGTH) != 0) {
+            memcpy(texts_before + at, text, length);
+            break;
+        }
+    }
+    must_hold(slots_written() == 0);
+}
+
+/* The same of a call: the text is a Utf8's, or what would be one in a message, behind its length. */
+static void check_call(uint32_t answer)
+{
+    const bool message = line.verb == MESSAGE && line.length > 20 && line.text[16] > 0;
+    if (answer == BOZTERRUN_ACCEPTED && line.verb == TEXT_UTF8) {
+        check_text(line.text, line.length);
+    } else if (answer == BOZTERRUN_ACCEPTED && message && line.text[16] - 1u <= line.length - 20) {
+        check_text(line.text + 20, line.text[16] - 1u);
+    } else {
+        must_hold(slots_written() == 0);
     }
 }
 
@@ -803,7 +834,7 @@ static void hand_over(void)
     for (size_t i = 0; i < accepted; i++) {
         texts += records[i].request == BOZTERRUN_READ_TEXT_UTF8;
     }
-    check_texts(texts);
+    must_hold(slots_written() <= texts);
     printf("accepted %zu", accepted);
     if (t.answer != BOZTERRUN_ACCEPTED) {
         printf(" ");
@@ -855,7 +886,7 @@ static bool play(void)
         }
         keep_texts();
         t = run.phase == RUNNING ? call() : shake();
-        check_texts(t.answer == BOZTERRUN_ACCEPTED && (line.verb == TEXT_UTF8 || line.verb == MESSAGE));
+        check_call(t.answer);
     }
     write_answer(&t);
     return true;

@@ -213,8 +213,8 @@ static void try_two_devices(void)
 
 static void try_refused(void)
 {
-    const uint64_t text = device + 2;
     begin(1);
+    const uint64_t text = device + 2;
     leaves("no byte", bz_text_utf8(&session, text, (const uint8_t *)"", 0), BOZTERRUN_INVALID_TEXT_LENGTH);
     uint8_t long_text[LONGEST + 1];
     memset(long_text, 'a', sizeof long_text);
