@@ -29,7 +29,7 @@ use Rattle.answers.specs.Meets.{Meets, turn, Handled, HandledRows, Handl
 
 -- nothing changed, nothing written
 pub meets-unchanged : (s : Store) (out : List ℕ) {call : Call Input} (to : Step Load) (o : plan.Result) (r : Answer) → Whole s → to ≡ unchanged (session s) o
-    → outcomeOf (r .outcome) ≡ o → r .count ≡ 0 → Meets s s out out call to r
+    → outcomeOf (r .outcome) ≡ o → r .count ≡ 0 → Meets s s out out (TextsAfter s s call) to r
 unfolding unchanged records
 meets-unchanged s out to o r w e told none =
     record {
@@ -43,9 +43,9 @@ meets-unchanged s out to o r w e told none =
     }
 
 -- a plan that was carried out
-pub meets-done : (s e : Store) (out later : List ℕ) {call : Call Input} (to : Step Load) (p : Plan) (load : Load) (r : Answer) → Whole e → to ≡ carriedOut p load (session s)
+pub meets-done : (s e : Store) (out later : List ℕ) {T : Type 0} (to : Step Load) (p : Plan) (load : Load) (r : Answer) → Whole e → to ≡ carriedOut p load (session s)
     → Enacted s e (p .edits) load → refuses (p .outcome) ≡ false → outcomeOf (r .outcome) ≡ p .outcome → r .count ≡ length (records (p .events))
-    → later ≡ splice out 0 (records (p .events)) → TextsAfter s e call → Meets s e out later call to r
+    → later ≡ splice out 0 (records (p .events)) → T → Meets s e out later T to r
 unfolding carriedOut
 meets-done s e out later to p load r w is done fine told count bytes texts =
     record {

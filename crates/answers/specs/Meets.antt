@@ -16,9 +16,9 @@ use Rattle.answers.specs.declared.Error.{Error}
 use Rattle.answers.specs.declared.Outcome.{Outcome}
 use Rattle.answers.specs.declared.Answer.{Answer}
 
--- The answer is the call's step. s are the slices before the call, e those after it, out and later the lent `out`.
+-- The answer is the step's. s are the slices before the call, e those after it, out and later the lent `out`; T is what is said of the text store.
 -- "Outcome, session, count and each byte of the lent buffers, refused calls included."
-pub record Meets (s e : Store) (out later : List ℕ) (call : Call Input) (to : Step Load) (r : Answer) : Type 0 where
+pub record Meets (s e : Store) (out later : List ℕ) (T : Type 0) (to : Step Load) (r : Answer) : Type 0 where
   pub whole : Whole e
   pub view : session e ≡ to .session
   pub outcome : outcomeOf (r .outcome) ≡ to .outcome
@@ -27,16 +27,15 @@ pub record Meets (s e : Store) (out later : List ℕ) (call : Call Input) (to : 
   pub bytes : later ≡ splice out 0 (records (to .events))
   -- "A refusal returns the session unchanged", bit for bit
   pub kept : refuses (to .outcome) ≡ true → e ≡ s
-  -- "closing a frame leaves the text store bit for bit as it was"; so does all but a Utf8 that is taken
-  pub texts : TextsAfter s e call
+  pub texts : T
 
 -- a call, with the clock and the length of `out`
 abbrev pub turn : Call Input → (clock : ℕ) → (out : List ℕ) → Turn
 turn call clock out = record { call = call; now = clock; room = length out }
 
--- on a session that is not damaged: the step of the model
+-- on a session that is not damaged: the step of the model, and "closing a frame leaves the text store bit for bit as it was"; so does all but a Utf8 that is taken
 abbrev pub Handled : (s e : Store) (out later : List ℕ) (call : Call Input) (clock : ℕ) (r : Answer) → Type 0
-Handled s e out later call clock r = Meets s e out later call (step (split (turn call clock out)) (session s)) r
+Handled s e out later call clock r = Meets s e out later (TextsAfter s e call) (step (split (turn call clock out)) (session s)) r
 
 -- a call that no text is changed by, whatever they are
 abbrev pub HandledRows : (c w : List ℕ) (r : List Float) (d v : List ℕ) (q : List Float) (out later : List ℕ) (call : Call Input) (clock : ℕ) (a : Answer) → Type 0

@@ -14,15 +14,14 @@ use Rattle.model.specs.Plan.{refusal}
 use Rattle.model.specs.Step.{refuses, step}
 use Rattle.session.specs.View.{Store, session}
 use Rattle.answers.specs.Answer.{outcomeOf}
-use Rattle.answers.specs.Texts.{TextsAfter}
-use Rattle.answers.specs.Meets.{turn, Handled}
+use Rattle.answers.specs.Meets.{Meets, turn, Handled}
 use Rattle.answers.specs.Kept.{NoText}
 use Rattle.answers.specs.declared.Outcome.{Outcome}
 use Rattle.answers.specs.declared.Answer.{Answer}
 use Rattle.answers.proofs.Texts.{plain-no-text, no-text, others-keep-texts}
 use Rattle.texts.proofs.Slots.{last-byte-unseen}
 use Rattle.handlers.specs.Call.{callOf}
-use Rattle.converter.specs.Texts.{lastByte, scribbled, Besides, Frame-keeps-texts, Scribble-shut-out}
+use Rattle.converter.specs.Texts.{lastByte, scribbled, Frame-keeps-texts, Scribble-shut-out}
 
 device-no-text : (request : DeviceRequest) (device version : ℕ) (text : List ℕ) → NoText (callOf (Request.Device request) device version text)
 device-no-text DeviceRequest.Release d v text = plain-no-text _
@@ -37,9 +36,10 @@ frame-keeps-texts s e out later device version clock request text a h =
 
 module _ (s e : Store) (out later : List ℕ) (call : Call Input) (clock : ℕ) (a : Answer) (slot byte : ℕ) (h : Handled s e out later call clock a)
     (told : a .outcome ≡ Outcome.Accepted) (low : slot < textsLimit) where
-  besides : Besides s (scribbled e slot byte) out later (step (split (turn call clock out)) (session s)) a
+  -- all but the texts, of which anything may be said
+  pub but-texts : {T : Type 0} → T → Meets s (scribbled e slot byte) out later T (step (split (turn call clock out)) (session s)) a
   unfolding refuses refusal
-  besides =
+  but-texts texts =
       let w = h .whole in
       record {
         whole = record { sound = w .sound; words-long = w .words-long; reals-long = w .reals-long; texts-long = length-set (e .texts) (lastByte slot) byte ∙ w .texts-long };
@@ -48,13 +48,8 @@ module _ (s e : Store) (out later : List ℕ) (call : Call Input) (clock : ℕ) 
         count = h .count;
         bytes = h .bytes;
         kept = λ z. absurd (false≢true (ap (λ (o : Outcome). refuses (outcomeOf o)) (sym told) ∙ ap refuses (h .outcome) ∙ z));
+        texts = texts;
       }
-
-  -- with the clause on the text store the call would be met
-  pub but-texts : TextsAfter s (scribbled e slot byte) call → Handled s (scribbled e slot byte) out later call clock a
-  but-texts texts =
-      let b = besides in
-      record { whole = b .whole; view = b .view; outcome = b .outcome; count = b .count; bytes = b .bytes; kept = b .kept; texts = texts }
 
 pub scribble-shut-out : Scribble-shut-out
 scribble-shut-out s e out later call clock a slot byte h told other low another =
@@ -62,5 +57,5 @@ scribble-shut-out s e out later call clock a slot byte h told other low another 
       refused = λ g.
           let same = no-text other (g .texts) ∙ sym (no-text other (h .texts)) in
           another (ap (λ (l : List ℕ). getD l (lastByte slot) 0) (sym same) ∙ getD-set-same (e .texts) (lastByte slot) byte 0 (omega (arith, low, h .whole .texts-long)));
-      besides = besides s e out later call clock a slot byte h told low;
+      besides = but-texts s e out later call clock a slot byte h told low tt;
     }

@@ -1,19 +1,15 @@
 -- The text store at a client's request, told of `handle_request`. proofs/Texts.antt proves the statements. Assumes nothing.
 use Prim.Native.Nat.{ℕ, _+_, _*_, _<_}
 use mathlib.Core.Path.{_≡_}
-use mathlib.Core.Bool.{true}
 use mathlib.Core.List.{List}
-use lib.ListN.{getD, set, length}
-use Rattle.wire.specs.Bits.{splice}
+use lib.ListN.{getD, set}
 use Rattle.requests.specs.Row.{textsLimit}
 use Rattle.requests.specs.declared.eis.DeviceRequest.{DeviceRequest}
 use Rattle.requests.specs.declared.eis.Request.{Request}
-use Rattle.model.specs.Call.{Input, Load, Call, split}
-use Rattle.model.specs.Plan.{records}
-use Rattle.model.specs.Step.{Step, refuses, step}
-use Rattle.session.specs.View.{Store, store, slotLength, session, Whole, Lending}
-use Rattle.answers.specs.Answer.{outcomeOf}
-use Rattle.answers.specs.Meets.{turn, Handled, Answered}
+use Rattle.model.specs.Call.{Input, Call, split}
+use Rattle.model.specs.Step.{step}
+use Rattle.session.specs.View.{Store, store, slotLength, session, Lending}
+use Rattle.answers.specs.Meets.{Meets, turn, Handled, Answered}
 use Rattle.answers.specs.Kept.{NoText}
 use Rattle.answers.specs.declared.Outcome.{Outcome}
 use Rattle.answers.specs.declared.Answer.{Answer}
@@ -34,19 +30,10 @@ lastByte slot = slotLength * slot + 255
 abbrev pub scribbled : Store → (slot byte : ℕ) → Store
 scribbled e slot byte = store (e .control) (e .words) (e .reals) (set (e .texts) (lastByte slot) byte)
 
--- all that is promised of a call (`Meets`) besides the clause on the text store
-pub record Besides (s e : Store) (out later : List ℕ) (to : Step Load) (a : Answer) : Type 0 where
-  pub whole : Whole e
-  pub view : session e ≡ to .session
-  pub outcome : outcomeOf (a .outcome) ≡ to .outcome
-  pub count : a .count ≡ length (records (to .events))
-  pub bytes : later ≡ splice out 0 (records (to .events))
-  pub kept : refuses (to .outcome) ≡ true → e ≡ s
-
--- the clause on the text store refuses it, and nothing else does
+-- the clause on the text store refuses it; with nothing said of the store, it meets all that is promised
 pub record ShutOut (s e : Store) (out later : List ℕ) (call : Call Input) (clock : ℕ) (a : Answer) : Type 0 where
   pub refused : Handled s e out later call clock a → ⊥
-  pub besides : Besides s e out later (step (split (turn call clock out)) (session s)) a
+  pub besides : Meets s e out later (Unit {0}) (step (split (turn call clock out)) (session s)) a
 
 -- whatever the call is, but a Utf8, where it is accepted
 abbrev pub Scribble-shut-out : Type 0

@@ -10,7 +10,7 @@ use denote.Enum.Declared.{tagOf}
 use lib.ListN.{length, take, drop, take-append-drop, length-append, length-drop}
 use lib.Seq.{take-all, drop-drop, drop-length}
 use Rattle.wire.specs.Bits.{splice}
-use Rattle.model.specs.Call.{Input, Load, Call}
+use Rattle.model.specs.Call.{Load}
 use Rattle.model.specs.Plan.{records}
 use Rattle.model.specs.Step.{Step}
 use Rattle.session.specs.View.{Store, isWhole, Lending}
@@ -47,7 +47,7 @@ within : (out recs : List ℕ) → length recs ≤ length (splice out 0 recs)
 unfolding splice
 within out recs = rw (length-append recs (drop (0 + length recs) out)) (omega arith)
 
-pub count-within : {s e : Store} (out : List ℕ) {later : List ℕ} {call : Call Input} {to : Step Load} {a : Answer} → Meets s e out later call to a → a .count ≤ length later
+pub count-within : {s e : Store} (out : List ℕ) {later : List ℕ} {T : Type 0} {to : Step Load} {a : Answer} → Meets s e out later T to a → a .count ≤ length later
 count-within out {to = to} m = rw (m .count, m .bytes) (within out (records (to .events)))
 
 -- the record's part leaves the texts

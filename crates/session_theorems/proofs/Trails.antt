@@ -39,7 +39,7 @@ abbrev runOf : List Exchange → Session Load → List (Step Load)
 runOf xs t = run (map split (map turnOf xs)) t
 
 -- the bytes at the start of `out`, as many as the count says, are the step's
-bytes-are : {s e : Store} (out : List ℕ) {later : List ℕ} {call : Call Input} {to : Step Load} {r : Answer} → Meets s e out later call to r → take (r .count) later ≡ records (to .events)
+bytes-are : {s e : Store} (out : List ℕ) {later : List ℕ} {T : Type 0} {to : Step Load} {r : Answer} → Meets s e out later T to r → take (r .count) later ≡ records (to .events)
 unfolding splice
 bytes-are out {to = to} m = rw (m .count, m .bytes) (take-append-seam (records (to .events)) (drop (0 + length (records (to .events))) out))
 
