@@ -1,16 +1,21 @@
 -- Which slots of the texts are in use. There is no mark for it: a slot is in use while a pending or queued request has its text there. Assumes nothing.
-use Prim.Native.Nat.{ℕ, zero, suc, _+_, _^_, _≤_, _<_}
+use Prim.Native.Nat.{ℕ, zero, suc, _+_, _*_, _^_, _≤_, _<_}
 use mathlib.Core.Path.{_≡_}
 use mathlib.Core.Bool.{true, false, cond}
-use mathlib.Core.List.{List}
+use mathlib.Core.List.{List, [], _∷_}
 use lib.Dec.{ltb}
 use lib.Ieee.{Float}
 use lib.ListN.{length}
 use Rattle.eiproto.specs.Bits.{bit, bitsOf}
 use Rattle.requests.specs.Row.{textsLimit, rowAt}
+use Rattle.wire.specs.Bits.{splice}
+use Rattle.model.specs.Call.{Input, sight, Load}
+use Rattle.model.specs.Edit.{Edit}
 use Rattle.model.specs.Step.{counts}
 use Rattle.control.specs.Control.{pendingLimit, queueLimit, deviceCount, pendingAt}
-use Rattle.session.specs.View.{Store, store, rowCount, wordsLength, realsLength, session, Free, Whole}
+use Rattle.session.specs.View.{Store, store, rowCount, wordsLength, realsLength, slotLength, session, Free, Whole}
+use Rattle.session.specs.Slices.{Numbers, Reals}
+use Rattle.session.specs.Enact.{EnactsAll}
 use Rattle.texts.specs.declared.LiveTexts.{LiveTexts}
 
 -- how many of the first n slots are a text's
@@ -63,3 +68,8 @@ pub record Pendable (s : Store) (k slot : ℕ) (text : List ℕ) : Type 0 where
   pub short : length text ≤ textLengthLimit
   pub low : slot < textsLimit
   pub free : Free (s .control) (rowAt (s .words) (s .reals)) slot
+
+-- it is pending then, its bytes stand at the start of the slot, and no other byte of the texts was written
+abbrev pub PendsText : (control words : Numbers) (reals : Reals) (texts : Numbers) (k slot : ℕ) (text : List ℕ) → Type 0
+PendsText c w r t k slot text =
+    EnactsAll c w r t (Edit.pend k (sight (Input.Utf8 text)) ∷ []) (Load.Text text) × (t .exit .now ≡ splice (t .entry .now) (slotLength * slot) text)

@@ -8,18 +8,14 @@ use session::QUEUE_START;
 use session::SLOT_LENGTH;
 ghost use mathlib.Core.Path.{_≡_};
 ghost use mathlib.Core.Bool.{false};
-ghost use mathlib.Core.List.{[], _∷_};
 ghost use Prim.Native.Nat.{_+_, _*_, _^_, _≤_, _<_};
 ghost use lib.ListN.{length, take, drop};
 ghost use Rattle.eiproto.specs.Bits.{bit, bitsOf};
 ghost use Rattle.requests.specs.Row.{textsLimit, rowAt};
 ghost use Rattle.wire.specs.Bits.{splice};
-ghost use Rattle.model.specs.Call.{Load, Input, sight};
-ghost use Rattle.model.specs.Edit.{Edit};
 ghost use Rattle.control.specs.Control.{queueLimit};
 ghost use Rattle.session.specs.View.{store, rowCount, slotLength, Lent};
-ghost use Rattle.session.specs.Enact.{EnactsAll};
-ghost use Rattle.texts.specs.Texts.{Scannable, Counted, FirstRun, Live, Pendable};
+ghost use Rattle.texts.specs.Texts.{Scannable, Counted, FirstRun, Live, Pendable, PendsText};
 
 // The most bytes of a text, a name or an explanation: "above 254" is refused.
 pub const TEXT_LENGTH_LIMIT: usize = 254;
@@ -133,7 +129,7 @@ pub fn pend_text(
     text: &[u8],
 )
     requires { ⌜ Pendable (store (now control) (now words) (now reals) (now texts)) k slot (now text) ⌝ }
-    ensures { λ _. ⌜ EnactsAll control words reals texts (Edit.pend k (sight (Input.Utf8 (now (text .entry)))) ∷ []) (Load.Text (now (text .entry))) × (now (texts .exit) ≡ splice (now (texts .entry)) (slotLength * slot) (now (text .entry))) ⌝ }
+    ensures { λ _. ⌜ PendsText control words reals texts k slot (now (text .entry)) ⌝ }
 {
     put_text(texts, slot, text);
     // Its device and its time come with its frame.
