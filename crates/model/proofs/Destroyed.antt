@@ -379,8 +379,8 @@ module _ {P : Type 0} (x : ℕ) where
           sum = rw (destroyed-append last _, destroyed-is (s .connection .lastSerial) os, append-nil os)
               (omega (arith, all-taken x (s .connection .seats) p (enact Edit.endConnection p (enact (Edit.raise (length os)) p s)) refl (ok .ordered .seats)));
         }
-    leaf-adds (Leaf.queued u) = calm _ refl refl refl
-    leaf-adds (Leaf.flushed id f u e) = calm _ refl refl refl
+    leaf-adds (Leaf.queued u n) = calm _ refl refl refl
+    leaf-adds (Leaf.flushed id f u n e) = calm _ refl refl refl
     leaf-adds (Leaf.closed id serial time f e) = calm _ refl refl refl
     leaf-adds Leaf.handed = calm _ refl refl refl
     leaf-adds (Leaf.newSeat name caps) =

@@ -4,12 +4,15 @@ pub mod Commute
 pub mod EqualTrails
 pub mod Walk
 pub mod Plans
+pub mod Sorted
 pub mod Within
 pub mod Refusals
 pub mod Lists
 pub mod OneDevice
-pub mod Order
 pub mod All
+pub mod Gone
+pub mod Order
+pub mod Blocks
 pub mod Finding
 pub mod Owners
 pub mod Taken
@@ -22,5 +25,7 @@ pub mod ReachableHeld
 pub mod ReachablePlans
 pub mod Reachable
 pub mod Destroyed
+pub mod Numbers
+pub mod Framed
 pub mod Released
 pub mod Live

@@ -52,6 +52,31 @@ module _ {A : Type 0} {n n′ : ℕ} {xs xs′ : List A} where
   fewer-drop false ps (same e q) = same (omega arith) q
   fewer-drop false ps (fewer h) = fewer (omega arith)
 
+-- one more before those that stand no more (`c` tells whether the one stands, `b` whether this is it, `c′` whether this stands): what they have of the one
+pub gone-cons : {A : Type 0} (b c′ c : Bool) → (b ≡ true → c′ ≡ c) → (xs ys zs : List A) → zs ≡ cond c [] ys →
+    cond c′ [] (cond b xs []) ++ zs ≡ cond c [] (cond b xs [] ++ ys)
+gone-cons true c′ c h xs ys zs e = rw (h refl) (go c e)
+  where
+    go : (c : Bool) → zs ≡ cond c [] ys → cond c [] xs ++ zs ≡ cond c [] (xs ++ ys)
+    go true e = e
+    go false e = ap (λ r. xs ++ r) e
+gone-cons false c′ c h xs ys zs e = rw (cond-nil {A = _} c′) e
+
+-- and how many of them are the one
+pub gone-sum : (b c′ c : Bool) → (b ≡ true → c′ ≡ c) → (n m : ℕ) → m ≡ cond c 0 n → cond c′ 0 (cond b 1 0) + m ≡ cond c 0 (cond b 1 0 + n)
+gone-sum true c′ c h n m e = rw (h refl) (go c e)
+  where
+    go : (c : Bool) → m ≡ cond c 0 n → cond c 0 1 + m ≡ cond c 0 (1 + n)
+    go true e = omega arith
+    go false e = omega arith
+gone-sum false c′ c h n m e = go c′ c e
+  where
+    go : (c′ c : Bool) → m ≡ cond c 0 n → cond c′ 0 0 + m ≡ cond c 0 (0 + n)
+    go true true e = omega arith
+    go true false e = omega arith
+    go false true e = omega arith
+    go false false e = omega arith
+
 -- taken is given, queued, pending and lost, in this order
 module _ {A : Type 0} (taken given queued pending lost : List A) (e : taken ≡ given ++ (queued ++ (pending ++ lost))) where
   pub idle-sum : taken ++ [] ≡ (given ++ []) ++ (queued ++ (pending ++ lost))
@@ -66,5 +91,6 @@ module _ {A : Type 0} (taken given queued pending lost : List A) (e : taken ≡ 
   pub deliver-sum : (first rest : List A) → first ++ rest ≡ queued → taken ++ [] ≡ (given ++ first) ++ (rest ++ (pending ++ lost))
   deliver-sum first rest q = rw (e, ← q) (simp (append-nil, append-assoc))
 
-  pub remove-sum : taken ++ [] ≡ (given ++ []) ++ (queued ++ ([] ++ (pending ++ lost)))
-  remove-sum = simp append-nil e
+  -- what is pending is lost, where nothing was before
+  pub clear-sum : lost ≡ [] → taken ≡ given ++ (queued ++ ([] ++ (lost ++ pending)))
+  clear-sum z = rw (e, z) (simp append-nil)

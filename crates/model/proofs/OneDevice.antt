@@ -2,11 +2,11 @@
 use Prim.Native.Nat.{ℕ, zero, suc, _+_, _≤_}
 use mathlib.Core.Path.{_≡_, refl, sym, _∙_}
 use mathlib.Core.Bool.{Bool, true, false, cond}
-use mathlib.Core.List.{List, [], _∷_, _++_, map, append-nil, append-assoc}
+use mathlib.Core.List.{List, [], _∷_, _++_, map, append-nil, append-assoc, Sublistᴰ, Sublistᴰ·slnil, Sublistᴰ·cons, Sublistᴰ·cons-cons}
 use native.Mathlib.Omega.{arith}
 use lib.Dec.{eqb}
 use Rattle.model.specs.Session.{Item, Untimed, Queued, Device, Session}
-use Rattle.model.specs.Edit.{Amend, Edit, amended, item, pended, emptied, framed, at, withoutSlot, withoutSeat, framedAt, rest, enact}
+use Rattle.model.specs.Edit.{Amend, Edit, amended, item, pended, emptied, framed, at, framedAt, rest, enact}
 use Rattle.model.specs.Step.{oldest}
 use Rattle.model.specs.Demand3.{itemsOf}
 use Rattle.model.specs.Reachable.{countOf}
@@ -125,31 +125,20 @@ module _ {P : Type 0} (d : ℕ) where
   abbrev pub FewerStand : List (Device P) → List (Device P) → Type 0
   FewerStand xs ys = Fewer (standing xs) (pendingOf d xs) (standing ys) (pendingOf d ys)
 
-  pub withoutSlot-fewer : (k : ℕ) (xs : List (Device P)) → FewerStand xs (withoutSlot k xs)
-  unfolding countOf pendingOf withoutSlot
-  withoutSlot-fewer k [] = same refl refl
-  withoutSlot-fewer zero (x ∷ xs) = fewer-drop (eqb (x .id) d) (x .pending) (same refl refl)
-  withoutSlot-fewer (suc k) (x ∷ xs) = fewer-keep (eqb (x .id) d) (x .pending) (withoutSlot-fewer k xs)
-
-  -- by the test of its seat
-  kept-fewer : (b : Bool) (x : Device P) (xs ys : List (Device P)) → FewerStand xs ys → FewerStand (x ∷ xs) (cond b [] (x ∷ []) ++ ys)
+  pub sub-fewer : {ys xs : List (Device P)} → Sublistᴰ ys xs → FewerStand xs ys
   unfolding countOf pendingOf
-  kept-fewer true x xs ys h = fewer-drop (eqb (x .id) d) (x .pending) h
-  kept-fewer false x xs ys h = fewer-keep (eqb (x .id) d) (x .pending) h
-
-  pub withoutSeat-fewer : (seat : ℕ) (xs : List (Device P)) → FewerStand xs (withoutSeat seat xs)
-  unfolding withoutSeat
-  withoutSeat-fewer seat [] = same refl refl
-  withoutSeat-fewer seat (x ∷ xs) = kept-fewer (eqb (x .seat) seat) x xs (withoutSeat seat xs) (withoutSeat-fewer seat xs)
+  sub-fewer Sublistᴰ·slnil = same refl refl
+  sub-fewer (Sublistᴰ·cons {a = x} h) = fewer-drop (eqb (x .id) d) (x .pending) (sub-fewer h)
+  sub-fewer (Sublistᴰ·cons-cons {b = x} e h) = rw e (fewer-keep (eqb (x .id) d) (x .pending) (sub-fewer h))
 
   -- ---- a device more
 
-  count-append : (xs ys : List (Device P)) → standing (xs ++ ys) ≡ standing xs + standing ys
+  pub count-append : (xs ys : List (Device P)) → standing (xs ++ ys) ≡ standing xs + standing ys
   unfolding countOf
   count-append [] ys = omega arith
   count-append (x ∷ xs) ys = omega (arith, count-append xs ys)
 
-  pending-append : (xs ys : List (Device P)) → pendingOf d (xs ++ ys) ≡ pendingOf d xs ++ pendingOf d ys
+  pub pending-append : (xs ys : List (Device P)) → pendingOf d (xs ++ ys) ≡ pendingOf d xs ++ pendingOf d ys
   unfolding pendingOf
   pending-append [] ys = refl
   pending-append (x ∷ xs) ys = rw (pending-append xs ys) (sym (append-assoc (cond (eqb (x .id) d) (x .pending) []) (pendingOf d xs) (pendingOf d ys)))

@@ -97,8 +97,8 @@ leaf-formed (Leaf.released cap id f e) = acts Result.accepted _ _ refl refl refl
 leaf-formed (Leaf.deviceGone id f e) = acts Result.accepted _ _ refl refl refl
 leaf-formed (Leaf.seatGone id x e) = acts Result.accepted _ _ refl refl refl
 leaf-formed {v = v} (Leaf.allGone reason explanation) = acts Result.accepted _ _ refl refl (removeSeats-allowed (v .connection .seats))
-leaf-formed (Leaf.queued u) = acts Result.accepted _ _ refl refl refl
-leaf-formed (Leaf.flushed id f u e) = acts Result.accepted _ _ refl refl refl
+leaf-formed (Leaf.queued u n) = acts Result.accepted _ _ refl refl refl
+leaf-formed (Leaf.flushed id f u n e) = acts Result.accepted _ _ refl refl refl
 leaf-formed (Leaf.closed id serial time f e) = acts Result.accepted _ _ refl refl refl
 leaf-formed Leaf.handed = acts Result.given _ _ refl refl refl
 leaf-formed {v = v} (Leaf.newSeat name caps) = acts (Result.seat (v .connection .nextId)) _ _ refl refl refl

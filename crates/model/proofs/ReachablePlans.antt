@@ -122,8 +122,8 @@ module _ {P : Type 0} (s : Session P) (p : P) where
   leaf-fits (Leaf.deviceGone id f e) = fits-quiet _ refl refl
   leaf-fits (Leaf.seatGone id x e) = fits-quiet _ refl refl
   leaf-fits (Leaf.allGone reason explanation) = fits-quiet _ refl (removeSeats-quiet (s .connection .seats))
-  leaf-fits (Leaf.queued u) = fits-quiet _ refl refl
-  leaf-fits (Leaf.flushed id f u e) = fits-quiet _ refl refl
+  leaf-fits (Leaf.queued u n) = fits-quiet _ refl refl
+  leaf-fits (Leaf.flushed id f u n e) = fits-quiet _ refl refl
   leaf-fits (Leaf.closed id serial time f e) = fits-quiet _ refl refl
   leaf-fits Leaf.handed = fits-quiet _ refl refl
   leaf-fits (Leaf.newSeat name caps) =

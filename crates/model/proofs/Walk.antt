@@ -25,6 +25,7 @@ use Rattle.model.specs.Decide.{Found, Rule, handler, deviceForInterface,
 use Rattle.model.specs.Step.{refuses}
 use Rattle.model.specs.Refusals.{ofSession}
 use Rattle.model.specs.Demand3.{wantsHeld, ignoredOn, ignored}
+use Rattle.model.specs.Framed.{isFrame}
 
 -- an outcome that neither tells an id nor gives a request, and if it refuses, with a number of a running session
 unfoldable pub modest : Result → Bool
@@ -74,8 +75,8 @@ pub data Leaf (v : View) (now : ℕ) : Call Sight → Plan → Type 0 where
   allGone : {c : Plain} (reason : ℕ) (explanation : Option (List ℕ)) →
       Leaf v now (Call.plain c)
       (send (farewell v reason explanation) (Edit.raise (length (seatsObjects (v .connection .seats) (v .devices))) ∷ Edit.endConnection ∷ removeSeats (v .connection .seats)))
-  queued : {c : Plain} (u : Untimed) → Leaf v now (Call.plain c) (edit (Edit.queue u ∷ []))
-  flushed : {c : Plain} (id : ℕ) (f : Found) (u : Untimed) → deviceOf id v ≡ some f →
+  queued : {c : Plain} (u : Untimed) → isFrame u ≡ false → Leaf v now (Call.plain c) (edit (Edit.queue u ∷ []))
+  flushed : {c : Plain} (id : ℕ) (f : Found) (u : Untimed) → isFrame u ≡ false → deviceOf id v ≡ some f →
       Leaf v now (Call.plain c) (edit (Edit.frame (f .slot) (v .connection .lastSerial) now ∷ Edit.queue u ∷ []))
   closed : {c : Plain} (id serial time : ℕ) (f : Found) → deviceOf id v ≡ some f → Leaf v now (Call.plain c) (edit (Edit.frame (f .slot) serial time ∷ []))
   handed : {c : Plain} → Leaf v now (Call.plain c) (record { outcome = Result.given; events = []; edits = Edit.deliver ∷ [] })
@@ -185,15 +186,15 @@ module _ {v : View} {now : ℕ} {c : Plain} where
   handshake-leaf (HandshakeRequest.Name t) = checkName-leaf t (refuse-leaf 1 refl)
   handshake-leaf (HandshakeRequest.InterfaceVersion t n) = checkUtf8-leaf t (refuse-leaf 1 refl)
 
-  seat-leaf : (id caps : ℕ) (u : Untimed) → Leaf v now (Call.plain c) (handleSeat v id caps u)
+  seat-leaf : (id caps : ℕ) (u : Untimed) → isFrame u ≡ false → Leaf v now (Call.plain c) (handleSeat v id caps u)
   unfolding handleSeat
-  seat-leaf id caps u =
+  seat-leaf id caps u n =
       onFound-leaf (seatOf id v) ignore-leaf λ s e.
-      cond-leaf (unknownBits caps) (refuse-leaf 3 refl) (cond-leaf (contains (s .capabilities) caps) (queued u) (refuse-leaf 3 refl))
+      cond-leaf (unknownBits caps) (refuse-leaf 3 refl) (cond-leaf (contains (s .capabilities) caps) (queued u n) (refuse-leaf 3 refl))
 
-  device-leaf : (id : ℕ) (u : Untimed) → Leaf v now (Call.plain c) (handleDevice v now id u)
+  device-leaf : (id : ℕ) (u : Untimed) → isFrame u ≡ false → Leaf v now (Call.plain c) (handleDevice v now id u)
   unfolding handleDevice
-  device-leaf id u = onFound-leaf (deviceOf id v) ignore-leaf λ f e. flushed id f u e
+  device-leaf id u n = onFound-leaf (deviceOf id v) ignore-leaf λ f e. flushed id f u n e
 
   next-leaf : (rs : List (Queued (Unit {0}))) → Leaf v now (Call.plain c) (nextOf rs)
   unfolding nextOf modest
@@ -211,21 +212,21 @@ module _ {v : View} {now : ℕ} {c : Plain} where
   notify-leaf id event edits m h = onFound-leaf (deviceOf id v) (refuse-leaf 12 refl) λ f e. noted id event (edits (f .slot)) m (h (f .slot))
 
 plain-leaf : (v : View) (now : ℕ) (c : Plain) → Leaf v now (Call.plain c) (decidePlain v now c)
-unfolding decidePlain handleSync handleSyncMessage handleFrame handleRelease handleSeatRelease addSeat addDevice removeDevice removeSeat disconnected modest layout
+unfolding decidePlain handleSync handleSyncMessage handleFrame handleRelease handleSeatRelease addSeat addDevice removeDevice removeSeat disconnected modest layout isFrame
 plain-leaf v now (Plain.handshake r) = handshake-leaf r
 plain-leaf v now (Plain.sync callback ver) = cond-leaf (eqb ver 1) (synced callback) (answered (Result.refusedVersion eiCallback ver) refl)
 plain-leaf v now (Plain.syncMessage callback ver) =
     cond-leaf (isPeerId v callback) (cond-leaf (eqb ver 1) (syncedMessage callback) (answered (Result.refusedVersion eiCallback ver) refl)) (refuse-leaf 25 refl)
-plain-leaf v now Plain.disconnect = queued Untimed.Disconnect
+plain-leaf v now Plain.disconnect = queued Untimed.Disconnect refl
 plain-leaf v now Plain.pingpongDone = ignore-leaf
 plain-leaf v now (Plain.seatRelease seat) = onFound-leaf (seatOf seat v) ignore-leaf λ x e. seatGone seat x e
-plain-leaf v now (Plain.bind seat caps) = seat-leaf seat caps (Untimed.Bind seat caps)
-plain-leaf v now (Plain.requestDevice seat caps) = seat-leaf seat caps (Untimed.RequestDevice seat caps)
-plain-leaf v now (Plain.deviceRelease d) = device-leaf d (Untimed.DeviceClosed d)
-plain-leaf v now (Plain.deviceStartEmulating d s q) = device-leaf d (Untimed.DeviceStartEmulating d s q)
-plain-leaf v now (Plain.deviceStopEmulating d s) = device-leaf d (Untimed.DeviceStopEmulating d s)
+plain-leaf v now (Plain.bind seat caps) = seat-leaf seat caps (Untimed.Bind seat caps) refl
+plain-leaf v now (Plain.requestDevice seat caps) = seat-leaf seat caps (Untimed.RequestDevice seat caps) refl
+plain-leaf v now (Plain.deviceRelease d) = device-leaf d (Untimed.DeviceClosed d) refl
+plain-leaf v now (Plain.deviceStartEmulating d s q) = device-leaf d (Untimed.DeviceStartEmulating d s q) refl
+plain-leaf v now (Plain.deviceStopEmulating d s) = device-leaf d (Untimed.DeviceStopEmulating d s) refl
 plain-leaf v now (Plain.deviceFrame d s t) = onFound-leaf (deviceOf d v) ignore-leaf λ f e. closed d s t f e
-plain-leaf v now (Plain.deviceReady d) = device-leaf d (Untimed.Ready d)
+plain-leaf v now (Plain.deviceReady d) = device-leaf d (Untimed.Ready d) refl
 plain-leaf v now (Plain.interfaceRelease cap i) =
     onFound-leaf (deviceForInterface (capabilityIndex cap) i v) ignore-leaf λ f e. released (capabilityIndex cap) i f e
 plain-leaf v now Plain.nextRequest = next-leaf (v .requests)

@@ -135,16 +135,20 @@ unfoldable pub taken : (connection serial nextId : ℕ) (versions : List (Option
 unfolding takenFrom fresh
 taken c s n vs d ts = takenFrom d [] (fresh c s n vs) ts
 
--- the timed requests of a device among some requests, and those that a trail's `next_request` gave
+-- the timed requests of a device among some requests
 unfoldable pub itemsOf : {P : Type 0} → (device : ℕ) → List (Queued P) → List (Item P)
 itemsOf d [] = []
 itemsOf d (Queued.timed e t i ∷ rs) = cond (eqb e d) (i ∷ []) [] ++ itemsOf d rs
 itemsOf d (Queued.untimed r ∷ rs) = itemsOf d rs
 
+-- what a trail's `next_request` gave, and of it the timed requests of a device
+unfoldable pub delivered : {P : Type 0} → List (Step P) → List (Queued P)
+delivered [] = []
+delivered (r ∷ rs) = r .gave ++ delivered rs
+
 unfoldable pub given : {P : Type 0} → (device : ℕ) → List (Step P) → List (Item P)
-unfolding itemsOf
-given d [] = []
-given d (r ∷ rs) = itemsOf d (r .gave) ++ given d rs
+unfolding itemsOf delivered
+given d rs = itemsOf d (delivered rs)
 
 -- DEMAND 3, SECOND HALF. "The n-th timed request that `next_request` gives for a device came from the n-th taken on that device", in kind, touch
 -- id, length and payload: `left` is what is not given (yet)

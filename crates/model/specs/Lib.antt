@@ -10,6 +10,7 @@ pub mod Within
 pub mod Refusals
 pub mod Reachable
 pub mod Kept
+pub mod Framed
 pub mod Destroyed
 pub mod Trials
 pub mod Live
