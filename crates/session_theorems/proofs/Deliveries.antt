@@ -75,8 +75,8 @@ leaf-tells (Leaf.released cap id f e) = Tells.silent _ _ _ refl
 leaf-tells (Leaf.deviceGone id f e) = Tells.silent _ _ _ refl
 leaf-tells (Leaf.seatGone id x e) = Tells.silent _ _ _ refl
 leaf-tells {v = v} (Leaf.allGone reason explanation) = Tells.silent _ _ _ (removeSeats-silent (v .connection .seats))
-leaf-tells (Leaf.queued u) = Tells.silent _ _ _ refl
-leaf-tells (Leaf.flushed id f u e) = Tells.silent _ _ _ refl
+leaf-tells (Leaf.queued u n) = Tells.silent _ _ _ refl
+leaf-tells (Leaf.flushed id f u n e) = Tells.silent _ _ _ refl
 leaf-tells (Leaf.closed id serial time f e) = Tells.silent _ _ _ refl
 leaf-tells Leaf.handed = Tells.gives [] _
 leaf-tells (Leaf.newSeat name caps) = Tells.silent _ _ _ refl

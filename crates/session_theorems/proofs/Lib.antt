@@ -4,3 +4,4 @@ pub mod Extending
 pub mod Others
 pub mod Making
 pub mod Serving
+pub mod Framed

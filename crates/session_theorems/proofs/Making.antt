@@ -10,7 +10,7 @@ use lib.Seq.{take-append-seam}
 use Rattle.wire.specs.Bits.{splice}
 use Rattle.model.specs.Call.{Input, Load, Call, split}
 use Rattle.wire.specs.declared.ParseError.{ParseError}
-use Rattle.model.specs.Session.{Item, Session, view}
+use Rattle.model.specs.Session.{Queued, Session, view}
 use Rattle.model.specs.Plan.{Result, records}
 use Rattle.model.specs.Step.{run, step}
 use Rattle.model.specs.Demand3.{Observed, observed, itemsOf}
@@ -34,8 +34,8 @@ use Rattle.reads.specs.declared.record.RequestRecord.{RequestRecord}
 use Rattle.reads.specs.Handed.{Singly}
 use Rattle.reads.specs.Agrees.{Agrees}
 use Rattle.reads.proofs.Agreed.{handed-is-read}
-use Rattle.session_theorems.specs.Trail.{Exchange, turnOf, Calls, slicesAfter, serialIn, seen, FreshCalls, givenTo}
-use Rattle.session_theorems.specs.Made.{Made, entriesOf, actOf, afterMade, MadeCalls, receivedSeen, seenOf, Made-is-acts, FreshMade, Equal-seen, InTurn, Singles, givenIn, Replaced, Reads-are-singles, Made-in-order}
+use Rattle.session_theorems.specs.Trail.{Exchange, turnOf, Calls, slicesAfter, serialIn, seen, FreshCalls, deliveredTo, givenTo}
+use Rattle.session_theorems.specs.Made.{Made, entriesOf, actOf, afterMade, MadeCalls, receivedSeen, seenOf, Made-is-acts, FreshMade, Equal-seen, InTurn, Singles, deliveredIn, givenIn, Replaced, Reads-are-singles, Made-in-order}
 use Rattle.session_theorems.proofs.Others.{Others, others, message-other}
 use Rattle.session_theorems.proofs.Trails.{seen-is-run, stays-whole, session-after, given-in-order}
 
@@ -53,12 +53,13 @@ after-append s [] ys = refl
 after-append s (Exchange.called call other clock out later answer e ∷ zs) ys = after-append e zs ys
 after-append s (Exchange.asked clock buffer later answer e ∷ zs) ys = after-append e zs ys
 
-given-append : (d : ℕ) (zs ys : List Exchange) → givenTo d (zs ++ ys) ≡ givenTo d zs ++ givenTo d ys
-unfolding givenTo itemsOf
-given-append d [] ys = refl
-given-append d (Exchange.called call other clock out later answer e ∷ zs) ys = given-append d zs ys
-given-append d (Exchange.asked clock buffer later answer e ∷ zs) ys =
-    let is = itemsOf d (nextGiven answer later) in ap (λ (js : List (Item Load)). is ++ js) (given-append d zs ys) ∙ sym (append-assoc is (givenTo d zs) (givenTo d ys))
+delivered-append : (zs ys : List Exchange) → deliveredTo (zs ++ ys) ≡ deliveredTo zs ++ deliveredTo ys
+unfolding deliveredTo
+delivered-append [] ys = refl
+delivered-append (Exchange.called call other clock out later answer e ∷ zs) ys = delivered-append zs ys
+delivered-append (Exchange.asked clock buffer later answer e ∷ zs) ys =
+    let first = nextGiven answer later in
+    ap (λ (rs : List (Queued Load)). first ++ rs) (delivered-append zs ys) ∙ sym (append-assoc first (deliveredTo zs) (deliveredTo ys))
 
 -- ---- what is received
 
@@ -93,20 +94,20 @@ record Turns (clock : ℕ) (s e : Store) (out later : List ℕ) (es : List (Entr
   in-turn : InTurn clock out later es r singles
   calls : Calls s singles
   after : slicesAfter s singles ≡ e
-  given : (d : ℕ) → givenTo d singles ≡ []
+  none-given : deliveredTo singles ≡ []
 
 turns : {clock : ℕ} {s e : Store} {out later : List ℕ} {es : List (Entry (Call Input))} {r : ReadAnswer} → Others es → Singly clock s e out later es r
     → Turns clock s e out later es r
-unfolding slicesAfter givenTo
-turns Others.none Singly.none = record { singles = []; in-turn = InTurn.none; calls = Calls.none; after = refl; given = λ d. refl }
-turns (Others.badPart os) Singly.badPart = record { singles = []; in-turn = InTurn.badPart; calls = Calls.none; after = refl; given = λ d. refl }
+unfolding slicesAfter deliveredTo
+turns Others.none Singly.none = record { singles = []; in-turn = InTurn.none; calls = Calls.none; after = refl; none-given = refl }
+turns (Others.badPart os) Singly.badPart = record { singles = []; in-turn = InTurn.badPart; calls = Calls.none; after = refl; none-given = refl }
 turns {clock} {e = e} {out = out} {later = later} (Others.request {call = call} other os) (Singly.refused {answer = answer} a o) =
     record {
       singles = Exchange.called call other clock out later answer e ∷ [];
       in-turn = InTurn.refused o;
       calls = Calls.called a Calls.none;
       after = refl;
-      given = λ d. refl;
+      none-given = refl;
     }
 turns {clock} {out = out} (Others.request {call = call} other os) (Singly.accepted {m = m} {mid = mid} {answer = answer} a o rest) =
     let t = turns os rest in
@@ -115,13 +116,13 @@ turns {clock} {out = out} (Others.request {call = call} other os) (Singly.accept
       in-turn = InTurn.accepted o (t .in-turn);
       calls = Calls.called a (t .calls);
       after = t .after;
-      given = t .given;
+      none-given = t .none-given;
     }
 
 pub reads-are-singles : Reads-are-singles
-unfolding afterMade givenIn slicesAfter givenTo
+unfolding afterMade deliveredIn slicesAfter deliveredTo
 reads-are-singles s [] whole MadeCalls.none =
-    record { singles = []; are = Singles.none; calls = Calls.none; after = refl; given = λ d. refl }
+    record { singles = []; are = Singles.none; calls = Calls.none; after = refl; delivered = refl }
 reads-are-singles s (Made.one x ∷ xs) whole (MadeCalls.one c rest) =
     let r = reads-are-singles (slicesAfter s (x ∷ [])) xs (stays-whole s (x ∷ []) whole c) rest in
     record {
@@ -129,7 +130,7 @@ reads-are-singles s (Made.one x ∷ xs) whole (MadeCalls.one c rest) =
       are = Singles.one (r .are);
       calls = calls-append (x ∷ []) c (r .calls);
       after = after-append s (x ∷ []) (r .singles) ∙ r .after;
-      given = λ d. given-append d (x ∷ []) (r .singles) ∙ ap (λ (is : List (Item Load)). givenTo d (x ∷ []) ++ is) (r .given d);
+      delivered = delivered-append (x ∷ []) (r .singles) ∙ ap (λ (rs : List (Queued Load)). deliveredTo (x ∷ []) ++ rs) (r .delivered);
     }
 reads-are-singles s (Made.read rs lent clock out later answer e ∷ xs) whole (MadeCalls.read h rest) =
     let t = turns (others lent rs) (h .handled whole) in
@@ -140,7 +141,7 @@ reads-are-singles s (Made.read rs lent clock out later answer e ∷ xs) whole (M
       are = Singles.read (t .in-turn) (r .are);
       calls = calls-append (t .singles) (t .calls) (rw (t .after) (r .calls));
       after = after-append s (t .singles) (r .singles) ∙ ap (λ (m : Store). slicesAfter m (r .singles)) (t .after) ∙ r .after;
-      given = λ d. given-append d (t .singles) (r .singles) ∙ ap₂ _++_ (t .given d) (r .given d);
+      delivered = delivered-append (t .singles) (r .singles) ∙ ap₂ _++_ (t .none-given) (r .delivered);
     }
 reads-are-singles s (Made.message bytes clock out later received e ∷ xs) whole (MadeCalls.message h rest) =
     by-reading (reading (view (session s)) bytes) refl (h .read whole) (λ w. reads-are-singles e xs w rest)
@@ -154,7 +155,7 @@ reads-are-singles s (Made.message bytes clock out later received e ∷ xs) whole
           are = Singles.told (λ a n q. other a n (sym (t .0) ∙ q)) (r .are);
           calls = rw (← t .1 .0) (r .calls);
           after = ap (λ (m : Store). slicesAfter m (r .singles)) (sym (t .1 .0)) ∙ r .after;
-          given = r .given;
+          delivered = r .delivered;
         }
 
     by-reading : (x : Reading (Call Input)) → reading (view (session s)) bytes ≡ x → ReceivedAs s e out later x clock received
@@ -169,15 +170,16 @@ reads-are-singles s (Made.message bytes clock out later received e ∷ xs) whole
           are = rw (t .told) (Singles.handed q (r .are));
           calls = Calls.called (handled-answered s e out later call clock (t .answer) whole (t .handled)) (r .calls);
           after = r .after;
-          given = r .given;
+          delivered = r .delivered;
         }
 
 pub made-in-order : Made-in-order
+unfolding givenTo givenIn
 made-in-order c n i vs s xs d f =
     let r = reads-are-singles s xs (f .whole) (f .calls) in
     let g : FreshCalls c n i vs s (r .singles) = record { whole = f .whole; starts = f .starts; calls = r .calls } in
     let k = given-in-order c n i vs s (r .singles) d g in
-    record { replaced = r; fresh-calls = g; left = k .0; in-order = k .1 ∙ ap (λ (is : List (Item Load)). is ++ k .0) (r .given d) }
+    record { replaced = r; fresh-calls = g; left = k .0; in-order = k .1 ∙ ap (λ (rs : List (Queued Load)). itemsOf d rs ++ k .0) (r .delivered) }
 
 -- ---- what is seen
 

@@ -12,7 +12,7 @@ use Rattle.model.specs.Session.{Item, Queued, Session, fresh, view, mapQueued, 
 use Rattle.model.specs.Plan.{records, refusal}
 use Rattle.model.specs.Plan as plan
 use Rattle.model.specs.Step.{Step, refuses, run, step}
-use Rattle.model.specs.Demand3.{Observed, observed, trail, itemsOf, given, In-order}
+use Rattle.model.specs.Demand3.{Observed, observed, trail, itemsOf, delivered, given, In-order}
 use Rattle.model.specs.Refusals.{Own-refusals}
 use Rattle.model.specs.Reachable.{sessionAfter, newIds, idsIn, Ids-ascend}
 use Rattle.model.specs.Kept.{Nothing-lost}
@@ -31,7 +31,7 @@ use Rattle.answers.specs.declared.Answer.{Answer}
 use Rattle.answers.proofs.Meetings.{answered-handled, error-refuses}
 use Rattle.converter.specs.Next.{nextOutcome, givenIn}
 use Rattle.converter.specs.declared.request.NextRequest.{NextRequest}
-use Rattle.session_theorems.specs.Trail.{Exchange, turnOf, Calls, slicesAfter, serialIn, seen, Seen-is-run, allOfSession, Never-21, FreshCalls, givenTo, Given-in-order, Seen-nothing-lost, Told, Seen-lives, Seen-release-is-removal}
+use Rattle.session_theorems.specs.Trail.{Exchange, turnOf, Calls, slicesAfter, serialIn, seen, Seen-is-run, allOfSession, Never-21, FreshCalls, deliveredTo, givenTo, Given-in-order, Seen-nothing-lost, Told, Seen-lives, Seen-release-is-removal}
 use Rattle.session_theorems.proofs.Deliveries.{isGiven, step-gave, step-quiet, asked-silent}
 
 -- what the definitions say of calls of the code
@@ -138,24 +138,28 @@ never-21 s xs whole calls = (ap allOfSession (seen-is-run s xs whole calls) ∙ 
 
 -- ---- what is given for a device
 
-given-is : (d : ℕ) (s : Store) (xs : List Exchange) → isWhole s ≡ true → Calls s xs → givenTo d xs ≡ given d (runOf xs (session s))
-unfolding givenTo given run itemsOf
-given-is d s [] whole Calls.none = refl
-given-is d s (Exchange.called call other clock out later answer e ∷ xs) whole (Calls.called a rest) =
+delivered-is : (s : Store) (xs : List Exchange) → isWhole s ≡ true → Calls s xs → deliveredTo xs ≡ delivered (runOf xs (session s))
+unfolding deliveredTo delivered run
+delivered-is s [] whole Calls.none = refl
+delivered-is s (Exchange.called call other clock out later answer e ∷ xs) whole (Calls.called a rest) =
     let m = answered-handled s a whole in
-    given-is d e xs (whole-is e (m .whole)) rest
-    ∙ ap₂ (λ (rs : List (Queued Load)) (t : Session Load). itemsOf d rs ++ given d (runOf xs t)) (sym (call-gave call clock out m)) (m .view)
-given-is d s (Exchange.asked clock buffer later answer e ∷ xs) whole (Calls.asked a rest) =
+    delivered-is e xs (whole-is e (m .whole)) rest
+    ∙ ap₂ (λ (rs : List (Queued Load)) (t : Session Load). rs ++ delivered (runOf xs t)) (sym (call-gave call clock out m)) (m .view)
+delivered-is s (Exchange.asked clock buffer later answer e ∷ xs) whole (Calls.asked a rest) =
     let m = a .handled clock whole in
-    ap (λ (is : List (Item Load)). itemsOf d (givenIn answer later) ++ is) (given-is d e xs (whole-is e (m .whole)) rest)
-    ∙ ap₂ (λ (rs : List (Queued Load)) (t : Session Load). itemsOf d rs ++ given d (runOf xs t)) (m .gave) (m .view)
+    ap (λ (rs : List (Queued Load)). givenIn answer later ++ rs) (delivered-is e xs (whole-is e (m .whole)) rest)
+    ∙ ap₂ (λ (rs : List (Queued Load)) (t : Session Load). rs ++ delivered (runOf xs t)) (m .gave) (m .view)
 
 module _ {c n i : ℕ} {vs : List (Option ℕ)} {s : Store} {xs : List Exchange} (f : FreshCalls c n i vs s xs) where
-  given-is-trail : (d : ℕ) → given d (trail c n i vs (map turnOf xs)) ≡ givenTo d xs
+  pub delivered-is-trail : delivered (trail c n i vs (map turnOf xs)) ≡ deliveredTo xs
   unfolding trail
-  given-is-trail d = sym (given-is d s xs (f .whole) (f .calls) ∙ ap (λ (t : Session Load). given d (runOf xs t)) (f .starts))
+  delivered-is-trail = sym (delivered-is s xs (f .whole) (f .calls) ∙ ap (λ (t : Session Load). delivered (runOf xs t)) (f .starts))
 
-  after-is : sessionAfter (map split (map turnOf xs)) (fresh c n i vs) ≡ session (slicesAfter s xs)
+  given-is-trail : (d : ℕ) → given d (trail c n i vs (map turnOf xs)) ≡ givenTo d xs
+  unfolding given givenTo
+  given-is-trail d = ap (itemsOf d) delivered-is-trail
+
+  pub after-is : sessionAfter (map split (map turnOf xs)) (fresh c n i vs) ≡ session (slicesAfter s xs)
   after-is = sym (session-after s xs (f .whole) (f .calls) ∙ ap (sessionAfter (map split (map turnOf xs))) (f .starts))
 
 pub given-in-order : Given-in-order

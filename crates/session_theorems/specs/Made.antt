@@ -9,8 +9,8 @@ use mathlib.Core.List.{List, [], _∷_, _++_, map}
 use mathlib.Core.Option.{Option}
 use lib.ListN.{length, take, drop}
 use Rattle.model.specs.Call.{Input, Load, Plain, Call}
-use Rattle.model.specs.Session.{Item, fresh, view}
-use Rattle.model.specs.Demand3.{Observed, taken}
+use Rattle.model.specs.Session.{Item, Queued, fresh, view}
+use Rattle.model.specs.Demand3.{Observed, taken, itemsOf}
 use Rattle.model_reads.specs.Read.{Entry, loaded}
 use Rattle.model_reads.specs.Message.{Reading, takenOf}
 use Rattle.model_reads.specs.Acts.{Act, mapAct, ObservedAct, observedActs, loadedBy, MatchedActs}
@@ -29,7 +29,7 @@ use Rattle.messages.specs.declared.Received.{Received}
 use Rattle.messages.specs.Reading.{reading}
 use Rattle.messages.specs.Received.{ReceivedFrom}
 use Rattle.messages.specs.Same.{SameMessage}
-use Rattle.session_theorems.specs.Trail.{Exchange, turnOf, Calls, slicesAfter, serialIn, seen, FreshCalls, givenTo}
+use Rattle.session_theorems.specs.Trail.{Exchange, turnOf, Calls, slicesAfter, serialIn, seen, FreshCalls, deliveredTo}
 
 -- a call, or a whole read: its records with the texts lent beside them, the clock, its buffer before and after it, what it answered, and the slices after it; or
 -- a client's bytes, likewise
@@ -146,13 +146,17 @@ pub data Singles : (s : Store) → List Made → List Exchange → Type 0 where
   told : {s : Store} {bytes : List ℕ} {clock : ℕ} {out later : List ℕ} {received : Received} {e : Store} {xs : List Made} {ys : List Exchange}
       → ((answer : Answer) (taken : ℕ) → received ≡ Received.Handed answer taken → ⊥) → Singles e xs ys → Singles s (Made.message bytes clock out later received e ∷ xs) ys
 
--- the timed requests that `next_request` gave for a device; a read gives none, and a message neither
+-- what `next_request` gave, and of it the timed requests of a device; a read gives none, and a message neither
+unfoldable pub deliveredIn : List Made → List (Queued Load)
+unfolding deliveredTo
+deliveredIn [] = []
+deliveredIn (Made.one x ∷ xs) = deliveredTo (x ∷ []) ++ deliveredIn xs
+deliveredIn (Made.read records lent clock out later answer e ∷ xs) = deliveredIn xs
+deliveredIn (Made.message bytes clock out later received e ∷ xs) = deliveredIn xs
+
 unfoldable pub givenIn : (device : ℕ) → List Made → List (Item Load)
-unfolding givenTo
-givenIn d [] = []
-givenIn d (Made.one x ∷ xs) = givenTo d (x ∷ []) ++ givenIn d xs
-givenIn d (Made.read records lent clock out later answer e ∷ xs) = givenIn d xs
-givenIn d (Made.message bytes clock out later received e ∷ xs) = givenIn d xs
+unfolding itemsOf deliveredIn
+givenIn d xs = itemsOf d (deliveredIn xs)
 
 -- "Session, bytes and outcomes equal those of the requests tried, handed in singly": there are single calls, each as its contract has it, on the same slices
 -- and to the same slices, that give the same
@@ -161,7 +165,7 @@ pub record Replaced (s : Store) (xs : List Made) : Type 0 where
   pub are : Singles s xs singles
   pub calls : Calls s singles
   pub after : slicesAfter s singles ≡ afterMade s xs
-  pub given : (d : ℕ) → givenTo d singles ≡ givenIn d xs
+  pub delivered : deliveredTo singles ≡ deliveredIn xs
 
 abbrev pub Reads-are-singles : Type 0
 Reads-are-singles = (s : Store) (xs : List Made) → isWhole s ≡ true → MadeCalls s xs → Replaced s xs

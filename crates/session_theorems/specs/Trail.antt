@@ -7,7 +7,7 @@ use mathlib.Core.List.{List, [], _∷_, _++_, map}
 use mathlib.Core.Option.{Option, some}
 use lib.ListN.{take}
 use Rattle.model.specs.Call.{Input, Load, Plain, Call, Turn, split}
-use Rattle.model.specs.Session.{Item, Seat, fresh, mapQueued, blank, view}
+use Rattle.model.specs.Session.{Item, Queued, Seat, fresh, mapQueued, blank, view}
 use Rattle.model.specs.Plan.{Sent, records, refusal}
 use Rattle.model.specs.Decide.{seatOf}
 use Rattle.model.specs.Step.{run}
@@ -91,12 +91,15 @@ pub record FreshCalls (c n i : ℕ) (vs : List (Option ℕ)) (s : Store) (xs : L
   pub starts : session s ≡ fresh c n i vs
   pub calls : Calls s xs
 
--- the timed requests that `next_request` gave for a device, in order, as its answers and the text buffers tell them
+-- what `next_request` gave, in order, as its answers and the text buffers tell it, and of it the timed requests of a device
+unfoldable pub deliveredTo : List Exchange → List (Queued Load)
+deliveredTo [] = []
+deliveredTo (Exchange.called call other clock out later answer e ∷ xs) = deliveredTo xs
+deliveredTo (Exchange.asked clock buffer later answer e ∷ xs) = givenIn answer later ++ deliveredTo xs
+
 unfoldable pub givenTo : (device : ℕ) → List Exchange → List (Item Load)
-unfolding itemsOf
-givenTo d [] = []
-givenTo d (Exchange.called call other clock out later answer e ∷ xs) = givenTo d xs
-givenTo d (Exchange.asked clock buffer later answer e ∷ xs) = itemsOf d (givenIn answer later) ++ givenTo d xs
+unfolding itemsOf deliveredTo
+givenTo d xs = itemsOf d (deliveredTo xs)
 
 -- DEMAND 3, SECOND HALF, OF THE CODE. "The n-th timed request that `next_request` gives for a device came from the n-th taken on that device", "each delivered
 -- payload is, bit for bit, that of the one request it came from": kind, touch id, length and payload; `left` is what is not given (yet)
