@@ -20,3 +20,4 @@ pub mod ReleaseRoom
 pub mod ReleasedPlaces
 pub mod ReleasedTouch
 pub mod ReleaseSerials
+pub mod Framed
