@@ -1,9 +1,6 @@
--- A number is a case of its enum or none, and only one case; a truth is 1 or 0. Assumes nothing.
-use Prim.Native.Nat.{ℕ}
-use mathlib.Core.Path.{_≡_, refl, sym, ap, _∙_, subst}
-use mathlib.Core.Bool.{Bool, true, false, cond}
+-- A number is a case of its enum or none, and only one case. Assumes nothing.
+use mathlib.Core.Path.{_≡_, sym, ap, _∙_, subst}
 use mathlib.Core.Option.{Option, none, some}
-use mir.Val.{boolByte}
 use Rattle.eiproto.specs.declared.event.DeviceCapability.{DeviceCapability}
 use Rattle.eiproto.specs.declared.event.DeviceCapabilityOf.{DeviceCapabilityOf}
 use Rattle.eiproto.specs.declared.eiproto_enum.ContextType.{ContextType}
@@ -12,10 +9,6 @@ use Rattle.eiproto.specs.declared.eiproto_enum.DeviceType.{DeviceType}
 use Rattle.eiproto.specs.declared.eiproto_enum.DeviceTypeOf.{DeviceTypeOf}
 use Rattle.eiproto.specs.declared.eiproto_enum.DisconnectReason.{DisconnectReason}
 use Rattle.eiproto.specs.declared.eiproto_enum.DisconnectReasonOf.{DisconnectReasonOf}
-
-pub as-number : (t : Bool) → boolByte t ≡ cond t 1 0
-as-number true = refl
-as-number false = refl
 
 -- ---- the case that a parse tells, of each enum
 

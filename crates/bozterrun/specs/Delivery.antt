@@ -8,7 +8,7 @@ use Rattle.session.specs.Slices.{Numbers, Reals}
 use Rattle.answers.specs.Answer.{numberOf}
 use Rattle.converter.specs.Next.{nextOf, Delivers}
 use Rattle.converter.specs.declared.request.NextCell.{NextCell}
-use Rattle.bozterrun.specs.Reply.{noneNumber}
+use Rattle.answer_numbers.specs.Numbers.{noneNumber}
 
 abbrev pub nextStatus : NextCell → ℕ
 nextStatus (NextCell.Given c) = 0

@@ -11,7 +11,8 @@ use Rattle.handshake_messages.specs.declared.Told.{Told}
 use Rattle.lent_handshake.specs.Lent as lent
 use Rattle.lent_handshake.specs.declared.HandshakeReply.{HandshakeReply}
 use Rattle.lent_handshake.specs.declared.MessageReply.{MessageReply}
-use Rattle.bozterrun.specs.Reply.{Number, statusOf, versionIn, malformedNumber, noObjectNumber, invalidIdNumber, waitNumber}
+use Rattle.bozterrun.specs.Reply.{Number}
+use Rattle.answer_numbers.specs.Numbers.{statusOf, versionIn, malformedNumber, noObjectNumber, invalidIdNumber, waitNumber}
 use Rattle.bozterrun.specs.declared.message.MessageTold.{MessageTold}
 
 -- nothing is taken or written, and there is no more to tell

@@ -22,7 +22,7 @@ use Rattle.handshake.specs.declared.handshake.HandshakeError.{HandshakeError}
 use Rattle.lent_read.specs.Numbers.{recordWords, recordReals}
 use Rattle.answers.specs.Answer.{numberOf}
 use Rattle.answers.specs.declared.Error.{Error}
-use Rattle.bozterrun.specs.Reply.{noneNumber, badArgument, waitNumber, malformedNumber, noObjectNumber}
+use Rattle.answer_numbers.specs.Numbers.{noneNumber, badArgument, waitNumber, malformedNumber, noObjectNumber}
 use Rattle.bozterrun.specs.Message.{toldError}
 
 -- a handshake's request by its opcode (src/eiproto_eis.rs), with the number that it carries

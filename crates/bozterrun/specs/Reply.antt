@@ -1,7 +1,7 @@
 -- What an exported function tells: an answer that the module's own call promises, as numbers. Assumes nothing.
 use Prim.Native.Nat.{ℕ, _≤_}
 use mathlib.Core.Path.{_≡_}
-use mathlib.Core.Bool.{Bool, cond}
+use mathlib.Core.Bool.{Bool}
 use mathlib.Core.List.{List, [], map}
 use mathlib.Core.Option.{Option}
 use denote.Ref.{RefT}
@@ -9,81 +9,14 @@ use denote.Triple.Both.{Both}
 use lib.Dec.{eqb}
 use Rattle.model.specs.Call.{Input, Call}
 use Rattle.session.specs.Slices.{Numbers, Reals, before, after, rowsBefore, rowsAfter, text}
-use Rattle.model.specs.Plan as plan
-use Rattle.answers.specs.Answer.{numberOf, outcomeOf}
-use Rattle.answers.specs.declared.Outcome.{Outcome}
+use Rattle.answers.specs.Answer.{outcomeOf}
 use Rattle.answers.specs.declared.Answer.{Answer}
 use Rattle.client_calls.specs.Request.{AsksRows}
-use Rattle.reads.specs.declared.First.{First}
 use Rattle.reads.specs.declared.ReadAnswer.{ReadAnswer}
 use Rattle.reads.specs.Record.{entryOf}
 use Rattle.reads.specs.Handed.{HandsOver}
 use Rattle.lent_read.specs.Numbers.{recordsIn, areRequests}
-use Rattle.bozterrun.specs.declared.answer.RefusedVersion.{RefusedVersion}
-
--- ---- numbers
-
--- no refusal: nothing is queued, or the interface was not negotiated
-abbrev pub noneNumber : ℕ
-noneNumber = 64
-
--- an argument that stands for no case of its enum
-abbrev pub badArgument : ℕ
-badArgument = 65
-
--- no refusal: a message is not yet whole
-abbrev pub waitNumber : ℕ
-waitNumber = 66
-
--- the refusals that a message alone meets: "23 MALFORMED", "24 NO_OBJECT", "25 INVALID_ID"
-abbrev pub malformedNumber : ℕ
-malformedNumber = 23
-
-abbrev pub noObjectNumber : ℕ
-noObjectNumber = 24
-
-abbrev pub invalidIdNumber : ℕ
-invalidIdNumber = 25
-
--- what a function answers: the number of the refusal, 0 where there is none
-abbrev pub statusOf : Outcome → ℕ
-statusOf Outcome.Accepted = 0
-statusOf (Outcome.Refused e) = numberOf e
-statusOf (Outcome.Seat id) = 0
-statusOf (Outcome.Device id) = 0
-statusOf (Outcome.Value n) = 0
-statusOf (Outcome.Truth b) = 0
-statusOf Outcome.None = noneNumber
-
--- the id, the number or the truth that a call answers; 0 where there is none
-abbrev pub valueOf : Outcome → ℕ
-valueOf Outcome.Accepted = 0
-valueOf (Outcome.Refused e) = 0
-valueOf (Outcome.Seat id) = id
-valueOf (Outcome.Device id) = id
-valueOf (Outcome.Value n) = n
-valueOf (Outcome.Truth b) = cond b 1 0
-valueOf Outcome.None = 0
-
--- a read is answered as a call is, by its first refusal
-abbrev pub firstOutcome : First → Outcome
-firstOutcome First.None = Outcome.Accepted
-firstOutcome (First.Refused e) = Outcome.Refused e
-
-abbrev pub noVersion : RefusedVersion
-noVersion = record { interface = 0; version = 0 }
-
--- "2 INTERFACE_VERSION, with interface and version"; 0 at any other outcome
-abbrev pub versionIn : plan.Result → RefusedVersion
-versionIn (plan.Result.refusedVersion i v) = record { interface = i; version = v }
-versionIn plan.Result.accepted = noVersion
-versionIn (plan.Result.refused n) = noVersion
-versionIn (plan.Result.seat id) = noVersion
-versionIn (plan.Result.device id) = noVersion
-versionIn (plan.Result.value n) = noVersion
-versionIn (plan.Result.truth b) = noVersion
-versionIn plan.Result.none = noVersion
-versionIn plan.Result.given = noVersion
+use Rattle.answer_numbers.specs.Numbers.{badArgument, statusOf, valueOf, firstOutcome, versionIn}
 
 -- ---- promises
 

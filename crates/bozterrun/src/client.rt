@@ -1,6 +1,5 @@
 // A client's requests.
-use crate::answer;
-use crate::answer::BAD_ARGUMENT;
+use answer_numbers::BAD_ARGUMENT;
 use client_calls::cells;
 use eiproto::event::DeviceCapability;
 use eiproto::event::DeviceCapabilityOf;
@@ -18,7 +17,8 @@ ghost use Rattle.answers.specs.Promise.{Promise, PromiseRows, Reply};
 ghost use Rattle.client_requests.specs.Decision.{OnlyQueued, Waits};
 ghost use Rattle.handlers.specs.Call.{handshakeCall, deviceCall};
 ghost use Rattle.client_calls.specs.Request.{AsksControl, AsksRows, AsksRowsAt, AsksAll};
-ghost use Rattle.bozterrun.specs.Reply.{badArgument, Replies, Told, ToldTimed, Sent, Detailed, Pressed, Kept, KeptRows};
+ghost use Rattle.bozterrun.specs.Reply.{Replies, Told, ToldTimed, Sent, Detailed, Pressed, Kept, KeptRows};
+ghost use Rattle.answer_numbers.specs.Numbers.{badArgument};
 ghost use Rattle.bozterrun.specs.Numbers.{handshakeRequest, IsCapability, NoCapability};
 
 // A timed request of which nothing is asked but a known interface.
@@ -41,7 +41,7 @@ fn queue(
         request,
     );
     let outcome = answer.outcome;
-    answer::status(outcome)
+    answer_numbers::status(outcome)
 }
 
 #[no_mangle]
@@ -243,7 +243,7 @@ pub extern "C" fn bozterrun_text_utf8(
 {
     let answer = client_calls::handle_utf8_request(control, words, reals, texts, interface, text);
     let outcome = answer.outcome;
-    answer::status(outcome)
+    answer_numbers::status(outcome)
 }
 
 // The version counts for Cancel alone: Down, Motion and Up are at version 1.
@@ -269,7 +269,7 @@ pub extern "C" fn bozterrun_touchscreen_down(
         request,
     );
     let outcome = answer.outcome;
-    answer::status(outcome)
+    answer_numbers::status(outcome)
 }
 
 #[no_mangle]
@@ -294,7 +294,7 @@ pub extern "C" fn bozterrun_touchscreen_motion(
         request,
     );
     let outcome = answer.outcome;
-    answer::status(outcome)
+    answer_numbers::status(outcome)
 }
 
 #[no_mangle]
@@ -317,7 +317,7 @@ pub extern "C" fn bozterrun_touchscreen_up(
         request,
     );
     let outcome = answer.outcome;
-    answer::status(outcome)
+    answer_numbers::status(outcome)
 }
 
 // Refusal 2 tells the interface and the version.
@@ -344,10 +344,10 @@ pub extern "C" fn bozterrun_touchscreen_cancel(
         request,
     );
     let outcome = answer.outcome;
-    let refused = answer::refused_version(outcome);
+    let refused = answer_numbers::refused_version(outcome);
     *refused_interface = refused.interface;
     *refused_version = refused.version;
-    answer::status(outcome)
+    answer_numbers::status(outcome)
 }
 
 // A request on a device other than its Frame.
@@ -363,7 +363,7 @@ fn device_request(
 {
     let answer = client_calls::handle_device_request(control, words, reals, device, request, clock);
     let outcome = answer.outcome;
-    answer::status(outcome)
+    answer_numbers::status(outcome)
 }
 
 #[no_mangle]
@@ -443,7 +443,7 @@ pub extern "C" fn bozterrun_device_frame(
 {
     let answer = client_calls::queue_frame(control, words, reals, device, serial, timestamp);
     let outcome = answer.outcome;
-    answer::status(outcome)
+    answer_numbers::status(outcome)
 }
 
 #[no_mangle]
@@ -459,7 +459,7 @@ pub extern "C" fn bozterrun_seat_bind(
     let request = SeatRequest::Bind { capabilities };
     let answer = client_calls::handle_seat_request(control, words, reals, seat, request);
     let outcome = answer.outcome;
-    answer::status(outcome)
+    answer_numbers::status(outcome)
 }
 
 #[no_mangle]
@@ -475,7 +475,7 @@ pub extern "C" fn bozterrun_seat_request_device(
     let request = SeatRequest::RequestDevice { capabilities };
     let answer = client_calls::handle_seat_request(control, words, reals, seat, request);
     let outcome = answer.outcome;
-    answer::status(outcome)
+    answer_numbers::status(outcome)
 }
 
 #[no_mangle]
@@ -492,7 +492,7 @@ pub extern "C" fn bozterrun_seat_release(
     let answer = client_calls::release_seat(control, words, reals, seat, out);
     let outcome = answer.outcome;
     *count = answer.count;
-    answer::status(outcome)
+    answer_numbers::status(outcome)
 }
 
 // The Release of the interface for a capability, which is told by its mask.
@@ -516,7 +516,7 @@ pub extern "C" fn bozterrun_interface_release(
             let answer = client_calls::release_interface(control, known, interface, out);
             let outcome = answer.outcome;
             *count = answer.count;
-            answer::status(outcome)
+            answer_numbers::status(outcome)
         }
     }
 }
@@ -536,11 +536,11 @@ pub extern "C" fn bozterrun_connection_sync(
 {
     let answer = client_calls::sync(control, callback, version, out);
     let outcome = answer.outcome;
-    let refused = answer::refused_version(outcome);
+    let refused = answer_numbers::refused_version(outcome);
     *count = answer.count;
     *refused_interface = refused.interface;
     *refused_version = refused.version;
-    answer::status(outcome)
+    answer_numbers::status(outcome)
 }
 
 #[no_mangle]
@@ -553,7 +553,7 @@ pub extern "C" fn bozterrun_connection_disconnect(
 {
     let answer = client_calls::disconnect(control, words, reals);
     let outcome = answer.outcome;
-    answer::status(outcome)
+    answer_numbers::status(outcome)
 }
 
 #[no_mangle]
@@ -562,7 +562,7 @@ pub extern "C" fn bozterrun_pingpong_done(control: &[u64]) -> u32
 {
     let answer = client_calls::pingpong_done(control);
     let outcome = answer.outcome;
-    answer::status(outcome)
+    answer_numbers::status(outcome)
 }
 
 // The handshake's request of an opcode; past the last one it is the last.
@@ -603,5 +603,5 @@ pub extern "C" fn bozterrun_unexpected_handshake(
     let request = handshake_request(opcode, value);
     let answer = client_calls::handle_handshake_request(control, request, text);
     let outcome = answer.outcome;
-    answer::status(outcome)
+    answer_numbers::status(outcome)
 }

@@ -1,5 +1,5 @@
 // The next request for the station.
-use crate::answer::NONE;
+use answer_numbers::NONE;
 use converter::request;
 use converter::request::NextCell;
 use requests::cell::Cell;

@@ -1,5 +1,5 @@
 // The calls of a handshake, which lies in two lent slices.
-use crate::answer::BAD_ARGUMENT;
+use answer_numbers::BAD_ARGUMENT;
 use eiproto::eiproto_enum::ContextType;
 use eiproto::eiproto_enum::ContextTypeOf;
 use handshake::handshake::HandshakeMessage;
@@ -11,7 +11,8 @@ ghost use Rattle.eiproto.specs.declared.eiproto_enum.ContextType.{ContextType};
 ghost use Rattle.handshake.specs.Handshake as paper;
 ghost use Rattle.handshake.specs.View.{requestOf};
 ghost use Rattle.lent_handshake.specs.Lent.{statusOf, Starts, Finishes};
-ghost use Rattle.bozterrun.specs.Reply.{badArgument, Kept};
+ghost use Rattle.bozterrun.specs.Reply.{Kept};
+ghost use Rattle.answer_numbers.specs.Numbers.{badArgument};
 ghost use Rattle.bozterrun.specs.Handshake.{Counted, Says, Introduced};
 ghost use Rattle.bozterrun.specs.Numbers.{IsContext, NoContext};
 

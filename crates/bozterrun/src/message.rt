@@ -1,10 +1,9 @@
 // A client's bytes: the first message of a lent slice.
-use crate::answer;
-use crate::answer::INVALID_ID;
-use crate::answer::MALFORMED;
-use crate::answer::NO_OBJECT;
-use crate::answer::WAIT;
 use crate::handshakes;
+use answer_numbers::INVALID_ID;
+use answer_numbers::MALFORMED;
+use answer_numbers::NO_OBJECT;
+use answer_numbers::WAIT;
 use answers::Answer;
 use handshake::handshake::HandshakeOutcome;
 use handshake_messages::Told;
@@ -74,9 +73,9 @@ fn told_answer(answer: Answer, taken: usize) -> MessageTold
     ensures { λ r. ⌜ r ≡ toldAnswer answer taken ⌝ }
 {
     let outcome = answer.outcome;
-    let refused = answer::refused_version(outcome);
+    let refused = answer_numbers::refused_version(outcome);
     MessageTold {
-        status: answer::status(outcome),
+        status: answer_numbers::status(outcome),
         taken,
         count: answer.count,
         error: 0,

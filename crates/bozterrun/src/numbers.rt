@@ -1,10 +1,10 @@
 // The lengths of the slices, and the numbers that the header has names for.
-use crate::answer::BAD_ARGUMENT;
-use crate::answer::INVALID_ID;
-use crate::answer::MALFORMED;
-use crate::answer::NO_OBJECT;
-use crate::answer::NONE;
-use crate::answer::WAIT;
+use answer_numbers::BAD_ARGUMENT;
+use answer_numbers::INVALID_ID;
+use answer_numbers::MALFORMED;
+use answer_numbers::NO_OBJECT;
+use answer_numbers::NONE;
+use answer_numbers::WAIT;
 use answers::NAME_LENGTH_LIMIT;
 use control::CONTROL_LENGTH;
 use eiproto::event::DeviceCapability;

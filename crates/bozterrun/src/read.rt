@@ -1,9 +1,9 @@
 // A whole read: many of a client's requests in one call.
-use crate::answer;
-use crate::answer::BAD_ARGUMENT;
+use answer_numbers::BAD_ARGUMENT;
 ghost use mathlib.Core.Path.{_≡_};
 ghost use mathlib.Core.Bool.{true, false};
-ghost use Rattle.bozterrun.specs.Reply.{badArgument, ofRequests, ReadsIn, ToldRead, Unread};
+ghost use Rattle.bozterrun.specs.Reply.{ofRequests, ReadsIn, ToldRead, Unread};
+ghost use Rattle.answer_numbers.specs.Numbers.{badArgument};
 
 // Each record is eight words and two reals. Refusal 2 tells the interface and the version.
 #[no_mangle]
@@ -44,11 +44,11 @@ pub extern "C" fn bozterrun_handle_requests(
         out,
     );
     let refusal = answer.refusal;
-    let outcome = answer::first_outcome(refusal);
-    let refused = answer::refused_version(outcome);
+    let outcome = answer_numbers::first_outcome(refusal);
+    let refused = answer_numbers::refused_version(outcome);
     *accepted = answer.accepted;
     *count = answer.count;
     *refused_interface = refused.interface;
     *refused_version = refused.version;
-    answer::status(outcome)
+    answer_numbers::status(outcome)
 }

@@ -1,6 +1,5 @@
 // The calls of the station.
-use crate::answer;
-use crate::answer::BAD_ARGUMENT;
+use answer_numbers::BAD_ARGUMENT;
 use eiproto::eiproto_enum::DeviceType;
 use eiproto::eiproto_enum::DeviceTypeOf;
 use eiproto::eiproto_enum::DisconnectReason;
@@ -14,7 +13,8 @@ ghost use Rattle.eiproto.specs.declared.eiproto_enum.DeviceType.{DeviceType};
 ghost use Rattle.eiproto.specs.declared.eiproto_enum.DisconnectReason.{DisconnectReason};
 ghost use Rattle.model.specs.Call.{Plain};
 ghost use Rattle.answers.specs.Promise.{Promise, Reply, PromiseRows};
-ghost use Rattle.bozterrun.specs.Reply.{badArgument, textIf, Sent, Gave, Valued, Unsent, UnsentRows};
+ghost use Rattle.bozterrun.specs.Reply.{textIf, Sent, Gave, Valued, Unsent, UnsentRows};
+ghost use Rattle.answer_numbers.specs.Numbers.{badArgument};
 ghost use Rattle.bozterrun.specs.Numbers.{IsCapability, NoCapability, IsType, NoType, IsReason, NoReason};
 
 // The name counts where `given` is 1.
@@ -39,8 +39,8 @@ pub extern "C" fn bozterrun_add_seat(
     let answer = connection::add_seat(control, given == 1, name, capabilities, out);
     let outcome = answer.outcome;
     *count = answer.count;
-    *id = answer::value(outcome);
-    answer::status(outcome)
+    *id = answer_numbers::value(outcome);
+    answer_numbers::status(outcome)
 }
 
 #[no_mangle]
@@ -82,8 +82,8 @@ pub extern "C" fn bozterrun_add_device(
             );
             let outcome = answer.outcome;
             *count = answer.count;
-            *id = answer::value(outcome);
-            answer::status(outcome)
+            *id = answer_numbers::value(outcome);
+            answer_numbers::status(outcome)
         }
     }
 }
@@ -102,7 +102,7 @@ pub extern "C" fn bozterrun_remove_seat(
     let answer = seat::remove_seat(control, words, reals, seat, out);
     let outcome = answer.outcome;
     *count = answer.count;
-    answer::status(outcome)
+    answer_numbers::status(outcome)
 }
 
 #[no_mangle]
@@ -119,7 +119,7 @@ pub extern "C" fn bozterrun_remove_device(
     let answer = device::remove_device(control, words, reals, device, out);
     let outcome = answer.outcome;
     *count = answer.count;
-    answer::status(outcome)
+    answer_numbers::status(outcome)
 }
 
 #[no_mangle]
@@ -134,7 +134,7 @@ pub extern "C" fn bozterrun_resumed(
     let answer = device::resumed(control, device, out);
     let outcome = answer.outcome;
     *count = answer.count;
-    answer::status(outcome)
+    answer_numbers::status(outcome)
 }
 
 #[no_mangle]
@@ -149,7 +149,7 @@ pub extern "C" fn bozterrun_paused(
     let answer = device::paused(control, device, out);
     let outcome = answer.outcome;
     *count = answer.count;
-    answer::status(outcome)
+    answer_numbers::status(outcome)
 }
 
 #[no_mangle]
@@ -165,7 +165,7 @@ pub extern "C" fn bozterrun_start_emulating(
     let answer = device::start_emulating(control, device, sequence, out);
     let outcome = answer.outcome;
     *count = answer.count;
-    answer::status(outcome)
+    answer_numbers::status(outcome)
 }
 
 #[no_mangle]
@@ -180,7 +180,7 @@ pub extern "C" fn bozterrun_stop_emulating(
     let answer = device::stop_emulating(control, device, out);
     let outcome = answer.outcome;
     *count = answer.count;
-    answer::status(outcome)
+    answer_numbers::status(outcome)
 }
 
 #[no_mangle]
@@ -196,7 +196,7 @@ pub extern "C" fn bozterrun_frame(
     let answer = device::frame(control, device, time, out);
     let outcome = answer.outcome;
     *count = answer.count;
-    answer::status(outcome)
+    answer_numbers::status(outcome)
 }
 
 // The explanation counts where `given` is 1.
@@ -236,7 +236,7 @@ pub extern "C" fn bozterrun_disconnected(
             );
             let outcome = answer.outcome;
             *count = answer.count;
-            answer::status(outcome)
+            answer_numbers::status(outcome)
         }
     }
 }
@@ -247,8 +247,8 @@ pub extern "C" fn bozterrun_last_serial(control: &[u64], serial: &mut u64) -> u3
 {
     let answer = connection::last_serial(control);
     let outcome = answer.outcome;
-    *serial = answer::value(outcome);
-    answer::status(outcome)
+    *serial = answer_numbers::value(outcome);
+    answer_numbers::status(outcome)
 }
 
 // 1 where the interface was negotiated, else 0.
@@ -258,8 +258,8 @@ pub extern "C" fn bozterrun_has_interface(control: &[u64], name: &[u8], truth: &
 {
     let answer = connection::has_interface(control, name);
     let outcome = answer.outcome;
-    *truth = answer::value(outcome);
-    answer::status(outcome)
+    *truth = answer_numbers::value(outcome);
+    answer_numbers::status(outcome)
 }
 
 #[no_mangle]
@@ -272,8 +272,8 @@ pub extern "C" fn bozterrun_interface_version(
 {
     let answer = connection::interface_version(control, name);
     let outcome = answer.outcome;
-    *version = answer::value(outcome);
-    answer::status(outcome)
+    *version = answer_numbers::value(outcome);
+    answer_numbers::status(outcome)
 }
 
 // 1 where the device lists an interface for the capability, which is told by its mask, else 0.
@@ -295,8 +295,8 @@ pub extern "C" fn bozterrun_has_capability(
         DeviceCapabilityOf::Case(known) => {
             let answer = device::has_capability(control, device, known);
             let outcome = answer.outcome;
-            *truth = answer::value(outcome);
-            answer::status(outcome)
+            *truth = answer_numbers::value(outcome);
+            answer_numbers::status(outcome)
         }
     }
 }

@@ -1,6 +1,6 @@
 -- The call's answer, with the details of refusal 2. Assumes nothing.
 use mathlib.Core.Path.{ap}
-use Rattle.bozterrun.specs.declared.answer.RefusedVersion.{RefusedVersion}
+use Rattle.answer_numbers.specs.declared.RefusedVersion.{RefusedVersion}
 use borrow.Author.Needs.{needs}
 use Rattle.bozterrun.proofs.client.bozterrun_touchscreen_cancel.Statement.{statement}
 use Rattle.bozterrun.proofs.client.bozterrun_touchscreen_cancel.Tie as tie

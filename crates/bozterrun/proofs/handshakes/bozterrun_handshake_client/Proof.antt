@@ -2,7 +2,7 @@
 use mathlib.Core.Path.{refl, subst}
 use Rattle.lent_handshake.specs.Lent.{Named}
 use Rattle.lent_handshake.specs.declared.Client.{Client}
-use Rattle.bozterrun.proofs.Cases.{as-number}
+use Rattle.answer_numbers.proofs.Truth.{as-number}
 use borrow.Author.Needs.{needs}
 use Rattle.bozterrun.proofs.handshakes.bozterrun_handshake_client.Statement.{statement}
 use Rattle.bozterrun.proofs.handshakes.bozterrun_handshake_client.Tie as tie

@@ -1,6 +1,6 @@
 -- An answer's numbers, with the details of refusal 2. Assumes nothing.
 use borrow.Author.Needs.{needs}
-use Rattle.bozterrun.specs.declared.answer.RefusedVersion.{RefusedVersion}
+use Rattle.answer_numbers.specs.declared.RefusedVersion.{RefusedVersion}
 use Rattle.bozterrun.specs.declared.message.MessageTold.{MessageTold}
 use Rattle.bozterrun.proofs.message.told_answer.Statement.{statement}
 use Rattle.bozterrun.proofs.message.told_answer.Tie as tie

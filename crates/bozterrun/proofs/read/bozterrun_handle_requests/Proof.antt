@@ -5,8 +5,8 @@ use borrow.Author.Needs.{needs}
 use borrow.Author.Tests.{not-true, not-false}
 use Rattle.answers.specs.declared.Outcome.{Outcome}
 use Rattle.answers.specs.Answer.{outcomeOf}
-use Rattle.bozterrun.specs.declared.answer.RefusedVersion.{RefusedVersion}
-use Rattle.bozterrun.specs.Reply.{statusOf, versionIn}
+use Rattle.answer_numbers.specs.declared.RefusedVersion.{RefusedVersion}
+use Rattle.answer_numbers.specs.Numbers.{statusOf, versionIn}
 use Rattle.bozterrun.proofs.read.bozterrun_handle_requests.Statement.{statement}
 use Rattle.bozterrun.proofs.read.bozterrun_handle_requests.Tie as tie
 

@@ -1,7 +1,7 @@
 -- The details of a refusal are its error's. Assumes nothing.
 use borrow.Author.Needs.{needs}
-use Rattle.bozterrun.proofs.answer.refused_version.Statement.{statement}
-use Rattle.bozterrun.proofs.answer.refused_version.Tie as tie
+use Rattle.answer_numbers.proofs.refused_version.Statement.{statement}
+use Rattle.answer_numbers.proofs.refused_version.Tie as tie
 
 pub refused-version-spec : {M : Type 1} → statement M
 refused-version-spec =

@@ -1,7 +1,7 @@
 -- Refusal 2 alone has details. Assumes nothing.
 use borrow.Author.Needs.{needs}
-use Rattle.bozterrun.proofs.answer.version_in.Statement.{statement}
-use Rattle.bozterrun.proofs.answer.version_in.Tie as tie
+use Rattle.answer_numbers.proofs.version_in.Statement.{statement}
+use Rattle.answer_numbers.proofs.version_in.Tie as tie
 
 pub version-in-spec : {M : Type 1} → statement M
 version-in-spec =

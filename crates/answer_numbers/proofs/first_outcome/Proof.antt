@@ -1,7 +1,7 @@
 -- The first refusal is the outcome's. Assumes nothing.
 use borrow.Author.Needs.{needs}
-use Rattle.bozterrun.proofs.answer.first_outcome.Statement.{statement}
-use Rattle.bozterrun.proofs.answer.first_outcome.Tie as tie
+use Rattle.answer_numbers.proofs.first_outcome.Statement.{statement}
+use Rattle.answer_numbers.proofs.first_outcome.Tie as tie
 
 pub first-outcome-spec : {M : Type 1} → statement M
 first-outcome-spec =

@@ -1,7 +1,7 @@
 -- A refusal has its number. Assumes nothing.
 use borrow.Author.Needs.{needs}
-use Rattle.bozterrun.proofs.answer.status.Statement.{statement}
-use Rattle.bozterrun.proofs.answer.status.Tie as tie
+use Rattle.answer_numbers.proofs.status.Statement.{statement}
+use Rattle.answer_numbers.proofs.status.Tie as tie
 
 pub status-spec : {M : Type 1} → statement M
 status-spec =

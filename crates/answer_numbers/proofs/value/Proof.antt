@@ -1,8 +1,8 @@
 -- A truth is 1 or 0. Assumes nothing.
-use Rattle.bozterrun.proofs.Cases.{as-number}
+use Rattle.answer_numbers.proofs.Truth.{as-number}
 use borrow.Author.Needs.{needs}
-use Rattle.bozterrun.proofs.answer.value.Statement.{statement}
-use Rattle.bozterrun.proofs.answer.value.Tie as tie
+use Rattle.answer_numbers.proofs.value.Statement.{statement}
+use Rattle.answer_numbers.proofs.value.Tie as tie
 
 returns-6 : tie.Need-returns-6
 returns-6 c = rw (c .before .outcome4 .given .1) (as-number (c .before .outcome4 .given .0 .0))

@@ -1,10 +1,10 @@
-// What a call answers, as numbers.
+// What a call answers, as numbers: for C and Rust.
 use answers::Error;
 use answers::Outcome;
 use reads::First;
 ghost use mathlib.Core.Path.{_≡_};
 ghost use Rattle.answers.specs.Answer.{errorOf, outcomeOf};
-ghost use Rattle.bozterrun.specs.Reply.{statusOf, valueOf, firstOutcome, noVersion, versionIn};
+ghost use Rattle.answer_numbers.specs.Numbers.{statusOf, valueOf, firstOutcome, noVersion, versionIn};
 
 // Not a refusal: nothing is queued, or the interface was not negotiated.
 pub const NONE: u32 = 64;
