@@ -5,14 +5,15 @@ use mathlib.Core.Path.{_≡_, refl, ap, sym, _∙_}
 use mathlib.Core.Bool.{Bool, true, false, not, false≢true}
 use mathlib.Core.List.{List, [], _∷_, _++_, map, append-nil, append-assoc, append-eq-nil-iff, head-eq-of-cons-eq, tail-eq-of-cons-eq}
 use Rattle.model.specs.Call.{Split}
-use Rattle.model.specs.Session.{Item, Untimed, Queued, Device, Session, view}
-use Rattle.model.specs.Edit.{Edit, framed, framedAt, rest, enact, enactAll}
+use Rattle.model.specs.Session.{Untimed, Queued, Device, Session, view}
+use Rattle.model.specs.Edit.{Edit, framedAt, enact, enactAll}
 use Rattle.model.specs.Decide.{decide}
-use Rattle.model.specs.Step.{Step, oldest, gave, gaveAll, carriedOut, source, unchanged, step, run}
+use Rattle.model.specs.Step.{gave, gaveAll, carriedOut, source, unchanged, step, run}
 use Rattle.model.specs.Demand3.{delivered}
 use Rattle.model.specs.Reachable.{sessionAfter}
 use Rattle.model.specs.Framed.{isFrame, Block, inBlock, inBlocks, runOf, Cut, between, within}
 use Rattle.model.proofs.All.{All, none, more}
+use Rattle.model.proofs.OneDevice.{framed-run, oldest-rest}
 use Rattle.model.proofs.Within.{step-by}
 use Rattle.model.proofs.Sorted.{stays, Stays, Sorted, staying, clearing, decide-sorted}
 use Rattle.model.proofs.Gone.{clearing-clears, clearing-gave}
@@ -50,25 +51,13 @@ module _ {P : Type 0} where
             ∙ ap (λ (x : List (Queued P)). rs ++ x) (sym (blocks-append (g .blocks) (h .blocks)));
       }
 
-  -- ---- what a frame queues is one run, or nothing
-
-  pub framed-run : (d s t : ℕ) (is : List (Item P)) → framed d s t is ≡ inBlocks (runOf d s t is)
-  unfolding framed runOf inBlocks inBlock
-  framed-run d s t [] = refl
-  framed-run d s t (i ∷ is) = sym (append-nil _)
+  -- ---- an edit
 
   framedAt-grown : (k s t : ℕ) (ds : List (Device P)) (rs : List (Queued P)) → Grown rs (rs ++ framedAt k s t ds)
   unfolding framedAt inBlocks
   framedAt-grown k s t [] rs = record { blocks = []; are = refl }
   framedAt-grown zero s t (x ∷ ds) rs = record { blocks = runOf (x .id) s t (x .pending); are = ap (λ (q : List (Queued P)). rs ++ q) (framed-run (x .id) s t (x .pending)) }
   framedAt-grown (suc k) s t (x ∷ ds) rs = framedAt-grown k s t ds rs
-
-  -- ---- an edit
-
-  oldest-rest : (rs : List (Queued P)) → oldest rs ++ rest rs ≡ rs
-  unfolding oldest rest
-  oldest-rest [] = refl
-  oldest-rest (r ∷ rs) = refl
 
   edit-grown : (e : Edit) (p : P) (s : Session P) → stays e ≡ true → Grown (s .requests) (gave e s ++ enact e p s .requests)
   unfolding enact gave stays inBlocks inBlock

@@ -1,7 +1,7 @@
 -- A step goes the same way whatever the payloads are: it commutes with putting another payload in the place of each. By cases on the edits, not
 -- on the calls, since a decision sees no payload. Assumes nothing.
 use Prim.Native.Nat.{ℕ, zero, suc}
-use mathlib.Core.Path.{_≡_, refl, ap, _∙_}
+use mathlib.Core.Path.{_≡_, refl, ap, sym, _∙_}
 use mathlib.Core.Bool.{Bool, true, false, cond}
 use mathlib.Core.List.{List, [], _∷_, _++_, map, map-append}
 use lib.Dec.{eqb}
@@ -12,6 +12,8 @@ use Rattle.model.specs.Edit.{Amend, Edit, amended, item, pended, emptied
 use Rattle.model.specs.Plan.{Result, Plan}
 use Rattle.model.specs.Decide.{decide}
 use Rattle.model.specs.Step.{Step, oldest, gave, gaveAll, carriedOut, source, pendingTexts, devicesTexts, queuedTexts, textBytes, Counts, counts, limits, refuses, settled, bytesNeeded, limited, step, run}
+use Rattle.model.specs.Framed.{inBlocks, runOf}
+use Rattle.model.proofs.OneDevice.{framed-run, run-is}
 
 -- the outcome once the limits are tested
 abbrev verdict : (room bytes : ℕ) → (before after : Counts) → Result → Result
@@ -79,10 +81,15 @@ module _ {P Q : Type 0} (f : P → Q) where
   queued-map d s t [] = refl
   queued-map d s t (i ∷ is) = ap (λ r. Queued.timed d t (mapItem f i) ∷ r) (queued-map d s t is)
 
+  run-map-items : (d s t : ℕ) (is : List (Item P)) → inBlocks (runOf d s t (map (mapItem f) is)) ≡ map (mapQueued f) (inBlocks (runOf d s t is))
+  unfolding runOf inBlocks
+  run-map-items d s t [] = refl
+  run-map-items d s t (i ∷ is) =
+      run-is d s t (mapItem f i) (map (mapItem f) is) ∙ queued-map d s t (i ∷ is) ∙ ap (map (mapQueued f)) (sym (run-is d s t i is))
+
   framed-map : (d s t : ℕ) (is : List (Item P)) → framed d s t (map (mapItem f) is) ≡ map (mapQueued f) (framed d s t is)
-  unfolding framed mapQueued
-  framed-map d s t [] = refl
-  framed-map d s t (i ∷ is) = cc (queued-map d s t (i ∷ is))
+  framed-map d s t is =
+      framed-run d s t (map (mapItem f) is) ∙ run-map-items d s t is ∙ ap (map (mapQueued f)) (sym (framed-run d s t is))
 
   framedAt-map : (k s t : ℕ) (ds : List (Device P)) → framedAt k s t (map (mapDevice f) ds) ≡ map (mapQueued f) (framedAt k s t ds)
   unfolding framedAt mapDevice

@@ -20,10 +20,10 @@ use Rattle.model.specs.Kept.{pendingOf}
 use Rattle.model.specs.Framed.{stands, removedBy, placesAfter, inBlocks, runOf, EachPress, Each-press, Last-run-cut, Closes, Closed, Frame-takes-all}
 use Rattle.model.proofs.Finding.{found-holds}
 use Rattle.model.proofs.Within.{step-by}
-use Rattle.model.proofs.OneDevice.{standing, none-pending, count-append}
+use Rattle.model.proofs.OneDevice.{framed-run, standing, none-pending, count-append}
 use Rattle.model.proofs.Order.{Keeps}
 use Rattle.model.proofs.Provenance.{trail-keeps}
-use Rattle.model.proofs.Blocks.{framed-run, run-grown, blocks-cut}
+use Rattle.model.proofs.Blocks.{run-grown, blocks-cut}
 use Rattle.model.proofs.Numbers.{numbered-once, numbered-same}
 use Rattle.model.proofs.Reachable.{reachable-orderly}
 

@@ -16,11 +16,11 @@ use Rattle.model.specs.Decide.{decide}
 use Rattle.model.specs.Step.{Step, oldest, gave, gaveAll, carriedOut, source, unchanged, step, run}
 use Rattle.model.specs.Demand3.{delivered}
 use Rattle.model.specs.Reachable.{countOf, sessionAfter}
-use Rattle.model.specs.Framed.{Places, stands, goneFrom, removedBy, placesAfter, timedIn, pendingIn, itemsIn, numbered, loadAt, mapPlaces}
+use Rattle.model.specs.Framed.{Places, stands, goneFrom, removedBy, placesAfter, timedIn, pendingIn, itemsIn, numbered, loadAt, mapPlaces, inBlocks, runOf}
 use Rattle.model.proofs.All.{All, none, more}
 use Rattle.model.proofs.Commute.{mapSplit, mapStep, step-map, run-map}
 use Rattle.model.proofs.Destroyed.{count-append}
-use Rattle.model.proofs.OneDevice.{standing, amended-keeps}
+use Rattle.model.proofs.OneDevice.{framed-run, run-is, oldest-rest, standing, amended-keeps}
 use Rattle.model.proofs.Within.{step-by}
 use Rattle.model.proofs.Sorted.{stays, Stays, pends, pendsAll, Sorted, staying, clearing, decide-sorted}
 use Rattle.model.proofs.Gone.{first-stands, gone-none, staying-none, clearing-clears, clearing-gave}
@@ -95,11 +95,17 @@ module _ (l : ℕ) where
   map-timed d t [] = refl
   map-timed d t (i ∷ is) = ap (λ (js : List (Item ℕ)). i ∷ js) (map-timed d t is)
 
+  run-timed : (d s t : ℕ) (is : List (Item ℕ)) → timedIn (inBlocks (runOf d s t is)) ≡ is
+  unfolding runOf inBlocks timedIn
+  run-timed d s t [] = refl
+  run-timed d s t (i ∷ is) =
+      ap timedIn (run-is d s t i is)
+      ∙ timed-append (map (λ x. Queued.timed d t x) (i ∷ is)) (Queued.untimed (Untimed.Frame d s t) ∷ [])
+      ∙ append-nil _
+      ∙ map-timed d t (i ∷ is)
+
   framed-timed : (d s t : ℕ) (is : List (Item ℕ)) → timedIn (framed d s t is) ≡ is
-  unfolding framed timedIn
-  framed-timed d s t [] = refl
-  framed-timed d s t (i ∷ is) =
-      timed-append (map (λ x. Queued.timed d t x) (i ∷ is)) (Queued.untimed (Untimed.Frame d s t) ∷ []) ∙ append-nil _ ∙ map-timed d t (i ∷ is)
+  framed-timed d s t is = ap timedIn (framed-run d s t is) ∙ run-timed d s t is
 
   framed-waiting : (k s t : ℕ) (ds : List (Device ℕ)) → queued (framedAt k s t ds) + waiting (at emptied k ds) ≡ waiting ds
   unfolding framedAt at emptied timedIn pendingIn times countOf
@@ -108,11 +114,8 @@ module _ (l : ℕ) where
   framed-waiting (suc k) s t (x ∷ ds) =
       omega (arith, times-append (x .pending) (pendingIn (at emptied k ds)), times-append (x .pending) (pendingIn ds), framed-waiting k s t ds)
 
-  oldest-rest : (rs : List (Queued ℕ)) → queued (oldest rs) + queued (rest rs) ≡ queued rs
-  unfolding oldest rest timedIn times countOf
-  oldest-rest [] = refl
-  oldest-rest (Queued.timed d t i ∷ rs) = omega arith
-  oldest-rest (Queued.untimed u ∷ rs) = omega arith
+  queued-parted : (rs : List (Queued ℕ)) → queued (oldest rs) + queued (rest rs) ≡ queued rs
+  queued-parted rs = sym (queued-append (oldest rs) (rest rs)) ∙ ap (λ (q : List (Queued ℕ)). queued q) (oldest-rest rs)
 
   -- what is given, and what stays in the session
   abbrev Adds : (gave : List (Queued ℕ)) (before after : Session ℕ) (more : ℕ) → Type 0
@@ -131,7 +134,7 @@ module _ (l : ℕ) where
   edit-adds (Edit.frame k serial time) p s h =
       omega (arith, queued-append (s .requests) (framedAt k serial time (s .devices)), framed-waiting k serial time (s .devices))
   edit-adds (Edit.queue u) p s h = omega (arith, queued-append (s .requests) (Queued.untimed u ∷ []))
-  edit-adds Edit.deliver p s h = omega (arith, oldest-rest (s .requests))
+  edit-adds Edit.deliver p s h = omega (arith, queued-parted (s .requests))
   edit-adds (Edit.peerObject id) p s h = omega arith
   edit-adds Edit.endConnection p s h = omega arith
 

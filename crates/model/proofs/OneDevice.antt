@@ -1,6 +1,6 @@
 -- What there is of one device, by its id: how many stand, what is pending and queued for it, and how the edits change that. Assumes nothing.
 use Prim.Native.Nat.{ℕ, zero, suc, _+_, _≤_}
-use mathlib.Core.Path.{_≡_, refl, sym, _∙_}
+use mathlib.Core.Path.{_≡_, refl, ap, sym, _∙_}
 use mathlib.Core.Bool.{Bool, true, false, cond}
 use mathlib.Core.List.{List, [], _∷_, _++_, map, append-nil, append-assoc, Sublistᴰ, Sublistᴰ·slnil, Sublistᴰ·cons, Sublistᴰ·cons-cons}
 use native.Mathlib.Omega.{arith}
@@ -11,6 +11,7 @@ use Rattle.model.specs.Step.{oldest}
 use Rattle.model.specs.Demand3.{itemsOf}
 use Rattle.model.specs.Reachable.{countOf}
 use Rattle.model.specs.Kept.{pendingOf}
+use Rattle.model.specs.Framed.{inBlock, inBlocks, runOf}
 use Rattle.model.proofs.Lists.{cond-nil, cond-cons, none-cons, pend-cons, empty-cons, pass-cons, Fewer, same, fewer-keep, fewer-drop}
 
 pub amended-keeps : {P : Type 0} (a : Amend) (x : Device P) → (amended a x .id ≡ x .id) × (amended a x .pending ≡ x .pending)
@@ -19,6 +20,24 @@ amended-keeps (Amend.touchDown t) x = (refl, refl)
 amended-keeps (Amend.touchUp t) x = (refl, refl)
 amended-keeps Amend.clearTouches x = (refl, refl)
 amended-keeps (Amend.unlist cap) x = (refl, refl)
+
+module _ {P : Type 0} where
+  -- what a frame queues is one run, or nothing
+  pub framed-run : (d s t : ℕ) (is : List (Item P)) → framed d s t is ≡ inBlocks (runOf d s t is)
+  unfolding framed runOf inBlocks inBlock
+  framed-run d s t [] = refl
+  framed-run d s t (i ∷ is) = sym (append-nil _)
+
+  -- a run: its requests, then its Frame
+  pub run-is : (d s t : ℕ) (i : Item P) (is : List (Item P)) →
+      inBlocks (runOf d s t (i ∷ is)) ≡ map (λ x. Queued.timed d t x) (i ∷ is) ++ (Queued.untimed (Untimed.Frame d s t) ∷ [])
+  unfolding runOf inBlocks inBlock
+  run-is d s t i is = append-nil _
+
+  pub oldest-rest : (q : List (Queued P)) → oldest q ++ rest q ≡ q
+  unfolding oldest rest
+  oldest-rest [] = refl
+  oldest-rest (r ∷ q) = refl
 
 module _ {P : Type 0} (d : ℕ) where
   -- ---- what is taken, and what stands, of the device with id d
@@ -78,11 +97,17 @@ module _ {P : Type 0} (d : ℕ) where
   items-timed e t [] = sym (cond-nil (eqb e d))
   items-timed e t (i ∷ is) = rw (items-timed e t is) (cond-cons (eqb e d) i is)
 
+  items-run : (e s t : ℕ) (is : List (Item P)) → itemsOf d (inBlocks (runOf e s t is)) ≡ cond (eqb e d) is []
+  unfolding runOf inBlocks itemsOf
+  items-run e s t [] = items-timed e t []
+  items-run e s t (i ∷ is) =
+      ap (itemsOf d) (run-is e s t i is)
+      ∙ items-append (map (λ x. Queued.timed e t x) (i ∷ is)) (Queued.untimed (Untimed.Frame e s t) ∷ [])
+      ∙ append-nil _
+      ∙ items-timed e t (i ∷ is)
+
   items-framed : (e s t : ℕ) (is : List (Item P)) → itemsOf d (framed e s t is) ≡ cond (eqb e d) is []
-  unfolding framed itemsOf
-  items-framed e s t [] = items-timed e t []
-  items-framed e s t (i ∷ is) =
-      items-append (map (λ x. Queued.timed e t x) (i ∷ is)) (Queued.untimed (Untimed.Frame e s t) ∷ []) ∙ append-nil _ ∙ items-timed e t (i ∷ is)
+  items-framed e s t is = ap (itemsOf d) (framed-run e s t is) ∙ items-run e s t is
 
   none-framed : (k s t : ℕ) (xs : List (Device P)) → standing xs ≡ 0 → itemsOf d (framedAt k s t xs) ≡ []
   unfolding countOf framedAt itemsOf
@@ -151,8 +176,5 @@ module _ {P : Type 0} (d : ℕ) where
   unfolding pendingOf
   added-pending xs x e = pending-append xs (x ∷ []) ∙ rw (e, cond-nil {A = Item P} (eqb (x .id) d)) (append-nil (pendingOf d xs))
 
-  pub oldest-rest : (q : List (Queued P)) → itemsOf d (oldest q) ++ itemsOf d (rest q) ≡ itemsOf d q
-  unfolding oldest rest itemsOf
-  oldest-rest [] = refl
-  oldest-rest (Queued.timed e t i ∷ q) = append-assoc (cond (eqb e d) (i ∷ []) []) [] (itemsOf d q)
-  oldest-rest (Queued.untimed u ∷ q) = refl
+  pub items-parted : (q : List (Queued P)) → itemsOf d (oldest q) ++ itemsOf d (rest q) ≡ itemsOf d q
+  items-parted q = sym (items-append (oldest q) (rest q)) ∙ ap (itemsOf d) (oldest-rest q)

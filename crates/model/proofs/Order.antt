@@ -18,7 +18,7 @@ use Rattle.model.specs.Kept.{pendingOf}
 use Rattle.model.specs.Framed.{stands, goneFrom}
 use Rattle.model.proofs.Lists.{same, fewer, idle-sum, pend-sum, frame-sum, deliver-sum, clear-sum}
 use Rattle.model.proofs.All.{All, none, more}
-use Rattle.model.proofs.OneDevice.{takenAt, took, tookAll, standing, none-pending, none-taken, items-append, at-count, amended-pending, pended-pending, framed-pending, FewerStand, sub-fewer, count-append, pending-append, added-count, added-pending, oldest-rest, amended-keeps}
+use Rattle.model.proofs.OneDevice.{takenAt, took, tookAll, standing, none-pending, none-taken, items-append, at-count, amended-pending, pended-pending, framed-pending, FewerStand, sub-fewer, count-append, pending-append, added-count, added-pending, items-parted, amended-keeps}
 use Rattle.model.proofs.Sorted.{stays, Stays, Sorted, staying, clearing}
 use Rattle.model.proofs.Gone.{stands-not, gone-pending, gone-count, staying-none, Cleared, clearing-clears, clearing-gave, clearing-took}
 
@@ -93,7 +93,7 @@ module _ {P : Type 0} (d : ℕ) where
     deliver =
         let first : List (Item P) = itemsOf d (oldest (s .requests)) in
         let left : List (Item P) = itemsOf d (rest (s .requests)) in
-        record { sum = deliver-sum T G queued pending lost (k .sum) first left (oldest-rest d (s .requests)); once = k .once; early = k .early }
+        record { sum = deliver-sum T G queued pending lost (k .sum) first left (items-parted d (s .requests)); once = k .once; early = k .early }
 
     -- a new device, whose id is the next, with nothing pending
     module _ (x : Device P) (c : Connection) (a : x .id ≡ s .connection .nextId) (z : x .pending ≡ []) (l : s .connection .nextId < c .nextId) where
