@@ -3,15 +3,15 @@
 use Prim.Native.Nat.{ℕ, zero, suc}
 use mathlib.Core.Path.{_≡_, refl, ap, sym, _∙_}
 use mathlib.Core.Bool.{Bool, true, false, not, false≢true}
-use mathlib.Core.List.{List, [], _∷_, _++_, map, append-nil, append-assoc, append-eq-nil-iff, head-eq-of-cons-eq, tail-eq-of-cons-eq}
-use Rattle.model.specs.Call.{Split}
+use mathlib.Core.List.{List, [], _∷_, _++_, append-nil, append-assoc, append-eq-nil-iff, head-eq-of-cons-eq, tail-eq-of-cons-eq}
+use Rattle.model.specs.Call.{Sight, Call, Split}
 use Rattle.model.specs.Session.{Untimed, Queued, Device, Session, view}
 use Rattle.model.specs.Edit.{Edit, framedAt, enact, enactAll}
-use Rattle.model.specs.Decide.{decide}
 use Rattle.model.specs.Step.{gave, gaveAll, carriedOut, source, unchanged, step, run}
 use Rattle.model.specs.Demand3.{delivered}
 use Rattle.model.specs.Reachable.{sessionAfter}
 use Rattle.model.specs.Framed.{isFrame, Block, inBlock, inBlocks, runOf, Cut, between, within}
+use Rattle.model.proofs.Lists.{moved-twice}
 use Rattle.model.proofs.All.{All, none, more}
 use Rattle.model.proofs.OneDevice.{framed-run, oldest-rest}
 use Rattle.model.proofs.Within.{step-by}
@@ -42,13 +42,7 @@ module _ {P : Type 0} where
   twice rs out mid out′ last g h =
       record {
         blocks = g .blocks ++ h .blocks;
-        are =
-            append-assoc out out′ last
-            ∙ ap (λ (x : List (Queued P)). out ++ x) (h .are)
-            ∙ sym (append-assoc out mid (inBlocks (h .blocks)))
-            ∙ ap (λ (x : List (Queued P)). x ++ inBlocks (h .blocks)) (g .are)
-            ∙ append-assoc rs (inBlocks (g .blocks)) (inBlocks (h .blocks))
-            ∙ ap (λ (x : List (Queued P)). rs ++ x) (sym (blocks-append (g .blocks) (h .blocks)));
+        are = rw (blocks-append (g .blocks) (h .blocks)) (moved-twice rs out mid out′ last (inBlocks (g .blocks)) (inBlocks (h .blocks)) (g .are) (h .are));
       }
 
   -- ---- an edit
@@ -84,9 +78,9 @@ module _ {P : Type 0} where
 
   -- ---- a call, and a list of calls
 
-  plan-grown : {es : List Edit} (p : P) (s : Session P) → Sorted es → Grown (s .requests) (gaveAll es p s ++ enactAll es p s .requests)
+  plan-grown : {c : Call Sight} {es : List Edit} (p : P) (s : Session P) → Sorted es c → Grown (s .requests) (gaveAll es p s ++ enactAll es p s .requests)
   plan-grown p s (staying a one) = edits-grown p s a
-  plan-grown p s (clearing a) = rw (clearing-gave p s a, clearing-clears p s a .requests) (same (s .requests))
+  plan-grown p s (clearing r a) = rw (clearing-gave p s a, clearing-clears p s a .requests) (same (s .requests))
 
   step-grown : (t : Split P) (s : Session P) → Grown (s .requests) (step t s .gave ++ step t s .session .requests)
   unfolding source carriedOut unchanged

@@ -34,18 +34,14 @@ use Rattle.model.proofs.ReachablePlans.{device-ids, modest-ids}
 use Rattle.model.proofs.Reachable.{refusal-ids, Sound, step-sound, run-ids, fresh-sound}
 use Rattle.model.proofs.Walk.{Noted, Touched, Leaf, walk}
 use Rattle.model.proofs.Within.{step-by}
+use Rattle.model.proofs.Lists.{count-append}
 
 -- ---- counts
 
 module _ (x : ℕ) where
-  pub count-append : (xs ys : List ℕ) → countOf x (xs ++ ys) ≡ countOf x xs + countOf x ys
-  unfolding countOf
-  count-append [] ys = omega arith
-  count-append (y ∷ xs) ys = omega (arith, count-append xs ys)
-
   count-last : (xs : List ℕ) (y : ℕ) → countOf x (xs ++ (y ∷ [])) ≡ countOf x (y ∷ xs)
   unfolding countOf
-  count-last xs y = omega (arith, count-append xs (y ∷ []))
+  count-last xs y = omega (arith, count-append x xs (y ∷ []))
 
 -- ---- the events
 
@@ -365,14 +361,14 @@ module _ {P : Type 0} (x : ℕ) where
     leaf-adds (Leaf.noted object event edits m h) = calm _ refl (rw (m _ .0)) (noted-still h)
     leaf-adds (Leaf.released cap id f e) =
         record { sum = omega (arith, found-unlisted x cap id (s .devices) f (ok .bits) e) }
-    leaf-adds (Leaf.deviceGone id f e) =
+    leaf-adds (Leaf.deviceGone id f r e) =
         gone (objectsOf (f .device)) (Edit.removeDevice (f .slot) ∷ [])
         (omega (arith, found-taken x (λ d. eqb (d .id) id) (s .devices) f e))
-    leaf-adds (Leaf.seatGone id y e) =
+    leaf-adds (Leaf.seatGone id y r e) =
         let ds = map (mapDevice blank) (s .devices) in
         gone (devicesObjects id ds ++ (id ∷ [])) (Edit.removeDevicesOf id ∷ Edit.removeSeat id ∷ [])
         (omega (arith, seat-taken x id (s .devices), place-taken x id (s .connection .seats) y e, count-append x (devicesObjects id ds) (id ∷ [])))
-    leaf-adds (Leaf.allGone reason explanation) =
+    leaf-adds (Leaf.allGone reason explanation r) =
         let os = seatsObjects (s .connection .seats) (map (mapDevice blank) (s .devices)) in
         let last = destroyed (s .connection .lastSerial) os in
         record {
@@ -380,8 +376,8 @@ module _ {P : Type 0} (x : ℕ) where
               (omega (arith, all-taken x (s .connection .seats) p (enact Edit.endConnection p (enact (Edit.raise (length os)) p s)) refl (ok .ordered .seats)));
         }
     leaf-adds (Leaf.queued u n) = calm _ refl refl refl
-    leaf-adds (Leaf.flushed id f u n e) = calm _ refl refl refl
-    leaf-adds (Leaf.closed id serial time f e) = calm _ refl refl refl
+    leaf-adds (Leaf.flushed id f u n k e) = calm _ refl refl refl
+    leaf-adds (Leaf.closed id serial time f k e) = calm _ refl refl refl
     leaf-adds Leaf.handed = calm _ refl refl refl
     leaf-adds (Leaf.newSeat name caps) =
         let c = s .connection in

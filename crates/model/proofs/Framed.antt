@@ -3,24 +3,31 @@
 use Prim.Native.Nat.{ℕ, suc, _+_, _≤_, _<_}
 use mathlib.Core.Path.{_≡_, refl, ap, sym, subst, _∙_}
 use mathlib.Core.Bool.{Bool, true, false, cond, true≢false, false≢true}
-use mathlib.Core.List.{List, [], _∷_, _++_, map, append-nil, append-assoc}
+use mathlib.Core.List.{List, [], _∷_, _++_, map, map-append, append-nil, append-assoc}
 use mathlib.Core.Option.{Option, none, some}
 use native.Mathlib.Omega.{arith}
 use lib.Dec.{eqb}
-use borrow.Author.Tests.{eqb-true, ltb-true}
-use Rattle.model.specs.Call.{Load, Plain, Call, Turn, Split, mapCall, loadOf, split}
+use borrow.Author.Tests.{eqb-true, ltb-true, lt-ltb}
+use Rattle.model.specs.Call.{Sight, Load, Plain, Call, Split, mapCall, loadOf, split}
 use Rattle.model.specs.Session.{Item, Untimed, Queued, Device, Session, View, mapDevice, blank, fresh, view}
 use Rattle.model.specs.Edit.{Edit, emptied, framed, at, framedAt, enact, enactAll}
 use Rattle.model.specs.Plan.{Plan, ignore, edit}
-use Rattle.model.specs.Decide.{Found, later, find, deviceOf, onFound, handleFrame, handleDevice, decidePlain, decide}
-use Rattle.model.specs.Step.{Step, refuses, carriedOut, source, unchanged, step}
+use Rattle.model.specs.Decide.{Found, find, deviceOf, onFound, handleFrame, handleDevice, decidePlain, decide}
+use Rattle.model.specs.Step.{refuses, gave, gaveAll, carriedOut, source, unchanged}
 use Rattle.model.specs.Demand3.{given, trail}
-use Rattle.model.specs.Reachable.{countOf, deviceIds, Orderly, sessionAfter, Reachable-orderly}
+use Rattle.model.specs.Reachable.{countOf, deviceIds, sessionAfter, Reachable-orderly}
 use Rattle.model.specs.Kept.{pendingOf}
-use Rattle.model.specs.Framed.{stands, removedBy, placesAfter, inBlocks, runOf, EachPress, Each-press, Last-run-cut, Closes, Closed, Frame-takes-all}
+use Rattle.model.specs.Framed.{stands, removedBy, placesAfter, inBlocks, runOf, Each-press, Last-run-cut, Removes, Removed-by-removals, Closes, Closed, Frame-takes-all, Framed-by-closers}
+use Rattle.model.specs.Live.{isFound}
+use Rattle.model.proofs.Lists.{moved-twice}
 use Rattle.model.proofs.Finding.{found-holds}
+use Rattle.model.proofs.Live.{device-stands}
 use Rattle.model.proofs.Within.{step-by}
-use Rattle.model.proofs.OneDevice.{framed-run, standing, none-pending, count-append}
+use Rattle.model.proofs.Sorted.{unframed, Unframed, Sorted, staying, clearing, decide-sorted, Frames, no-frame, one-frame, decide-frames}
+use Rattle.model.proofs.All.{All}
+use Rattle.model.proofs.Walk.{Closing}
+use Rattle.model.proofs.Gone.{edits-stand}
+use Rattle.model.proofs.OneDevice.{framed-run, oldest-rest, standing, none-pending, standing-append}
 use Rattle.model.proofs.Order.{Keeps}
 use Rattle.model.proofs.Provenance.{trail-keeps}
 use Rattle.model.proofs.Blocks.{run-grown, blocks-cut}
@@ -34,10 +41,10 @@ each-press c s n vs ts =
     record {
       account = λ d. trail-keeps c s n vs ts d .sum;
       device = λ d. one d (trail-keeps c s n vs ts d);
-      numbered = numbered-same c s n vs ts;
+      same-run = numbered-same c s n vs ts;
       once = λ l. numbered-once l c s n vs ts;
       blocks = blocks .blocks;
-      framed = blocks .are;
+      in-blocks = blocks .are;
       held = reachable-orderly c s n vs ts .held;
     }
   where
@@ -48,10 +55,83 @@ each-press c s n vs ts =
     removed = removedBy (map split ts) (fresh c s n vs)
 
     one : (d : ℕ) {T G : List (Item Load)} → Keeps d after T G removed → standing d (after .devices ++ removed) ≤ 1
-    one d k = omega (arith, count-append d (after .devices) removed, k .once)
+    one d k = omega (arith, standing-append d (after .devices) removed, k .once)
 
 pub last-run-cut : Last-run-cut
-last-run-cut taken loads numbers x e = blocks-cut (e .blocks) (x .delivered) (x .queued) (e .framed)
+last-run-cut taken loads numbers x e = blocks-cut (e .blocks) (x .delivered) (x .queued) (e .in-blocks)
+
+-- ---- a device goes by a removal
+
+-- by its sort
+sorted-removes : {P : Type 0} {c : Call Sight} {es : List Edit} (p : P) (s : Session P) (d : ℕ) → Sorted es c → stands d (s .devices) ≡ true →
+    stands d (enactAll es p s .devices) ≡ false → (request : Plain) × ((c ≡ Call.plain request) × Removes request)
+unfolding stands
+sorted-removes {es = es} p s d (staying a one) h g =
+    let m = ltb-true 0 (standing d (s .devices)) h in
+    absurd (true≢false (sym (lt-ltb 0 (standing d (enactAll es p s .devices)) (omega (arith, edits-stand d p s a))) ∙ g))
+sorted-removes p s d (clearing {request} r a) h g = (request, (refl, r))
+
+pub removed-by-removals : Removed-by-removals
+unfolding Removed-by-removals source carriedOut unchanged
+removed-by-removals P t s d h =
+    step-by t s (λ r. stands d (r .session .devices) ≡ false → (request : Plain) × ((t .call ≡ Call.plain request) × Removes request))
+    (λ o e g. absurd (true≢false (sym h ∙ g)))
+    (sorted-removes (t .load) s d (decide-sorted (view s) (t .now) (t .call)) h)
+
+-- ---- a frame is closed by one of five requests
+
+module _ {P : Type 0} where
+  abbrev untimed : List Untimed → List (Queued P)
+  untimed us = map (λ u. Queued.untimed u) us
+
+  -- nothing but untimed requests comes behind what was delivered and queued
+  abbrev Untimed-more : (gave : List (Queued P)) (before after : Session P) → Type 0
+  Untimed-more gave s s′ = (us : List Untimed) × (gave ++ s′ .requests ≡ s .requests ++ untimed us)
+
+  still : (s : Session P) → Untimed-more [] s s
+  still s = ([], sym (append-nil (s .requests)))
+
+  edit-untimed : (e : Edit) (p : P) (s : Session P) → unframed e ≡ true → Untimed-more (gave e s) s (enact e p s)
+  unfolding enact gave unframed
+  edit-untimed (Edit.raise n) p s h = still s
+  edit-untimed (Edit.addSeat caps) p s h = still s
+  edit-untimed (Edit.removeSeat seat) p s h = still s
+  edit-untimed (Edit.addDevice seat caps) p s h = still s
+  edit-untimed (Edit.removeDevice k) p s h = still s
+  edit-untimed (Edit.removeDevicesOf seat) p s h = still s
+  edit-untimed (Edit.amend k a) p s h = still s
+  edit-untimed (Edit.pend k sight) p s h = still s
+  edit-untimed (Edit.frame k serial time) p s h = absurd (false≢true h)
+  edit-untimed (Edit.queue u) p s h = (u ∷ [], refl)
+  edit-untimed Edit.deliver p s h = ([], oldest-rest (s .requests) ∙ sym (append-nil (s .requests)))
+  edit-untimed (Edit.peerObject id) p s h = still s
+  edit-untimed Edit.endConnection p s h = still s
+
+  edits-untimed : {es : List Edit} (p : P) (s : Session P) → All Unframed es → Untimed-more (gaveAll es p s) s (enactAll es p s)
+  unfolding gaveAll enactAll
+  edits-untimed p s All.none = still s
+  edits-untimed p s (All.more {x = e} {xs = es} h a) =
+      let first = edit-untimed e p s h in
+      let others = edits-untimed p (enact e p s) a in (
+        first .0 ++ others .0,
+        rw (map-append (λ u. Queued.untimed u) (first .0) (others .0))
+            (moved-twice (s .requests) (gave e s) (enact e p s .requests) (gaveAll es p (enact e p s)) _ (untimed (first .0)) (untimed (others .0)) (first .1) (others .1)),
+      )
+
+  -- by what the plan frames
+  frames-untimed : (now : ℕ) {c : Call Sight} {es : List Edit} (p : P) (s : Session P) → Frames (view s) now es c →
+      ((request : Plain) → c ≡ Call.plain request → Closing (view s) now request → ⊥) → Untimed-more (gaveAll es p s) s (enactAll es p s)
+  frames-untimed now p s (no-frame a) h = edits-untimed p s a
+  frames-untimed now p s (one-frame {request} k) h = absurd (h request refl k)
+
+pub framed-by-closers : Framed-by-closers
+unfolding Framed-by-closers source carriedOut unchanged view
+framed-by-closers P t s other =
+    step-by t s (λ r. Untimed-more (r .gave) s (r .session)) (λ o e. still s)
+    (frames-untimed (t .now) (t .load) s (decide-frames (view s) (t .now) (t .call)) none-closes)
+  where
+    none-closes : (request : Plain) → t .call ≡ Call.plain request → Closing (view s) (t .now) request → ⊥
+    none-closes request e (Closing.closing {device} {serial} {time} {behind} k) = other request device serial time behind e k
 
 -- ---- a frame takes all that is pending on its device
 
@@ -67,21 +147,13 @@ closes-plan v now d Closes.release = refl
 
 module _ {P : Type 0} (d : ℕ) where
   -- a device that stands is found
-  abbrev Finds : List (Device P) → Type 0
-  Finds ds = (f : Found) × (find (λ x. eqb (x .id) d) (map (mapDevice blank) ds) ≡ some f)
-
-  found : (ds : List (Device P)) → 0 < standing d ds → Finds ds
-  unfolding countOf find mapDevice
-  found [] h = absurd (omega arith)
-  found (x ∷ ds) h = go (eqb (x .id) d) h (found ds)
+  found : (ds : List (Device P)) → stands d ds ≡ true → (f : Found) × (find (λ x. eqb (x .id) d) (map (mapDevice blank) ds) ≡ some f)
+  unfolding stands isFound
+  found ds h = go (find (λ x. eqb (x .id) d) (map (mapDevice blank) ds)) (device-stands d ds ∙ h)
     where
-      front : Found
-      front = record { slot = 0; device = mapDevice blank x }
-
-      go : (b : Bool) → 0 < cond b 1 0 + standing d ds → (0 < standing d ds → Finds ds) →
-          (f : Found) × (cond b (some front) (later (find (λ x. eqb (x .id) d) (map (mapDevice blank) ds))) ≡ some f)
-      go true h k = (front, refl)
-      go false h k = let r = k (omega arith) in (_, ap later (r .1))
+      go : (o : Option Found) → isFound o ≡ true → (f : Found) × (o ≡ some f)
+      go none e = absurd (false≢true e)
+      go (some f) e = (f, refl)
 
   -- it is the one that has the id: its frame queues, and leaves, what is the id's
   record Only (serial time : ℕ) (ds : List (Device P)) (f : Found) : Type 0 where
@@ -163,7 +235,7 @@ frame-takes-all c s n vs ts request now room d serial time behind closes stood a
 
     by-source : Closed d serial time behind before (source t before .session)
     by-source =
-        let f = found d (before .devices) (ltb-true 0 (standing d (before .devices)) stood) in
+        let f = found d (before .devices) stood in
         subst (λ (plan : Plan). Closed d serial time behind before (enactAll (plan .edits) Load.None before))
         (sym (closes-plan (view before) now d closes ∙ ap (λ (o : Option Found). onFound o ignore (closing d serial time behind Load.None before)) (f .1)))
         (closed-by d serial time behind Load.None before (f .0) (found-only d serial time (before .devices) (f .0) (f .1)) (reachable-orderly c s n vs ts .deviceOnce d))

@@ -5,9 +5,9 @@ use mathlib.Core.Bool.{Bool, true, false, cond, false≢true}
 use mathlib.Core.List.{List, [], _∷_, _++_, Sublistᴰ, Sublistᴰ·refl, Sublistᴰ·trans}
 use native.Mathlib.Omega.{arith}
 use native.Mathlib.Nat.{le-refl}
-use lib.Dec.{eqb, ltb}
+use lib.Dec.{eqb}
 use borrow.Author.Tests.{eqb-true, eq-eqb, lt-ltb, ltb-false}
-use Rattle.model.specs.Session.{Queued, Device, Session}
+use Rattle.model.specs.Session.{Device, Session}
 use Rattle.model.specs.Edit.{Edit, amended, item, pended, emptied, newDevice, enact, enactAll}
 use Rattle.model.specs.Step.{gave, gaveAll}
 use Rattle.model.specs.Reachable.{countOf}
@@ -16,7 +16,7 @@ use Rattle.model.specs.Framed.{stands, goneFrom}
 use Rattle.model.proofs.Lists.{cond-nil, gone-cons, gone-sum}
 use Rattle.model.proofs.All.{All, none, more}
 use Rattle.model.proofs.Removals.{withoutSlot-sub, withoutSeat-sub}
-use Rattle.model.proofs.OneDevice.{standing, took, tookAll, none-pending, at-count, added-count, amended-keeps}
+use Rattle.model.proofs.OneDevice.{standing, took, tookAll, at-count, added-count, amended-keeps}
 use Rattle.model.proofs.Sorted.{stays, clears, Stays, Clears}
 
 module _ {P : Type 0} where
@@ -92,7 +92,7 @@ module _ {P : Type 0} where
   edit-stands d (Edit.peerObject id) p s h = le-refl _
   edit-stands d Edit.endConnection p s h = le-refl _
 
-  edits-stand : (d : ℕ) {es : List Edit} (p : P) (s : Session P) → All Stays es → standing d (s .devices) ≤ standing d (enactAll es p s .devices)
+  pub edits-stand : (d : ℕ) {es : List Edit} (p : P) (s : Session P) → All Stays es → standing d (s .devices) ≤ standing d (enactAll es p s .devices)
   unfolding enactAll
   edits-stand d p s none = le-refl _
   edits-stand d p s (more {x = e} h a) = omega (arith, edit-stands d e p s h, edits-stand d p (enact e p s) a)

@@ -1,9 +1,15 @@
 -- One device among others, told by a test: laws on what it has, each over the test's value, so that no proof splits a test in place. Assumes nothing.
 use Prim.Native.Nat.{ℕ, _+_, _≤_, _<_}
-use mathlib.Core.Path.{_≡_, refl, ap, sym}
+use mathlib.Core.Path.{_≡_, refl, ap, sym, _∙_}
 use mathlib.Core.Bool.{Bool, true, false, cond}
 use mathlib.Core.List.{List, [], _∷_, _++_, append-nil, append-assoc}
 use native.Mathlib.Omega.{arith}
+use Rattle.model.specs.Reachable.{countOf}
+
+pub count-append : (x : ℕ) (xs ys : List ℕ) → countOf x (xs ++ ys) ≡ countOf x xs + countOf x ys
+unfolding countOf
+count-append x [] ys = omega arith
+count-append x (y ∷ xs) ys = omega (arith, count-append x xs ys)
 
 module _ {A : Type 0} where
   pub cond-nil : (b : Bool) → cond {A = List A} b [] [] ≡ []
@@ -76,6 +82,16 @@ gone-sum false c′ c h n m e = go c′ c e
     go true false e = omega arith
     go false true e = omega arith
     go false false e = omega arith
+
+-- some go out at the front of a list and others come in at its end, twice
+pub moved-twice : {A : Type 0} (rs out mid out′ last more more′ : List A) → out ++ mid ≡ rs ++ more → out′ ++ last ≡ mid ++ more′ →
+    (out ++ out′) ++ last ≡ rs ++ (more ++ more′)
+moved-twice {A} rs out mid out′ last more more′ e e′ =
+    append-assoc out out′ last
+    ∙ ap (λ (x : List A). out ++ x) e′
+    ∙ sym (append-assoc out mid more′)
+    ∙ ap (λ (x : List A). x ++ more′) e
+    ∙ append-assoc rs more more′
 
 -- taken is given, queued, pending and lost, in this order
 module _ {A : Type 0} (taken given queued pending lost : List A) (e : taken ≡ given ++ (queued ++ (pending ++ lost))) where

@@ -24,7 +24,8 @@ use Rattle.model.specs.Destroyed.{destroyedIn, standing, Lives-standing}
 use Rattle.model.specs.Live.{Object, isFound, listedAs, orElse, listedIn, objectOf, interfaceObject, live, hasDisconnected, disconnectedIn, Live-is-announced}
 use Rattle.model.proofs.Ascending.{once}
 use Rattle.model.proofs.Reachable.{run-ids}
-use Rattle.model.proofs.Destroyed.{count-append, lives-standing}
+use Rattle.model.proofs.Destroyed.{lives-standing}
+use Rattle.model.proofs.Lists.{count-append}
 use Rattle.model.proofs.Walk.{Noted, Touched, Leaf, walk}
 use Rattle.model.proofs.Within.{step-by}
 
@@ -81,7 +82,7 @@ module _ (id : ℕ) where
       ∙ sym (one-more (eqb (i .id) id) (countOf id (map (λ i. i .id) is)))
 
   module _ {P : Type 0} where
-    device-stands : (ds : List (Device P)) → isFound (find (λ d. eqb (d .id) id) (map (mapDevice blank) ds)) ≡ ltb 0 (countOf id (map (λ d. d .id) ds))
+    pub device-stands : (ds : List (Device P)) → isFound (find (λ d. eqb (d .id) id) (map (mapDevice blank) ds)) ≡ ltb 0 (countOf id (map (λ d. d .id) ds))
     unfolding find isFound mapDevice countOf
     device-stands [] = refl
     device-stands (d ∷ ds) =
@@ -238,12 +239,12 @@ leaf-told (Leaf.synced callback) = refl
 leaf-told (Leaf.syncedMessage callback) = refl
 leaf-told (Leaf.noted object event edits m h) = rw (m _ .1) (noted-told h)
 leaf-told (Leaf.released cap id f e) = refl
-leaf-told {v} (Leaf.deviceGone id f e) = sym (destroyed-only (v .connection .lastSerial) (objectsOf (f .device)))
-leaf-told {v} (Leaf.seatGone id y e) = sym (destroyed-only (v .connection .lastSerial) (seatObjects id (v .devices)))
-leaf-told (Leaf.allGone reason explanation) = rw destroyed-mild
+leaf-told {v} (Leaf.deviceGone id f r e) = sym (destroyed-only (v .connection .lastSerial) (objectsOf (f .device)))
+leaf-told {v} (Leaf.seatGone id y r e) = sym (destroyed-only (v .connection .lastSerial) (seatObjects id (v .devices)))
+leaf-told (Leaf.allGone reason explanation r) = rw destroyed-mild
 leaf-told (Leaf.queued u n) = refl
-leaf-told (Leaf.flushed id f u n e) = refl
-leaf-told (Leaf.closed id serial time f e) = refl
+leaf-told (Leaf.flushed id f u n k e) = refl
+leaf-told (Leaf.closed id serial time f k e) = refl
 leaf-told Leaf.handed = refl
 leaf-told {v} (Leaf.newSeat name caps) =
     let c = v .connection in sym (name-mild (c .nextId) name _ ∙ capabilities-mild c (c .nextId) (bitsOf caps) (on (c .nextId) Event.Done ∷ []))

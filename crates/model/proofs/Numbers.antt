@@ -1,7 +1,7 @@
 -- No number is in two places: run with the number of each call in the place of its payload, a call puts its number in one place at most, and no call puts another's
 -- there a second time. Then that this run is the run of the calls, with a payload in the place of each number. Assumes nothing.
 use Prim.Native.Nat.{ℕ, zero, suc, _+_, _≤_, _<_}
-use mathlib.Core.Path.{_≡_, refl, ap, ap₂, sym, _∙_}
+use mathlib.Core.Path.{_≡_, refl, ap, sym, _∙_}
 use mathlib.Core.Bool.{Bool, true, false, cond, false≢true}
 use mathlib.Core.List.{List, [], _∷_, _++_, map, map-append, append-nil, Sublistᴰ, Sublistᴰ·slnil, Sublistᴰ·cons, Sublistᴰ·cons-cons}
 use mathlib.Core.Option.{Option}
@@ -9,17 +9,16 @@ use native.Mathlib.Omega.{arith}
 use native.Mathlib.Nat.{le-refl}
 use lib.Dec.{eqb, leb}
 use borrow.Author.Tests.{eqb-true, leb-true, lt-ltb, le-leb}
-use Rattle.model.specs.Call.{Load, Turn, Split, sight, mapCall, loadOf, split}
-use Rattle.model.specs.Session.{Item, Untimed, Queued, Device, Session, mapItem, mapQueued, mapDevice, mapSession, fresh, view}
+use Rattle.model.specs.Call.{Sight, Load, Call, Turn, Split, sight, mapCall, loadOf, split}
+use Rattle.model.specs.Session.{Item, Untimed, Queued, Device, Session, mapQueued, mapDevice, mapSession, fresh, view}
 use Rattle.model.specs.Edit.{Amend, Edit, amended, item, pended, emptied, newDevice, framed, at, framedAt, rest, enact, enactAll}
-use Rattle.model.specs.Decide.{decide}
 use Rattle.model.specs.Step.{Step, oldest, gave, gaveAll, carriedOut, source, unchanged, step, run}
 use Rattle.model.specs.Demand3.{delivered}
 use Rattle.model.specs.Reachable.{countOf, sessionAfter}
-use Rattle.model.specs.Framed.{Places, stands, goneFrom, removedBy, placesAfter, timedIn, pendingIn, itemsIn, numbered, loadAt, mapPlaces, inBlocks, runOf}
+use Rattle.model.specs.Framed.{stands, goneFrom, removedBy, placesAfter, timedIn, pendingIn, itemsIn, numbered, loadAt, mapPlaces, inBlocks, runOf}
 use Rattle.model.proofs.All.{All, none, more}
 use Rattle.model.proofs.Commute.{mapSplit, mapStep, step-map, run-map}
-use Rattle.model.proofs.Destroyed.{count-append}
+use Rattle.model.proofs.Lists.{count-append}
 use Rattle.model.proofs.OneDevice.{framed-run, run-is, oldest-rest, standing, amended-keeps}
 use Rattle.model.proofs.Within.{step-by}
 use Rattle.model.proofs.Sorted.{stays, Stays, pends, pendsAll, Sorted, staying, clearing, decide-sorted}
@@ -174,11 +173,11 @@ module _ (l : ℕ) where
   abbrev Puts : (gave : List (Queued ℕ)) (lost : List (Device ℕ)) (before after : Session ℕ) (more : ℕ) → Type 0
   Puts gave lost s s′ n = queued gave + (queued (s′ .requests) + (waiting (s′ .devices) + waiting lost)) ≤ (queued (s .requests) + waiting (s .devices)) + n
 
-  plan-puts : {es : List Edit} (p : ℕ) (s : Session ℕ) → Sorted es →
+  plan-puts : {c : Call Sight} {es : List Edit} (p : ℕ) (s : Session ℕ) → Sorted es c →
       Puts (gaveAll es p s) (goneFrom (enactAll es p s .devices) (s .devices)) s (enactAll es p s) (once (eqb p l) 1)
   unfolding timedIn pendingIn times countOf
-  plan-puts {es} p s (staying a one) = rw (staying-none p s a) (omega (arith, edits-add p s a, once-most (eqb p l) (pendsAll es) one))
-  plan-puts {es} p s (clearing a) =
+  plan-puts {es = es} p s (staying a one) = rw (staying-none p s a) (omega (arith, edits-add p s a, once-most (eqb p l) (pendsAll es) one))
+  plan-puts {es = es} p s (clearing r a) =
       let c = clearing-clears p s a in
       rw (clearing-gave p s a, c .requests) (omega (arith, gone-waiting (enactAll es p s .devices) (c .devices) (λ d h. h)))
 

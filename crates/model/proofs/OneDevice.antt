@@ -1,8 +1,8 @@
 -- What there is of one device, by its id: how many stand, what is pending and queued for it, and how the edits change that. Assumes nothing.
 use Prim.Native.Nat.{ℕ, zero, suc, _+_, _≤_}
 use mathlib.Core.Path.{_≡_, refl, ap, sym, _∙_}
-use mathlib.Core.Bool.{Bool, true, false, cond}
-use mathlib.Core.List.{List, [], _∷_, _++_, map, append-nil, append-assoc, Sublistᴰ, Sublistᴰ·slnil, Sublistᴰ·cons, Sublistᴰ·cons-cons}
+use mathlib.Core.Bool.{cond}
+use mathlib.Core.List.{List, [], _∷_, _++_, map, map-append, append-nil, append-assoc, Sublistᴰ, Sublistᴰ·slnil, Sublistᴰ·cons, Sublistᴰ·cons-cons}
 use native.Mathlib.Omega.{arith}
 use lib.Dec.{eqb}
 use Rattle.model.specs.Session.{Item, Untimed, Queued, Device, Session}
@@ -12,7 +12,7 @@ use Rattle.model.specs.Demand3.{itemsOf}
 use Rattle.model.specs.Reachable.{countOf}
 use Rattle.model.specs.Kept.{pendingOf}
 use Rattle.model.specs.Framed.{inBlock, inBlocks, runOf}
-use Rattle.model.proofs.Lists.{cond-nil, cond-cons, none-cons, pend-cons, empty-cons, pass-cons, Fewer, same, fewer-keep, fewer-drop}
+use Rattle.model.proofs.Lists.{count-append, cond-nil, cond-cons, none-cons, pend-cons, empty-cons, pass-cons, Fewer, same, fewer-keep, fewer-drop}
 
 pub amended-keeps : {P : Type 0} (a : Amend) (x : Device P) → (amended a x .id ≡ x .id) × (amended a x .pending ≡ x .pending)
 unfolding amended
@@ -158,10 +158,8 @@ module _ {P : Type 0} (d : ℕ) where
 
   -- ---- a device more
 
-  pub count-append : (xs ys : List (Device P)) → standing (xs ++ ys) ≡ standing xs + standing ys
-  unfolding countOf
-  count-append [] ys = omega arith
-  count-append (x ∷ xs) ys = omega (arith, count-append xs ys)
+  pub standing-append : (xs ys : List (Device P)) → standing (xs ++ ys) ≡ standing xs + standing ys
+  standing-append xs ys = ap (countOf d) (map-append (λ x. x .id) xs ys) ∙ count-append d (map (λ x. x .id) xs) (map (λ x. x .id) ys)
 
   pub pending-append : (xs ys : List (Device P)) → pendingOf d (xs ++ ys) ≡ pendingOf d xs ++ pendingOf d ys
   unfolding pendingOf
@@ -170,7 +168,7 @@ module _ {P : Type 0} (d : ℕ) where
 
   pub added-count : (xs : List (Device P)) (x : Device P) → standing (xs ++ (x ∷ [])) ≡ standing xs + cond (eqb (x .id) d) 1 0
   unfolding countOf
-  added-count xs x = omega (arith, count-append xs (x ∷ []))
+  added-count xs x = omega (arith, standing-append xs (x ∷ []))
 
   pub added-pending : (xs : List (Device P)) (x : Device P) → x .pending ≡ [] → pendingOf d (xs ++ (x ∷ [])) ≡ pendingOf d xs
   unfolding pendingOf

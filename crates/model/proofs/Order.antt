@@ -9,6 +9,7 @@ use native.Mathlib.Omega.{arith}
 use native.Mathlib.Decide.{decLe}
 use lib.Dec.{eqb}
 use borrow.Author.Tests.{eqb-true, le-ltb}
+use Rattle.model.specs.Call.{Sight, Call}
 use Rattle.model.specs.Session.{Item, Queued, Device, Connection, Session, fresh}
 use Rattle.model.specs.Edit.{Edit, amended, item, pended, emptied, at, framedAt, rest, withDevices, withRequests, enact, enactAll}
 use Rattle.model.specs.Step.{oldest, gave, gaveAll}
@@ -18,7 +19,7 @@ use Rattle.model.specs.Kept.{pendingOf}
 use Rattle.model.specs.Framed.{stands, goneFrom}
 use Rattle.model.proofs.Lists.{same, fewer, idle-sum, pend-sum, frame-sum, deliver-sum, clear-sum}
 use Rattle.model.proofs.All.{All, none, more}
-use Rattle.model.proofs.OneDevice.{takenAt, took, tookAll, standing, none-pending, none-taken, items-append, at-count, amended-pending, pended-pending, framed-pending, FewerStand, sub-fewer, count-append, pending-append, added-count, added-pending, items-parted, amended-keeps}
+use Rattle.model.proofs.OneDevice.{takenAt, took, tookAll, standing, none-pending, none-taken, items-append, at-count, amended-pending, pended-pending, framed-pending, FewerStand, sub-fewer, standing-append, pending-append, added-count, added-pending, items-parted, amended-keeps}
 use Rattle.model.proofs.Sorted.{stays, Stays, Sorted, staying, clearing}
 use Rattle.model.proofs.Gone.{stands-not, gone-pending, gone-count, staying-none, Cleared, clearing-clears, clearing-gave, clearing-took}
 
@@ -131,7 +132,7 @@ module _ {P : Type 0} (d : ℕ) where
             T ≡ G ++ (queued ++ (ps ++ (lost ++ ls))) → standing d (s′ .devices) + standing d gone ≡ standing d (s .devices) →
             Keeps s′ T G (R ++ gone)
         with-gone q ps ls p g e n =
-            let m : standing d (R ++ gone) ≡ standing d R + standing d gone = count-append d R gone in
+            let m : standing d (R ++ gone) ≡ standing d R + standing d gone = standing-append d R gone in
             record {
               sum = rw (q, p, pending-append d R gone, g) e;
               once = omega (arith, k .once);
@@ -190,11 +191,11 @@ module _ {P : Type 0} (d : ℕ) where
       (edits-keep p (enact e p s) _ _ R a (edit-keeps e p s T G R h k))
 
   -- a plan carried out
-  pub plan-keeps : {es : List Edit} (p : P) (s : Session P) (T G : List (Item P)) (R : List (Device P)) → Sorted es → Keeps s T G R →
+  pub plan-keeps : {c : Call Sight} {es : List Edit} (p : P) (s : Session P) (T G : List (Item P)) (R : List (Device P)) → Sorted es c → Keeps s T G R →
       Keeps (enactAll es p s) (T ++ tookAll d es p s) (G ++ itemsOf d (gaveAll es p s)) (R ++ goneFrom (enactAll es p s .devices) (s .devices))
   unfolding itemsOf
   plan-keeps p s T G R (staying a one) k = rw (staying-none p s a, append-nil R) (edits-keep p s T G R a k)
-  plan-keeps {es} p s T G R (clearing a) k =
+  plan-keeps {es = es} p s T G R (clearing r a) k =
       rw (clearing-took d p s a, clearing-gave p s a, append-nil T, append-nil G) (clear s T G R k (enactAll es p s) (clearing-clears p s a))
 
   pub fresh-keeps : (c s n : ℕ) (vs : List (Option ℕ)) → Keeps (fresh c s n vs) [] [] []

@@ -94,12 +94,12 @@ leaf-formed (Leaf.synced callback) = acts Result.accepted _ _ refl refl refl
 leaf-formed (Leaf.syncedMessage callback) = acts Result.accepted _ _ refl refl refl
 leaf-formed (Leaf.noted object event edits m h) = acts Result.accepted _ _ refl refl (noted-allowed h)
 leaf-formed (Leaf.released cap id f e) = acts Result.accepted _ _ refl refl refl
-leaf-formed (Leaf.deviceGone id f e) = acts Result.accepted _ _ refl refl refl
-leaf-formed (Leaf.seatGone id x e) = acts Result.accepted _ _ refl refl refl
-leaf-formed {v = v} (Leaf.allGone reason explanation) = acts Result.accepted _ _ refl refl (removeSeats-allowed (v .connection .seats))
+leaf-formed (Leaf.deviceGone id f r e) = acts Result.accepted _ _ refl refl refl
+leaf-formed (Leaf.seatGone id x r e) = acts Result.accepted _ _ refl refl refl
+leaf-formed {v = v} (Leaf.allGone reason explanation r) = acts Result.accepted _ _ refl refl (removeSeats-allowed (v .connection .seats))
 leaf-formed (Leaf.queued u n) = acts Result.accepted _ _ refl refl refl
-leaf-formed (Leaf.flushed id f u n e) = acts Result.accepted _ _ refl refl refl
-leaf-formed (Leaf.closed id serial time f e) = acts Result.accepted _ _ refl refl refl
+leaf-formed (Leaf.flushed id f u n k e) = acts Result.accepted _ _ refl refl refl
+leaf-formed (Leaf.closed id serial time f k e) = acts Result.accepted _ _ refl refl refl
 leaf-formed Leaf.handed = acts Result.given _ _ refl refl refl
 leaf-formed {v = v} (Leaf.newSeat name caps) = acts (Result.seat (v .connection .nextId)) _ _ refl refl refl
 leaf-formed {v = v} (Leaf.newDevice seat name type both) =

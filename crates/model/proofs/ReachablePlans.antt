@@ -119,12 +119,12 @@ module _ {P : Type 0} (s : Session P) (p : P) where
   leaf-fits (Leaf.syncedMessage callback) = fits-quiet _ refl refl
   leaf-fits (Leaf.noted object event edits m h) = fits-quiet _ refl (noted-quiet h)
   leaf-fits (Leaf.released cap id f e) = fits-quiet _ refl refl
-  leaf-fits (Leaf.deviceGone id f e) = fits-quiet _ refl refl
-  leaf-fits (Leaf.seatGone id x e) = fits-quiet _ refl refl
-  leaf-fits (Leaf.allGone reason explanation) = fits-quiet _ refl (removeSeats-quiet (s .connection .seats))
+  leaf-fits (Leaf.deviceGone id f r e) = fits-quiet _ refl refl
+  leaf-fits (Leaf.seatGone id x r e) = fits-quiet _ refl refl
+  leaf-fits (Leaf.allGone reason explanation r) = fits-quiet _ refl (removeSeats-quiet (s .connection .seats))
   leaf-fits (Leaf.queued u n) = fits-quiet _ refl refl
-  leaf-fits (Leaf.flushed id f u n e) = fits-quiet _ refl refl
-  leaf-fits (Leaf.closed id serial time f e) = fits-quiet _ refl refl
+  leaf-fits (Leaf.flushed id f u n k e) = fits-quiet _ refl refl
+  leaf-fits (Leaf.closed id serial time f k e) = fits-quiet _ refl refl
   leaf-fits Leaf.handed = fits-quiet _ refl refl
   leaf-fits (Leaf.newSeat name caps) =
       let id = s .connection .nextId in

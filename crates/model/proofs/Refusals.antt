@@ -1,12 +1,12 @@
 -- Which numbers a call may be refused with: those of the plans, leaf by leaf, and those of the limits. Assumes nothing.
 use Prim.Native.Nat.{ℕ}
 use mathlib.Core.Path.{_≡_, refl}
-use mathlib.Core.Bool.{Bool, true, false, cond, false≢true}
+use mathlib.Core.Bool.{Bool, true, false, cond}
 use lib.Dec.{ltb}
-use Rattle.model.specs.Call.{Sight, Load, Call, Split}
+use Rattle.model.specs.Call.{Sight, Load, Call}
 use Rattle.model.specs.Session.{Session, View, view}
 use Rattle.model.specs.Plan.{Result, refusal, Plan, answer, ignore, edit, send}
-use Rattle.model.specs.Decide.{sendNext, pendAfter, sendDestroyed, decide}
+use Rattle.model.specs.Decide.{sendNext, pendAfter, sendDestroyed}
 use Rattle.model.specs.Step.{Step, carriedOut, source, Counts, counts, over, anyOver, refuseIf, limits, refuses, unchanged, settled, bytesNeeded, limited, step}
 use Rattle.model.specs.Refusals.{ofSession, Own-refusals}
 use Rattle.model.proofs.Walk.{modest, Leaf, walk}
@@ -37,12 +37,12 @@ leaf-own (Leaf.synced callback) = refl
 leaf-own (Leaf.syncedMessage callback) = refl
 leaf-own (Leaf.noted object event edits m h) = refl
 leaf-own (Leaf.released cap id f e) = refl
-leaf-own (Leaf.deviceGone id f e) = refl
-leaf-own (Leaf.seatGone id x e) = refl
-leaf-own (Leaf.allGone reason explanation) = refl
+leaf-own (Leaf.deviceGone id f r e) = refl
+leaf-own (Leaf.seatGone id x r e) = refl
+leaf-own (Leaf.allGone reason explanation r) = refl
 leaf-own (Leaf.queued u n) = refl
-leaf-own (Leaf.flushed id f u n e) = refl
-leaf-own (Leaf.closed id serial time f e) = refl
+leaf-own (Leaf.flushed id f u n k e) = refl
+leaf-own (Leaf.closed id serial time f k e) = refl
 leaf-own Leaf.handed = refl
 leaf-own (Leaf.newSeat name caps) = refl
 leaf-own (Leaf.newDevice seat name type both) = refl

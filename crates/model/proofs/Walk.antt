@@ -25,7 +25,7 @@ use Rattle.model.specs.Decide.{Found, Rule, handler, deviceForInterface,
 use Rattle.model.specs.Step.{refuses}
 use Rattle.model.specs.Refusals.{ofSession}
 use Rattle.model.specs.Demand3.{wantsHeld, ignoredOn, ignored}
-use Rattle.model.specs.Framed.{isFrame}
+use Rattle.model.specs.Framed.{isFrame, Removes, Closes}
 
 -- an outcome that neither tells an id nor gives a request, and if it refuses, with a number of a running session
 unfoldable pub modest : Result → Bool
@@ -54,6 +54,10 @@ pub data Touched (held : List ℕ) (touch : ℕ) : List Amend → Type 0 where
   down : length held < 16 → Touched held touch (Amend.touchDown touch ∷ [])
   up : Touched held touch (Amend.touchUp touch ∷ [])
 
+-- a request that closes a frame
+pub data Closing (v : View) (now : ℕ) (c : Plain) : Type 0 where
+  closing : {device serial time : ℕ} {behind : List Untimed} → Closes device (v .connection .lastSerial) now c serial time behind → Closing v now c
+
 pub data Leaf (v : View) (now : ℕ) : Call Sight → Plan → Type 0 where
   -- a timed request: refused; "accepted and does nothing"; pended on the device that was found
   turned : {i ver : ℕ} {x : Sight} (o : Result) → refuses o ≡ true → modest o ≡ true → Leaf v now (Call.timed i ver x) (answer o)
@@ -69,16 +73,17 @@ pub data Leaf (v : View) (now : ℕ) : Call Sight → Plan → Type 0 where
       Leaf v now (Call.plain c) (sendNext v object event edits)
   released : {c : Plain} (cap id : ℕ) (f : Found) → deviceForInterface cap id v ≡ some f →
       Leaf v now (Call.plain c) (sendNext v id (λ s. Event.Destroyed s) (Edit.amend (f .slot) (Amend.unlist cap) ∷ []))
-  deviceGone : {c : Plain} (id : ℕ) (f : Found) → deviceOf id v ≡ some f →
+  deviceGone : {c : Plain} (id : ℕ) (f : Found) → Removes c → deviceOf id v ≡ some f →
       Leaf v now (Call.plain c) (sendDestroyed v (objectsOf (f .device)) (Edit.removeDevice (f .slot) ∷ []))
-  seatGone : {c : Plain} (id : ℕ) (x : Seat) → seatOf id v ≡ some x → Leaf v now (Call.plain c) (retireSeat v id)
-  allGone : {c : Plain} (reason : ℕ) (explanation : Option (List ℕ)) →
+  seatGone : {c : Plain} (id : ℕ) (x : Seat) → Removes c → seatOf id v ≡ some x → Leaf v now (Call.plain c) (retireSeat v id)
+  allGone : {c : Plain} (reason : ℕ) (explanation : Option (List ℕ)) → Removes c →
       Leaf v now (Call.plain c)
       (send (farewell v reason explanation) (Edit.raise (length (seatsObjects (v .connection .seats) (v .devices))) ∷ Edit.endConnection ∷ removeSeats (v .connection .seats)))
   queued : {c : Plain} (u : Untimed) → isFrame u ≡ false → Leaf v now (Call.plain c) (edit (Edit.queue u ∷ []))
-  flushed : {c : Plain} (id : ℕ) (f : Found) (u : Untimed) → isFrame u ≡ false → deviceOf id v ≡ some f →
+  flushed : {c : Plain} (id : ℕ) (f : Found) (u : Untimed) → isFrame u ≡ false → Closing v now c → deviceOf id v ≡ some f →
       Leaf v now (Call.plain c) (edit (Edit.frame (f .slot) (v .connection .lastSerial) now ∷ Edit.queue u ∷ []))
-  closed : {c : Plain} (id serial time : ℕ) (f : Found) → deviceOf id v ≡ some f → Leaf v now (Call.plain c) (edit (Edit.frame (f .slot) serial time ∷ []))
+  closed : {c : Plain} (id serial time : ℕ) (f : Found) → Closing v now c → deviceOf id v ≡ some f →
+      Leaf v now (Call.plain c) (edit (Edit.frame (f .slot) serial time ∷ []))
   handed : {c : Plain} → Leaf v now (Call.plain c) (record { outcome = Result.given; events = []; edits = Edit.deliver ∷ [] })
   newSeat : {c : Plain} (name : Option (List ℕ)) (caps : ℕ) → Leaf v now (Call.plain c) (seatAdded v name caps)
   newDevice : {c : Plain} (seat : ℕ) (name : Option (List ℕ)) (type both : ℕ) → Leaf v now (Call.plain c) (deviceAdded v seat name type both)
@@ -192,9 +197,9 @@ module _ {v : View} {now : ℕ} {c : Plain} where
       onFound-leaf (seatOf id v) ignore-leaf λ s e.
       cond-leaf (unknownBits caps) (refuse-leaf 3 refl) (cond-leaf (contains (s .capabilities) caps) (queued u n) (refuse-leaf 3 refl))
 
-  device-leaf : (id : ℕ) (u : Untimed) → isFrame u ≡ false → Leaf v now (Call.plain c) (handleDevice v now id u)
+  device-leaf : (id : ℕ) (u : Untimed) → isFrame u ≡ false → Closing v now c → Leaf v now (Call.plain c) (handleDevice v now id u)
   unfolding handleDevice
-  device-leaf id u n = onFound-leaf (deviceOf id v) ignore-leaf λ f e. flushed id f u n e
+  device-leaf id u n k = onFound-leaf (deviceOf id v) ignore-leaf λ f e. flushed id f u n k e
 
   next-leaf : (rs : List (Queued (Unit {0}))) → Leaf v now (Call.plain c) (nextOf rs)
   unfolding nextOf modest
@@ -219,14 +224,14 @@ plain-leaf v now (Plain.syncMessage callback ver) =
     cond-leaf (isPeerId v callback) (cond-leaf (eqb ver 1) (syncedMessage callback) (answered (Result.refusedVersion eiCallback ver) refl)) (refuse-leaf 25 refl)
 plain-leaf v now Plain.disconnect = queued Untimed.Disconnect refl
 plain-leaf v now Plain.pingpongDone = ignore-leaf
-plain-leaf v now (Plain.seatRelease seat) = onFound-leaf (seatOf seat v) ignore-leaf λ x e. seatGone seat x e
+plain-leaf v now (Plain.seatRelease seat) = onFound-leaf (seatOf seat v) ignore-leaf λ x e. seatGone seat x (Removes.seatRelease seat) e
 plain-leaf v now (Plain.bind seat caps) = seat-leaf seat caps (Untimed.Bind seat caps) refl
 plain-leaf v now (Plain.requestDevice seat caps) = seat-leaf seat caps (Untimed.RequestDevice seat caps) refl
-plain-leaf v now (Plain.deviceRelease d) = device-leaf d (Untimed.DeviceClosed d) refl
-plain-leaf v now (Plain.deviceStartEmulating d s q) = device-leaf d (Untimed.DeviceStartEmulating d s q) refl
-plain-leaf v now (Plain.deviceStopEmulating d s) = device-leaf d (Untimed.DeviceStopEmulating d s) refl
-plain-leaf v now (Plain.deviceFrame d s t) = onFound-leaf (deviceOf d v) ignore-leaf λ f e. closed d s t f e
-plain-leaf v now (Plain.deviceReady d) = device-leaf d (Untimed.Ready d) refl
+plain-leaf v now (Plain.deviceRelease d) = device-leaf d (Untimed.DeviceClosed d) refl (closing Closes.release)
+plain-leaf v now (Plain.deviceStartEmulating d s q) = device-leaf d (Untimed.DeviceStartEmulating d s q) refl (closing (Closes.startEmulating s q))
+plain-leaf v now (Plain.deviceStopEmulating d s) = device-leaf d (Untimed.DeviceStopEmulating d s) refl (closing (Closes.stopEmulating s))
+plain-leaf v now (Plain.deviceFrame d s t) = onFound-leaf (deviceOf d v) ignore-leaf λ f e. closed d s t f (closing (Closes.frame s t)) e
+plain-leaf v now (Plain.deviceReady d) = device-leaf d (Untimed.Ready d) refl (closing Closes.ready)
 plain-leaf v now (Plain.interfaceRelease cap i) =
     onFound-leaf (deviceForInterface (capabilityIndex cap) i v) ignore-leaf λ f e. released (capabilityIndex cap) i f e
 plain-leaf v now Plain.nextRequest = next-leaf (v .requests)
@@ -234,14 +239,14 @@ plain-leaf v now (Plain.addSeat name caps) = checkOptional-leaf name (checkCapab
 plain-leaf v now (Plain.addDevice seat name type caps) =
     checkOptional-leaf name
     (checkCapabilities-leaf caps (onFound-leaf (seatOf seat v) (refuse-leaf 12 refl) λ s e. newDevice seat name (deviceTypeNumber type) (common caps (s .capabilities))))
-plain-leaf v now (Plain.removeSeat seat) = onFound-leaf (seatOf seat v) (refuse-leaf 12 refl) λ x e. seatGone seat x e
-plain-leaf v now (Plain.removeDevice d) = onFound-leaf (deviceOf d v) (refuse-leaf 12 refl) λ f e. deviceGone d f e
+plain-leaf v now (Plain.removeSeat seat) = onFound-leaf (seatOf seat v) (refuse-leaf 12 refl) λ x e. seatGone seat x (Removes.removeSeat seat) e
+plain-leaf v now (Plain.removeDevice d) = onFound-leaf (deviceOf d v) (refuse-leaf 12 refl) λ f e. deviceGone d f (Removes.removeDevice d) e
 plain-leaf v now (Plain.resumed d) = notify-leaf d (λ s. Event.Resumed s) (λ k. []) (λ s. (refl, refl)) (λ k. Noted.nothing)
 plain-leaf v now (Plain.paused d) = notify-leaf d (λ s. Event.Paused s) (λ k. Edit.amend k Amend.clearTouches ∷ []) (λ s. (refl, refl)) (λ k. Noted.clears k)
 plain-leaf v now (Plain.startEmulating d q) = notify-leaf d (λ s. Event.StartEmulating s q) (λ k. []) (λ s. (refl, refl)) (λ k. Noted.nothing)
 plain-leaf v now (Plain.stopEmulating d) = notify-leaf d (λ s. Event.StopEmulating s) (λ k. []) (λ s. (refl, refl)) (λ k. Noted.nothing)
 plain-leaf v now (Plain.frame d t) = notify-leaf d (λ s. Event.Frame s t) (λ k. []) (λ s. (refl, refl)) (λ k. Noted.nothing)
-plain-leaf v now (Plain.disconnected reason explanation) = checkOptional-leaf explanation (allGone (disconnectReasonNumber reason) explanation)
+plain-leaf v now (Plain.disconnected reason explanation) = checkOptional-leaf explanation (allGone (disconnectReasonNumber reason) explanation (Removes.disconnected reason explanation))
 plain-leaf v now Plain.lastSerial = answered (Result.value (v .connection .lastSerial)) refl
 plain-leaf v now (Plain.hasInterface name) = checkUtf8-leaf name (answered _ refl)
 plain-leaf v now (Plain.interfaceVersion name) = checkUtf8-leaf name (version-leaf (negotiated (v .connection) (lookup name)))

@@ -6,11 +6,12 @@ use mathlib.Core.Bool.{Bool, true, false, cond}
 use mathlib.Core.List.{List, [], _∷_, _++_, map}
 use mathlib.Core.Option.{Option}
 use lib.Dec.{ltb}
+use Rattle.eiproto.specs.declared.eiproto_enum.DisconnectReason.{DisconnectReason}
 use Rattle.model.specs.Call.{Load, Plain, Call, Turn, Split, sight, mapCall, loadOf, split}
 use Rattle.model.specs.Session.{Item, Untimed, Queued, Device, Session, mapQueued, mapDevice, fresh}
 use Rattle.model.specs.Step.{refuses, step, run}
 use Rattle.model.specs.Demand3.{delivered, itemsOf, taken}
-use Rattle.model.specs.Reachable.{countOf, heldWithin, sessionAfter}
+use Rattle.model.specs.Reachable.{countOf, deviceIdsIn, heldWithin, sessionAfter}
 use Rattle.model.specs.Kept.{pendingOf}
 
 -- ---- where requests are
@@ -24,9 +25,7 @@ pub record Places (P : Type 0) : Type 0 where
   pub removed : List (Device P)
 
 module _ {P : Type 0} where
-  abbrev pub deviceIdsIn : List (Device P) → List ℕ
-  deviceIdsIn ds = map (λ x. x .id) ds
-
+  -- whether some device has the id
   unfoldable pub stands : (device : ℕ) → List (Device P) → Bool
   unfolding countOf
   stands d ds = ltb 0 (countOf d (deviceIdsIn ds))
@@ -37,11 +36,13 @@ module _ {P : Type 0} where
   goneFrom after [] = []
   goneFrom after (x ∷ xs) = cond (stands (x .id) after) [] (x ∷ []) ++ goneFrom after xs
 
+  -- those of each call in turn, as they were before it
   unfoldable pub removedBy : List (Split P) → Session P → List (Device P)
   unfolding goneFrom step
   removedBy [] s = []
   removedBy (t ∷ ts) s = let after = step t s .session in goneFrom (after .devices) (s .devices) ++ removedBy ts after
 
+  -- after a list of calls
   unfoldable pub placesAfter : List (Split P) → Session P → Places P
   unfolding delivered run sessionAfter removedBy
   placesAfter ts s =
@@ -105,6 +106,7 @@ pub data Block (P : Type 0) : Type 0 where
   frame : (device lastSerial time : ℕ) (first : Item P) (others : List (Item P)) → Block P
 
 module _ {P : Type 0} where
+  -- the requests of a block, and of blocks one behind the other
   unfoldable pub inBlock : Block P → List (Queued P)
   inBlock (Block.lone u h) = Queued.untimed u ∷ []
   inBlock (Block.frame d s t i is) = Queued.timed d t i ∷ map (λ x. Queued.timed d t x) is ++ (Queued.untimed (Untimed.Frame d s t) ∷ [])
@@ -114,7 +116,7 @@ module _ {P : Type 0} where
   inBlocks [] = []
   inBlocks (b ∷ bs) = inBlock b ++ inBlocks bs
 
-  -- the run of requests that waited; none of none
+  -- the frame of what waited on a device; no block where nothing did
   unfoldable pub runOf : (device lastSerial time : ℕ) → List (Item P) → List (Block P)
   runOf d s t [] = []
   runOf d s t (i ∷ is) = Block.frame d s t i is ∷ []
@@ -127,15 +129,15 @@ pub record EachPress (taken : (device : ℕ) → List (Item Load)) (loads : ℕ 
   -- "For each device, the timed requests that were taken, in order, are those delivered, then those queued, then those pending or, once the device is removed, those
   -- lost at its removal."
   pub account : (d : ℕ) → taken d ≡ itemsOf d (x .delivered) ++ (itemsOf d (x .queued) ++ (pendingOf d (x .devices) ++ pendingOf d (x .removed)))
-  -- a device stands or was removed, once
+  -- no id is twice among the devices that stand and those that were removed: so while a device stands nothing of it is lost
   pub device : (d : ℕ) → countOf d (deviceIdsIn (x .devices ++ x .removed)) ≤ 1
   -- "None is in two of these.": each has a number, that of the call that it came from, whose payload it carries, and no number is there twice
-  pub numbered : mapPlaces loads numbers ≡ x
+  pub same-run : mapPlaces loads numbers ≡ x
   pub once : (number : ℕ) → countOf number (map (λ i. i .load) (itemsIn numbers)) ≤ 1
   -- "Each delivered or queued one lies in an unbroken run .., closed by that device's Frame with that time; each Frame closes a run that isn't empty. Runs may be partly
   -- delivered."
   pub blocks : List (Block Load)
-  pub framed : x .delivered ++ x .queued ≡ inBlocks blocks
+  pub in-blocks : x .delivered ++ x .queued ≡ inBlocks blocks
   -- "Held touches never exceed 16."
   pub held : heldWithin 16 (x .devices) ≡ true
 
@@ -145,7 +147,7 @@ Each-press =
     (c s n : ℕ) (vs : List (Option ℕ)) (ts : List Turn) →
     EachPress (λ d. taken c s n vs d ts) (loadAt ts) (placesAfter (numbered 0 ts) (fresh c s n vs)) (placesAfter (map split ts) (fresh c s n vs))
 
--- Some requests, then others: cut between two blocks, or within one, whose later part heads the others
+-- Some requests, then others: cut between two blocks, or within one, whose back part heads the others (either part of it may be empty)
 pub data Cut {P : Type 0} (earlier later : List (Queued P)) : Type 0 where
   between : (done coming : List (Block P)) → earlier ≡ inBlocks done → later ≡ inBlocks coming → Cut earlier later
   within : (done : List (Block P)) (block : Block P) (front back : List (Queued P)) (coming : List (Block P)) → inBlock block ≡ front ++ back →
@@ -155,6 +157,20 @@ pub data Cut {P : Type 0} (earlier later : List (Queued P)) : Type 0 where
 abbrev pub Last-run-cut : Type 0
 Last-run-cut =
     (taken : (device : ℕ) → List (Item Load)) (loads : ℕ → Load) (numbers : Places ℕ) (x : Places Load) → EachPress taken loads numbers x → Cut (x .delivered) (x .queued)
+
+-- The calls that remove devices
+pub data Removes : Plain → Type 0 where
+  removeDevice : (device : ℕ) → Removes (Plain.removeDevice device)
+  removeSeat : (seat : ℕ) → Removes (Plain.removeSeat seat)
+  seatRelease : (seat : ℕ) → Removes (Plain.seatRelease seat)
+  disconnected : (reason : DisconnectReason) (explanation : Option (List ℕ)) → Removes (Plain.disconnected reason explanation)
+
+-- "lost at its removal": no other call takes a device out, of any session
+unfoldable pub Removed-by-removals : Type 1
+unfolding stands step
+Removed-by-removals =
+    (P : Type 0) (t : Split P) (s : Session P) (device : ℕ) → stands device (s .devices) ≡ true → stands device (step t s .session .devices) ≡ false →
+    (request : Plain) × ((t .call ≡ Call.plain request) × Removes request)
 
 -- The requests that close a device's frame, on a session with this last serial, at this clock value: the serial and the time of the Frame, and what is queued behind it
 pub data Closes (device lastSerial now : ℕ) : Plain → (serial time : ℕ) → List Untimed → Type 0 where
@@ -179,3 +195,12 @@ Frame-takes-all =
     let after = step (split (record { call = Call.plain request; now = now; room = room })) before in
     Closes device (before .connection .lastSerial) now request serial time behind → stands device (before .devices) ≡ true → refuses (after .outcome) ≡ false →
     Closed device serial time behind before (after .session)
+
+-- no other call closes a frame: what it adds to all that was delivered and queued is untimed, of any session
+unfoldable pub Framed-by-closers : Type 1
+unfolding step
+Framed-by-closers =
+    (P : Type 0) (t : Split P) (s : Session P) →
+    ((request : Plain) (device serial time : ℕ) (behind : List Untimed) → t .call ≡ Call.plain request →
+    Closes device (s .connection .lastSerial) (t .now) request serial time behind → ⊥) →
+    (us : List Untimed) × (step t s .gave ++ step t s .session .requests ≡ s .requests ++ map (λ u. Queued.untimed u) us)

@@ -30,8 +30,11 @@ module _ {P : Type 0} where
   unfoldable pub seatIds : Session P → List ℕ
   seatIds s = map (λ x. x .id) (s .connection .seats)
 
+  abbrev pub deviceIdsIn : List (Device P) → List ℕ
+  deviceIdsIn ds = map (λ d. d .id) ds
+
   unfoldable pub deviceIds : Session P → List ℕ
-  deviceIds s = map (λ d. d .id) (s .devices)
+  deviceIds s = deviceIdsIn (s .devices)
 
   -- of all devices
   unfoldable pub interfaceIdsIn : List (Device P) → List ℕ

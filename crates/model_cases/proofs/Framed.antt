@@ -1,15 +1,14 @@
 -- The trial lines hold, by computation, and no wrong history is a list of blocks. Assumes nothing.
 use Prim.Native.Nat.{ℕ}
 use mathlib.Core.Path.{_≡_, refl, ap, sym, _∙_}
-use mathlib.Core.Bool.{true, false, _&&_, true≢false}
+use mathlib.Core.Bool.{true, false, true≢false}
 use mathlib.Core.List.{List, [], _∷_, _++_, map, append-assoc}
 use mathlib.Core.Option.{none, some}
-use lib.Dec.{eqb}
 use borrow.Author.Tests.{eq-eqb}
 use Rattle.model.specs.Call.{Load}
 use Rattle.model.specs.Session.{Item, Untimed, Queued}
-use Rattle.model.specs.Framed.{isFrame, Block, inBlock, inBlocks}
-use Rattle.model_cases.specs.Framed.{trials, computed, expected, four, fourNumbers, numbersIn, closesRun, Run, passes, wrong, Shut-out}
+use Rattle.model.specs.Framed.{Block, inBlock, inBlocks}
+use Rattle.model_cases.specs.Framed.{trials, computed, expected, four, fourNumbers, numbersIn, closesRun, passes, wrong, Shut-out}
 
 pub framed-lines : map computed trials ≡ map expected trials
 unfolding trials computed expected

@@ -12,9 +12,9 @@ use Rattle.eiproto.specs.declared.eiproto_enum.DeviceType.{DeviceType}
 use Rattle.eiproto.specs.declared.eiproto_enum.DisconnectReason.{DisconnectReason}
 use Rattle.eiproto.specs.declared.eiproto_enum.KeyState.{KeyState}
 use Rattle.model.specs.Call.{Kind, Input, Load, Plain, Call, Turn, split}
-use Rattle.model.specs.Session.{Item, Untimed, Queued, Device, fresh}
+use Rattle.model.specs.Session.{Item, Untimed, Queued, fresh}
 use Rattle.model.specs.Framed.{Places, placesAfter, timedIn, pendingIn, numbered, isFrame, Block, inBlocks}
-use Rattle.model.specs.Trials.{now70, a, versions, seat, device, opening, key, down, downs, utf8, frame, next}
+use Rattle.model.specs.Trials.{now70, a, versions, seat, device, touchscreen, opening, key, downs, utf8, frame, next, keyAt, frameAt, queued}
 
 -- calls behind an opening, and then: how many requests were delivered; the blocks of those and the queued ones; what is pending on each device that stands, and what was
 -- lost with each that was removed
@@ -32,6 +32,13 @@ K = record { kind = Kind.KeyboardKey; touch = 0; size = 0; load = Load.KeyPress 
 
 abbrev touched : ℕ → Item Load
 touched t = record { kind = Kind.TouchDown; touch = t; size = 0; load = Load.Point nan nan }
+
+-- a touch lifted or cancelled
+abbrev ended : Kind → ℕ → Item Load
+ended k t = record { kind = k; touch = t; size = 0; load = Load.None }
+
+abbrev ends : Input → Turn
+ends i = now70 (Call.timed touchscreen 2 i)
 
 -- a client's Frame has serial 3; a flush has the session's last serial, 7, and the clock's time, 70
 abbrev keys : (serial time : ℕ) → List (Item Load) → Block Load
@@ -54,13 +61,10 @@ key2 = now70 (Call.timed 0xff00_0000_0000_000d 1 (Input.Key 30 KeyState.Press))
 abbrev frame2 : ℕ → Turn
 frame2 time = a (Plain.deviceFrame device2 3 time)
 
--- 64 requests more in the queue
-abbrev sixtyFour : List Turn
-sixtyFour = replicate 63 key ++ (frame 1 ∷ [])
-
 abbrev trial : List Turn → ℕ → List (Block Load) → (pending lost : List (List (Item Load))) → Trial
 trial calls n blocks pending lost = record { calls = calls; delivered = n; blocks = blocks; pending = pending; lost = lost }
 
+-- one device, and nothing pending on it
 abbrev nothing : List (List (Item Load))
 nothing = [] ∷ []
 
@@ -82,14 +86,15 @@ trials =
     ∷ trial (key ∷ a Plain.disconnect ∷ next ∷ []) 1 (Block.lone Untimed.Disconnect refl ∷ []) ((K ∷ []) ∷ []) []
     ∷ trial (key ∷ a (Plain.bind seat 4) ∷ frame 5 ∷ []) 0 (Block.lone (Untimed.Bind seat 4) refl ∷ keys 3 5 [] ∷ []) nothing []
     -- 64 keys with their frame do not fit behind 192 requests (17), and nothing moves; behind 191 they do
-    ∷ trial (sixtyFour ++ sixtyFour ++ sixtyFour ++ replicate 64 key ++ (frame 5 ∷ [])) 0 (replicate 3 (keys 3 1 (replicate 62 K))) (replicate 64 K ∷ []) []
-    ∷ trial (sixtyFour ++ sixtyFour ++ sixtyFour ++ replicate 64 key ++ (next ∷ frame 5 ∷ [])) 1 (replicate 3 (keys 3 1 (replicate 62 K)) ++ (keys 3 5 (replicate 63 K) ∷ [])) nothing []
+    ∷ trial (queued 63 ++ queued 63 ++ queued 63 ++ replicate 64 key ++ (frame 5 ∷ [])) 0 (replicate 3 (keys 3 1 (replicate 62 K))) (replicate 64 K ∷ []) []
+    ∷ trial (queued 63 ++ queued 63 ++ queued 63 ++ replicate 64 key ++ (next ∷ frame 5 ∷ [])) 1 (replicate 3 (keys 3 1 (replicate 62 K)) ++ (keys 3 5 (replicate 63 K) ∷ [])) nothing []
     -- a seat removed or released, and all seats gone, with pending requests on two devices
     ∷ trial (add2 ∷ key ∷ key2 ∷ key2 ∷ a (Plain.removeSeat seat) ∷ []) 0 [] [] ((K ∷ []) ∷ (K ∷ K ∷ []) ∷ [])
     ∷ trial (add2 ∷ key ∷ key2 ∷ key2 ∷ a (Plain.seatRelease seat) ∷ []) 0 [] [] ((K ∷ []) ∷ (K ∷ K ∷ []) ∷ [])
     ∷ trial (add2 ∷ key ∷ key2 ∷ key2 ∷ a (Plain.disconnected DisconnectReason.Disconnected none) ∷ []) 0 [] [] ((K ∷ []) ∷ (K ∷ K ∷ []) ∷ [])
-    -- the seventeenth touch is refused (4), and is in none of the places
-    ∷ trial (downs 2 ++ (frame 5 ∷ [])) 0 (Block.frame device 3 5 (touched 1) (touched 2 ∷ []) ∷ []) nothing []
+    -- touches by kind and id, in order; an Up of one that is not held is ignored. The seventeenth touch is refused (4). Neither is in any of the places
+    ∷ trial (downs 2 ++ (ends (Input.Up 1) ∷ ends (Input.Up 1) ∷ ends (Input.Cancel 2) ∷ frame 5 ∷ [])) 0
+    (Block.frame device 3 5 (touched 1) (touched 2 ∷ ended Kind.TouchUp 1 ∷ ended Kind.TouchCancel 2 ∷ []) ∷ []) nothing []
     ∷ trial (downs 17 ++ (a (Plain.removeDevice device) ∷ [])) 0 [] [] (map touched (1 ∷ 2 ∷ 3 ∷ 4 ∷ 5 ∷ 6 ∷ 7 ∷ 8 ∷ 9 ∷ 10 ∷ 11 ∷ 12 ∷ 13 ∷ 14 ∷ 15 ∷ 16 ∷ []) ∷ [])
     -- nor are a text that is too long (6) and a key on an interface that nobody lists
     ∷ trial (utf8 255 ∷ now70 (Call.timed 99 1 (Input.Key 30 KeyState.Press)) ∷ []) 0 [] nothing []
@@ -173,14 +178,12 @@ passes (some r) (Queued.timed d t i ∷ rs) = eqb d (r .device) && (eqb t (r .ti
 passes none (Queued.untimed u ∷ rs) = not (isFrame u) && passes none rs
 passes (some r) (Queued.untimed u ∷ rs) = closesRun (r .device) (r .time) u && passes none rs
 
-abbrev at : (time : ℕ) → Queued Load
-at t = Queued.timed device t K
-
-abbrev at2 : (time : ℕ) → Queued Load
-at2 t = Queued.timed device2 t K
-
 abbrev F : (time : ℕ) → Queued Load
-F t = Queued.untimed (Untimed.Frame device 3 t)
+F t = frameAt 3 t
+
+-- of the second device
+abbrev keyAt2 : (time : ℕ) → Queued Load
+keyAt2 t = Queued.timed device2 t K
 
 abbrev F2 : (time : ℕ) → Queued Load
 F2 t = Queued.untimed (Untimed.Frame device2 3 t)
@@ -189,19 +192,19 @@ abbrev pub wrong : List (List (Queued Load))
 wrong =
     -- a Frame alone; before its requests; a run that none closes
     (F 5 ∷ [])
-    ∷ (F 5 ∷ at 5 ∷ [])
-    ∷ (at 5 ∷ [])
+    ∷ (F 5 ∷ keyAt 5 ∷ [])
+    ∷ (keyAt 5 ∷ [])
     -- a run broken by a Ready, and by another device's request, though the times agree
-    ∷ (at 5 ∷ Queued.untimed (Untimed.Ready device) ∷ F 5 ∷ [])
-    ∷ (at 5 ∷ at2 5 ∷ F 5 ∷ F2 5 ∷ [])
+    ∷ (keyAt 5 ∷ Queued.untimed (Untimed.Ready device) ∷ F 5 ∷ [])
+    ∷ (keyAt 5 ∷ keyAt2 5 ∷ F 5 ∷ F2 5 ∷ [])
     -- two times in one run, a Frame with another time, a Frame of another device
-    ∷ (at 4 ∷ at 5 ∷ F 5 ∷ [])
-    ∷ (at 5 ∷ F 4 ∷ [])
-    ∷ (at 5 ∷ F2 5 ∷ [])
-    -- one Frame that closes two runs, two that close one
-    ∷ (at 5 ∷ F 5 ∷ F 5 ∷ [])
+    ∷ (keyAt 4 ∷ keyAt 5 ∷ F 5 ∷ [])
+    ∷ (keyAt 5 ∷ F 4 ∷ [])
+    ∷ (keyAt 5 ∷ F2 5 ∷ [])
+    -- two Frames that close one run
+    ∷ (keyAt 5 ∷ F 5 ∷ F 5 ∷ [])
     ∷ []
 
--- none of them is a list of blocks
+-- what fails the test is no list of blocks
 abbrev pub Shut-out : Type 0
 Shut-out = (rs : List (Queued Load)) → passes none rs ≡ false → (bs : List (Block Load)) → rs ≡ inBlocks bs → ⊥

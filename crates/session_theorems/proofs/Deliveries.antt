@@ -72,12 +72,12 @@ leaf-tells (Leaf.synced callback) = Tells.silent _ _ _ refl
 leaf-tells (Leaf.syncedMessage callback) = Tells.silent _ _ _ refl
 leaf-tells (Leaf.noted object event edits m h) = Tells.silent _ _ _ (noted-silent h)
 leaf-tells (Leaf.released cap id f e) = Tells.silent _ _ _ refl
-leaf-tells (Leaf.deviceGone id f e) = Tells.silent _ _ _ refl
-leaf-tells (Leaf.seatGone id x e) = Tells.silent _ _ _ refl
-leaf-tells {v = v} (Leaf.allGone reason explanation) = Tells.silent _ _ _ (removeSeats-silent (v .connection .seats))
+leaf-tells (Leaf.deviceGone id f r e) = Tells.silent _ _ _ refl
+leaf-tells (Leaf.seatGone id x r e) = Tells.silent _ _ _ refl
+leaf-tells {v = v} (Leaf.allGone reason explanation r) = Tells.silent _ _ _ (removeSeats-silent (v .connection .seats))
 leaf-tells (Leaf.queued u n) = Tells.silent _ _ _ refl
-leaf-tells (Leaf.flushed id f u n e) = Tells.silent _ _ _ refl
-leaf-tells (Leaf.closed id serial time f e) = Tells.silent _ _ _ refl
+leaf-tells (Leaf.flushed id f u n k e) = Tells.silent _ _ _ refl
+leaf-tells (Leaf.closed id serial time f k e) = Tells.silent _ _ _ refl
 leaf-tells Leaf.handed = Tells.gives [] _
 leaf-tells (Leaf.newSeat name caps) = Tells.silent _ _ _ refl
 leaf-tells (Leaf.newDevice seat name type both) = Tells.silent _ _ _ refl

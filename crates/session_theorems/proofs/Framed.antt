@@ -1,13 +1,13 @@
 -- Each press in one frame, of the code: the slices, the answers and the text buffers hold and tell what the definitions' run has. Assumes nothing.
 use Prim.Native.Nat.{ℕ}
-use mathlib.Core.Path.{_≡_, refl, ap, ap₂, sym, subst, _∙_}
+use mathlib.Core.Path.{_≡_, refl, ap, sym, subst, _∙_}
 use mathlib.Core.Bool.{true, false}
 use mathlib.Core.List.{List, [], _∷_, _++_, map}
 use mathlib.Core.Option.{Option}
 use lib.ListN.{length}
-use Rattle.model.specs.Call.{Load, Plain, Call, Turn, split}
-use Rattle.model.specs.Session.{Queued, Device, Session, fresh}
-use Rattle.model.specs.Step.{Step, refuses, step}
+use Rattle.model.specs.Call.{Load, Call, Turn, split}
+use Rattle.model.specs.Session.{Device, Session, fresh}
+use Rattle.model.specs.Step.{refuses, step}
 use Rattle.model.specs.Demand3.{delivered, trail, taken}
 use Rattle.model.specs.Reachable.{sessionAfter}
 use Rattle.model.specs.Framed.{Places, stands, goneFrom, removedBy, placesAfter, numbered, loadAt, EachPress, Each-press, Closes, Closed, Frame-takes-all}
@@ -18,8 +18,8 @@ use Rattle.answers.specs.Meets.{turn}
 use Rattle.answers.proofs.Meetings.{answered-handled}
 use Rattle.session_theorems.specs.Trail.{Exchange, turnOf, Calls, slicesAfter, FreshCalls}
 use Rattle.session_theorems.specs.Made.{Made, afterMade, FreshMade, deliveredIn, Replaced}
-use Rattle.session_theorems.specs.Framed.{removedTo, placesIn, EachPressSeen, Each-press-seen, Each-press-served, Seen-frame-takes-all}
-use Rattle.session_theorems.proofs.Trails.{stays-whole, session-after, delivered-is-trail, after-is}
+use Rattle.session_theorems.specs.Framed.{removedTo, placesIn, Each-press-seen, Each-press-served, Seen-frame-takes-all}
+use Rattle.session_theorems.proofs.Trails.{stays-whole, delivered-is-trail, after-is}
 use Rattle.session_theorems.proofs.Making.{reads-are-singles}
 use Rattle.session_theorems.proofs.Serving.{from-finish}
 

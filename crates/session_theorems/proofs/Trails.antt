@@ -31,7 +31,7 @@ use Rattle.answers.specs.declared.Answer.{Answer}
 use Rattle.answers.proofs.Meetings.{answered-handled, error-refuses}
 use Rattle.converter.specs.Next.{nextOutcome, givenIn}
 use Rattle.converter.specs.declared.request.NextRequest.{NextRequest}
-use Rattle.session_theorems.specs.Trail.{Exchange, turnOf, Calls, slicesAfter, serialIn, seen, Seen-is-run, allOfSession, Never-21, FreshCalls, deliveredTo, givenTo, Given-in-order, Seen-nothing-lost, Told, Seen-lives, Seen-release-is-removal}
+use Rattle.session_theorems.specs.Trail.{Exchange, turnOf, Calls, slicesAfter, serialIn, Seen-is-run, allOfSession, Never-21, FreshCalls, deliveredTo, givenTo, Given-in-order, Seen-nothing-lost, Told, Seen-lives, Seen-release-is-removal}
 use Rattle.session_theorems.proofs.Deliveries.{isGiven, step-gave, step-quiet, asked-silent}
 
 -- what the definitions say of calls of the code
