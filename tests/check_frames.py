@@ -1,26 +1,29 @@
 #!/usr/bin/env python3
-"""Each press in one frame, checked on trails: replay's, and where the crate has the calls, the crate's own (docs/PROMISES.md has the theorem).
+"""Each press in one frame, checked on trails: replay's, and where the crate has the calls, the crate's own (docs/PROMISES.md has the theorems).
 
 usage: check_frames.py ORACLE REFERENCE FIRST LAST [CALLS [REPLAY]]     run at the repository's root, after `rt check replay`
 
 ORACLE and REFERENCE are the folders of the oracle and of the reference (compare_sessions.py, compare_reference.py). For each seed from FIRST to LAST one random
 script of about CALLS calls (400) of each of the oracle's six kinds, without releases, played by both programs, and of each of the reference's kinds that have
-releases, whole reads and a client's bytes, played by replay. In each script the payloads are numbers that no other request has, where they have room for one. Of
-a script three beginnings are played too, since the property is to hold after every call.
+releases, whole reads and a client's bytes, played by replay. In each script the payloads are numbers that no other request has, where they have room for one;
+those of a client's bytes stay as they are. Of a script three beginnings are played too, since the property is to hold after every call.
 
-What was taken on each device is told from the calls and their answers. A script then goes on until all that it queued was delivered, and closes the frame of each
-device that has pending requests: so every place can be seen. To hold then:
+What was taken on each device, and what closed its frames, is told from the calls and their answers. A script then goes on until all that it queued was delivered,
+and closes the frame of each device that has pending requests: so every place can be seen. To hold then:
 - all that was delivered is a list of blocks: an untimed request that is no Frame, or an unbroken run of one device's timed requests with one time, closed by that
   device's Frame with that time;
 - of each device that stands, what was delivered is what was taken, in order, payload and all; of each that was removed, that but for the last requests, as many
   as were taken since its frame was last closed;
-- no device holds more than 16 touches.
-Of each trail wrong ones are made besides, in which a request is given twice, not given, given before the one before it, or with another time: the check has to
-refuse every one of them. What fails is printed, and the last line has the counts.
+- a frame takes all: the runs, in order, are those that requests closed, each with all that was taken on its device since the last, and with the Frame's own time
+  or the clock's;
+- no device holds more than 16 touches, and what is destroyed is what a removal or a release takes out.
+Of each trail wrong ones are made besides: a request or a Frame given twice, not given, with another time or of another device; a request before the one before
+it, or behind its Frame. The check has to refuse every one of them. What fails is printed, and the last line has the counts.
 """
 import collections
 import os
 import random
+import re
 import subprocess
 import sys
 
@@ -84,16 +87,26 @@ def numbered(script):
     return lines
 
 
+class Call:
+    """A line of a script with the clock that is set there, and of a read its records."""
+
+    def __init__(self, line, now):
+        self.words, self.now, self.records = line.split(" "), now, []
+        self.verb = self.words[0]
+        self.left = int(self.words[1], 0) if self.verb == "read" else 0
+
+
 def calls_of(lines):
-    """The calls of a script: each a list of lines, a read's with its records."""
-    calls, left = [], 0
-    for line in filter(releases.is_call, lines):
-        if left:
-            calls[-1].append(line)
-            left -= 1
-        else:
-            calls.append([line])
-            left = int(line.split(" ")[1], 0) if line.startswith("read ") else 0
+    calls, now = [], 0
+    for line in lines:
+        if line.startswith("now "):
+            now = int(line.split(" ")[1], 0)
+        if releases.is_call(line):
+            if calls and calls[-1].left:
+                calls[-1].records.append(line)
+                calls[-1].left -= 1
+            else:
+                calls.append(Call(line, now))
     return calls
 
 
@@ -102,45 +115,39 @@ class Checker:
 
     def __init__(self, messages):
         self.messages = messages
-        self.begin()
-
-    def begin(self):
         self.seats, self.seat_of = set(), {}
         self.interfaces = {}                                # id -> interface number, device
         self.held = collections.defaultdict(set)
         self.taken = collections.defaultdict(list)          # device -> what was taken on it
         self.closed = collections.Counter()                 # device -> how many of these its frames have closed
+        self.runs = []                                      # what requests have closed: device, time, what was taken since the last
         self.history = []                                   # delivered: (kind, device, time, fields)
 
-    def call(self, lines, answer):
+    def call(self, call, answer):
         answer, _, events = answer.partition(" |")
         events = [bytes.fromhex(word) for word in events.split()]
-        words, said = lines[0].split(" "), answer.split(" ")
-        verb = words[0]
-        gone = set()
-        if verb == "start":
-            self.begin()
-        elif verb == "next_request":
+        said, gone = answer.split(" "), set()
+        if call.verb == "next_request":
             if said[0] not in ("none", "refused"):
                 self.given(said)
-        elif verb == "read":
-            texts = bytes.fromhex(words[2][2:])
-            for record in lines[1:1 + int(said[1])]:
-                self.request([self.part(word, texts) for word in record.split(" ")], gone)
-        elif verb == "message":
+        elif call.verb == "read":
+            texts = bytes.fromhex(call.words[2][2:])
+            for record in call.records[:int(said[1])]:
+                self.request([self.part(word, texts) for word in record.split(" ")], call.now, gone)
+        elif call.verb == "message":
             if said[0] == "accepted":
-                read = self.messages.read_request(bytes.fromhex(words[1][2:]), self.interface, 0)
-                self.request([read[2]] + [str(word) for word in read[3]], gone)
+                read = self.messages.read_request(bytes.fromhex(call.words[1][2:]), self.interface, 0)
+                self.request([read[2]] + [str(word) for word in read[3]], call.now, gone)
         elif said[0] == "seat":
             self.seats.add(int(said[1], 16))
         elif said[0] == "device":
             device = int(said[1], 16)
-            self.seat_of[device] = int(words[1], 0)
+            self.seat_of[device] = int(call.words[1], 0)
             for event in events:
                 if event[0] >> 3 == 8:
                     self.interfaces[int.from_bytes(event[10:18], "big")] = (event[18], device)
         elif said[0] == "accepted":
-            self.request(words, gone)
+            self.request(call.words, call.now, gone)
         destroyed = [int.from_bytes(event[2:10], "big") for event in events if event[0] >> 3 == 5]
         if sorted(destroyed) != sorted(gone):
             raise Wrong(f"destroyed {destroyed}, and gone are {sorted(gone)}")
@@ -156,7 +163,7 @@ class Checker:
         first, length = (int(n, 0) for n in word[2:].split(":"))
         return "t:" + texts[first:first + length].hex()
 
-    def request(self, words, gone):
+    def request(self, words, now, gone):
         """A call that was accepted: a client's request, or one of the station's that takes devices out."""
         verb = words[0]
         of_object = verb in TIMED or verb in CLOSING or verb in releases.RELEASES or verb in ("paused", "remove_device", "remove_seat")
@@ -164,6 +171,9 @@ class Checker:
         if verb in TIMED:
             self.timed(verb, target, words[2:])
         elif verb in CLOSING and target in self.seat_of:
+            waited = self.taken[target][self.closed[target]:]
+            if waited:
+                self.runs.append((target, str(int(words[3], 0) if verb == "device.frame" else now), waited))
             self.closed[target] = len(self.taken[target])
         elif verb == "paused":
             self.held[target].clear()
@@ -227,16 +237,18 @@ class Checker:
 
     def end(self):
         """All that was queued is delivered now, and no device that stands has anything pending."""
-        blocks, run = 0, None
-        for kind, device, time, _ in self.history:
+        runs, run = [], None
+        for kind, device, time, rest in self.history:
             if kind in KINDS:
-                if run not in (None, (device, time)):
+                if run and run[:2] != (device, time):
                     raise Wrong("a run is broken, or has two times")
-                run = (device, time)
+                run = run or (device, time, [])
+                run[2].append((kind, *rest))
             elif kind == "Frame":
-                if run != (device, time):
+                if not run or run[:2] != (device, time):
                     raise Wrong("a Frame that closes no run of its device with its time")
-                run, blocks = None, blocks + 1
+                runs.append(run)
+                run = None
             elif run:
                 raise Wrong("a run is broken")
         if run:
@@ -251,14 +263,16 @@ class Checker:
             lost += len(self.taken[device]) - most
             if given[device] != self.taken[device][:most]:
                 raise Wrong(f"device {device:#x}: what was delivered is not what was taken")
-        return blocks, sum(map(len, given.values())), lost
+        if runs != self.runs:
+            raise Wrong("a frame that does not take all, or has not the time that it was closed with")
+        return len(runs), sum(map(len, given.values())), lost
 
 
 def begin(lines, end):
     """So many lines, and a read that is not whole left out."""
     lines = lines[:end]
     calls = calls_of(lines)
-    if calls and calls[-1][0].startswith("read ") and len(calls[-1]) <= int(calls[-1][0].split(" ")[1], 0):
+    if calls and calls[-1].left:
         return lines[:max(i for i, line in enumerate(lines) if line.startswith("read "))]
     return lines
 
@@ -271,6 +285,8 @@ def play(program, lines):
 def checked(messages, calls, trail):
     if len(calls) != len(trail):
         raise Wrong(f"{len(calls)} calls, {len(trail)} answers")
+    if [call.verb for call in calls].count("start") != 1:
+        sys.exit("a script of one session is wanted")
     checker = Checker(messages)
     for call, answer in zip(calls, trail):
         checker.call(call, answer)
@@ -288,11 +304,13 @@ def whole(program, messages, lines):
 
 
 def spoiled(calls, trail, rng):
-    """Wrong trails made of a right one, by what `next_request` answers in the last session."""
-    last = max(i for i, call in enumerate(calls) if call[0].startswith("start "))
-    asked = [i for i, call in enumerate(calls) if i > last and call[0] == "next_request" and not trail[i].startswith("refused")]
+    """Wrong trails made of a right one, by what `next_request` answers."""
+    asked = [i for i, call in enumerate(calls) if call.verb == "next_request" and not trail[i].startswith("refused")]
     answers = [trail[i] for i in asked]
-    timed = [i for i, answer in enumerate(answers) if answer.split(" ")[0] in KINDS]
+    given = [i for i, answer in enumerate(answers) if answer != "none"]
+    timed = [i for i in given if answers[i].split(" ")[0] in KINDS]
+    if not timed:
+        return
 
     def answered(changed):
         wrong = list(trail)
@@ -300,19 +318,27 @@ def spoiled(calls, trail, rng):
             wrong[place] = answer
         return wrong
 
-    if timed:
-        place = rng.choice(timed)
-        before, this, behind = answers[:place], answers[place], answers[place + 1:]
-        words = this.split(" ")
-        words[2] = f"time={int(words[2][5:]) + 1}"
-        yield "given twice", answered(before + [this, this] + behind[:-1])
-        yield "not given", answered(before + behind + ["none"])
-        yield "another time", answered(before + [" ".join(words)] + behind)
-        earlier = [i for i in range(place) if answers[i] != "none"]
-        if earlier and answers[earlier[-1]] != this:
-            swapped = list(answers)
-            swapped[earlier[-1]], swapped[place] = this, answers[earlier[-1]]
-            yield "before the one before it", answered(swapped)
+    def swapped(one, other):
+        changed = list(answers)
+        changed[one], changed[other] = answers[other], answers[one]
+        return answered(changed)
+
+    def changed(place, name, value):
+        return answered(answers[:place] + [re.sub(rf"\b{name}=\w+", f"{name}={value}", answers[place])] + answers[place + 1:])
+
+    place = rng.choice(timed)
+    frame = next(i for i in given if i > place and answers[i].startswith("Frame "))
+    for what, i in (("a request", place), ("a Frame", frame)):
+        before, this, behind = answers[:i], answers[i], answers[i + 1:]
+        time = int(re.search(r"\btime=(\d+)", this).group(1))
+        yield f"{what} given twice", answered(before + [this, this] + behind[:-1])
+        yield f"{what} not given", answered(before + behind + ["none"])
+        yield f"{what} with another time", changed(i, "time", time + 1)
+        yield f"{what} of another device", changed(i, "device", "0xff0000000000ffff")
+    earlier = [i for i in given if i < place]
+    if earlier and answers[earlier[-1]] != answers[place]:
+        yield "a request before the one before it", swapped(earlier[-1], place)
+    yield "a request behind its Frame", swapped(place, frame)
 
 
 def main():
@@ -363,4 +389,5 @@ def main():
     sys.exit(1 if failed else 0)
 
 
-main()
+if __name__ == "__main__":
+    main()
