@@ -1513,6 +1513,8 @@ static inline uint32_t bz_handle_requests(bozterrun_session *session, const bozt
 /*
  * The oldest queued request, taken out of the queue: its fields in `request`, the text of a TEXT_UTF8 at the front of
  * `buffer`, as many bytes as `length` says. 254 bytes are enough.
+ * Timed requests come in frames: one or more of one device, with one time, then that device's FRAME with that time.
+ * Nothing else comes between them, no FRAME comes by itself, and no request comes twice.
  * Answers BOZTERRUN_NONE where nothing is queued. Refuses BOZTERRUN_SHORT_OUT where the buffer is shorter than the
  * text: the request is then still the oldest. At any answer but 0 request and buffer are as they were.
  */

@@ -682,6 +682,10 @@ impl EisRequestConverter {
     /// The oldest queued request, taken out of the queue. Its text, if it has one, lies in `buffer`, for which
     /// [`TEXT_LENGTH`](crate::TEXT_LENGTH) bytes are enough.
     ///
+    /// Timed requests come in frames: one or more of one device, with one time, then that device's
+    /// [`Frame`](EisRequest::Frame) with that time. Nothing else comes between them, no `Frame` comes by itself, and
+    /// no request comes twice.
+    ///
     /// # Errors
     ///
     /// [`Refusal::ShortOut`] where the buffer is shorter than the text (the request is then still the oldest),
