@@ -6,7 +6,8 @@ usage: check_frames.py ORACLE REFERENCE FIRST LAST [CALLS [REPLAY]]     run at t
 ORACLE and REFERENCE are the folders of the oracle and of the reference (compare_sessions.py, compare_reference.py). For each seed from FIRST to LAST one random
 script of about CALLS calls (400) of each of the oracle's six kinds, without releases, played by both programs, and of each of the reference's kinds that have
 releases, whole reads and a client's bytes, played by replay. In each script the payloads are numbers that no other request has, where they have room for one;
-those of a client's bytes stay as they are. Of a script three beginnings are played too, since the property is to hold after every call.
+those of a client's bytes stay as they are. Of a script three beginnings, each with its session begun, are played too, since the property is to hold
+after every call.
 
 What was taken on each device, and what closed its frames, is told from the calls and their answers. A script then goes on until all that it queued was delivered,
 and closes the frame of each device that has pending requests: so every place can be seen. To hold then:
@@ -360,7 +361,8 @@ def main():
             script = subprocess.run([sys.executable, *words], env=env, capture_output=True, check=True).stdout.decode()
             lines = numbered(releases.without(script) if base else script)
             rng = random.Random(f"{seed}/{kind}")
-            ends = [len(lines)] + [rng.randrange(20, len(lines)) for _ in range(BEGINNINGS)]
+            running = next(i for i, line in enumerate(lines) if line.startswith("add_seat "))
+            ends = [len(lines)] + [rng.randrange(running, len(lines)) + 1 for _ in range(BEGINNINGS)]
             for end in ends:
                 begun = begin(lines, end)
                 for name, program in [("replay", replay)] + ([("the crate", theirs)] if base else []):

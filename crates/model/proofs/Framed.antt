@@ -1,5 +1,5 @@
--- EACH PRESS IN ONE FRAME: the account of Order, the blocks of Blocks, the numbers of Numbers and the held touches, in one record. Then that a frame takes all that is
--- pending on its device. Assumes nothing.
+-- EACH PRESS IN ONE FRAME: the account of Order, the blocks of Blocks, the numbers of Numbers and the held touches, in one record. Then that a device goes by a removal,
+-- that a frame is closed by one of five requests, and that it takes all that is pending on its device. Assumes nothing.
 use Prim.Native.Nat.{ℕ, suc, _+_, _≤_, _<_}
 use mathlib.Core.Path.{_≡_, refl, ap, sym, subst, _∙_}
 use mathlib.Core.Bool.{Bool, true, false, cond, true≢false, false≢true}
