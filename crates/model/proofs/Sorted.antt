@@ -1,6 +1,5 @@
 -- Every plan lets all devices stand and pends one request at most, or is a removal's and does nothing with requests but lose what is pending on the devices that it takes
--- out; and none queues a Frame but by closing a frame,
--- which the plans of five requests alone do. Assumes nothing.
+-- out; and none queues a Frame but by closing a frame, which the plans of five requests alone do. Assumes nothing.
 use Prim.Native.Nat.{ℕ, _+_, _≤_}
 use mathlib.Core.Path.{_≡_, refl, ap}
 use mathlib.Core.Bool.{Bool, true, false, not}
