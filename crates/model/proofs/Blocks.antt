@@ -5,7 +5,7 @@ use mathlib.Core.Path.{_≡_, refl, ap, sym, _∙_}
 use mathlib.Core.Bool.{Bool, true, false, not, false≢true}
 use mathlib.Core.List.{List, [], _∷_, _++_, append-nil, append-assoc, append-eq-nil-iff, head-eq-of-cons-eq, tail-eq-of-cons-eq}
 use Rattle.model.specs.Call.{Sight, Call, Split}
-use Rattle.model.specs.Session.{Untimed, Queued, Device, Session, view}
+use Rattle.model.specs.Session.{Untimed, Queued, Device, Session, View, view}
 use Rattle.model.specs.Edit.{Edit, framedAt, enact, enactAll}
 use Rattle.model.specs.Step.{gave, gaveAll, carriedOut, source, unchanged, step, run}
 use Rattle.model.specs.Demand3.{delivered}
@@ -53,33 +53,33 @@ module _ {P : Type 0} where
   framedAt-grown zero s t (x ∷ ds) rs = record { blocks = runOf (x .id) s t (x .pending); are = ap (λ (q : List (Queued P)). rs ++ q) (framed-run (x .id) s t (x .pending)) }
   framedAt-grown (suc k) s t (x ∷ ds) rs = framedAt-grown k s t ds rs
 
-  edit-grown : (e : Edit) (p : P) (s : Session P) → stays e ≡ true → Grown (s .requests) (gave e s ++ enact e p s .requests)
+  edit-grown : (frames : Bool) (e : Edit) (p : P) (s : Session P) → stays frames e ≡ true → Grown (s .requests) (gave e s ++ enact e p s .requests)
   unfolding enact gave stays inBlocks inBlock
-  edit-grown (Edit.raise n) p s h = same (s .requests)
-  edit-grown (Edit.addSeat caps) p s h = same (s .requests)
-  edit-grown (Edit.removeSeat seat) p s h = same (s .requests)
-  edit-grown (Edit.addDevice seat caps) p s h = same (s .requests)
-  edit-grown (Edit.removeDevice k) p s h = absurd (false≢true h)
-  edit-grown (Edit.removeDevicesOf seat) p s h = absurd (false≢true h)
-  edit-grown (Edit.amend k a) p s h = same (s .requests)
-  edit-grown (Edit.pend k sight) p s h = same (s .requests)
-  edit-grown (Edit.frame k serial time) p s h = framedAt-grown k serial time (s .devices) (s .requests)
-  edit-grown (Edit.queue u) p s h = record { blocks = Block.lone u (no-frame u (isFrame u) refl h) ∷ []; are = refl }
-  edit-grown Edit.deliver p s h = record { blocks = []; are = oldest-rest (s .requests) ∙ sym (append-nil (s .requests)) }
-  edit-grown (Edit.peerObject id) p s h = same (s .requests)
-  edit-grown Edit.endConnection p s h = same (s .requests)
+  edit-grown frames (Edit.raise n) p s h = same (s .requests)
+  edit-grown frames (Edit.addSeat caps) p s h = same (s .requests)
+  edit-grown frames (Edit.removeSeat seat) p s h = same (s .requests)
+  edit-grown frames (Edit.addDevice seat caps) p s h = same (s .requests)
+  edit-grown frames (Edit.removeDevice k) p s h = absurd (false≢true h)
+  edit-grown frames (Edit.removeDevicesOf seat) p s h = absurd (false≢true h)
+  edit-grown frames (Edit.amend k a) p s h = same (s .requests)
+  edit-grown frames (Edit.pend k sight) p s h = same (s .requests)
+  edit-grown frames (Edit.frame k serial time) p s h = framedAt-grown k serial time (s .devices) (s .requests)
+  edit-grown frames (Edit.queue u) p s h = record { blocks = Block.lone u (no-frame u (isFrame u) refl h) ∷ []; are = refl }
+  edit-grown frames Edit.deliver p s h = record { blocks = []; are = oldest-rest (s .requests) ∙ sym (append-nil (s .requests)) }
+  edit-grown frames (Edit.peerObject id) p s h = same (s .requests)
+  edit-grown frames Edit.endConnection p s h = same (s .requests)
 
-  edits-grown : {es : List Edit} (p : P) (s : Session P) → All Stays es → Grown (s .requests) (gaveAll es p s ++ enactAll es p s .requests)
+  edits-grown : (frames : Bool) {es : List Edit} (p : P) (s : Session P) → All (Stays frames) es → Grown (s .requests) (gaveAll es p s ++ enactAll es p s .requests)
   unfolding gaveAll enactAll
-  edits-grown p s none = same (s .requests)
-  edits-grown p s (more {x = e} {xs = es} h a) =
+  edits-grown frames p s none = same (s .requests)
+  edits-grown frames p s (more {x = e} {xs = es} h a) =
       let after = enact e p s in
-      twice (s .requests) (gave e s) (after .requests) (gaveAll es p after) (enactAll es p after .requests) (edit-grown e p s h) (edits-grown p after a)
+      twice (s .requests) (gave e s) (after .requests) (gaveAll es p after) (enactAll es p after .requests) (edit-grown frames e p s h) (edits-grown frames p after a)
 
   -- ---- a call, and a list of calls
 
-  plan-grown : {c : Call Sight} {es : List Edit} (p : P) (s : Session P) → Sorted es c → Grown (s .requests) (gaveAll es p s ++ enactAll es p s .requests)
-  plan-grown p s (staying a one) = edits-grown p s a
+  plan-grown : {v : View} {now : ℕ} {c : Call Sight} {es : List Edit} (p : P) (s : Session P) → Sorted v now es c → Grown (s .requests) (gaveAll es p s ++ enactAll es p s .requests)
+  plan-grown p s (staying frames w a one) = edits-grown frames p s a
   plan-grown p s (clearing r a) = rw (clearing-gave p s a, clearing-clears p s a .requests) (same (s .requests))
 
   step-grown : (t : Split P) (s : Session P) → Grown (s .requests) (step t s .gave ++ step t s .session .requests)

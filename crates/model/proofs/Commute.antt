@@ -64,7 +64,7 @@ module _ {P Q : Type 0} (f : P → Q) where
   withoutSlot-map zero (d ∷ ds) = refl
   withoutSlot-map (suc k) (d ∷ ds) = ap (λ r. mapDevice f d ∷ r) (withoutSlot-map k ds)
 
-  kept-map : (b : Bool) (d : Device P) (ds : List (Device P)) →
+  pub kept-map : (b : Bool) (d : Device P) (ds : List (Device P)) →
       cond b [] (mapDevice f d ∷ []) ++ map (mapDevice f) ds ≡ map (mapDevice f) (cond b [] (d ∷ []) ++ ds)
   kept-map true d ds = refl
   kept-map false d ds = refl

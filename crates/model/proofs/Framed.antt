@@ -23,10 +23,10 @@ use Rattle.model.proofs.Lists.{moved-twice}
 use Rattle.model.proofs.Finding.{found-holds}
 use Rattle.model.proofs.Live.{device-stands}
 use Rattle.model.proofs.Within.{step-by}
-use Rattle.model.proofs.Sorted.{unframed, Unframed, Sorted, staying, clearing, decide-sorted, Frames, no-frame, one-frame, decide-frames}
+use Rattle.model.proofs.Sorted.{stays, Stays, Closes-one, Sorted, staying, clearing, decide-sorted}
 use Rattle.model.proofs.All.{All}
 use Rattle.model.proofs.Walk.{Closing}
-use Rattle.model.proofs.Gone.{edits-stand}
+use Rattle.model.proofs.Gone.{edits-stand, clearing-clears, clearing-gave}
 use Rattle.model.proofs.OneDevice.{framed-run, oldest-rest, standing, none-pending, standing-append}
 use Rattle.model.proofs.Order.{Keeps}
 use Rattle.model.proofs.Provenance.{trail-keeps}
@@ -63,12 +63,12 @@ last-run-cut taken loads numbers x e = blocks-cut (e .blocks) (x .delivered) (x 
 -- ---- a device goes by a removal
 
 -- by its sort
-sorted-removes : {P : Type 0} {c : Call Sight} {es : List Edit} (p : P) (s : Session P) (d : ℕ) → Sorted es c → stands d (s .devices) ≡ true →
+sorted-removes : {P : Type 0} {v : View} {now : ℕ} {c : Call Sight} {es : List Edit} (p : P) (s : Session P) (d : ℕ) → Sorted v now es c → stands d (s .devices) ≡ true →
     stands d (enactAll es p s .devices) ≡ false → (request : Plain) × ((c ≡ Call.plain request) × Removes request)
 unfolding stands
-sorted-removes {es = es} p s d (staying a one) h g =
+sorted-removes {es = es} p s d (staying frames w a one) h g =
     let m = ltb-true 0 (standing d (s .devices)) h in
-    absurd (true≢false (sym (lt-ltb 0 (standing d (enactAll es p s .devices)) (omega (arith, edits-stand d p s a))) ∙ g))
+    absurd (true≢false (sym (lt-ltb 0 (standing d (enactAll es p s .devices)) (omega (arith, edits-stand frames d p s a))) ∙ g))
 sorted-removes p s d (clearing {request} r a) h g = (request, (refl, r))
 
 pub removed-by-removals : Removed-by-removals
@@ -91,14 +91,14 @@ module _ {P : Type 0} where
   still : (s : Session P) → Untimed-more [] s s
   still s = ([], sym (append-nil (s .requests)))
 
-  edit-untimed : (e : Edit) (p : P) (s : Session P) → unframed e ≡ true → Untimed-more (gave e s) s (enact e p s)
-  unfolding enact gave unframed
+  edit-untimed : (e : Edit) (p : P) (s : Session P) → stays false e ≡ true → Untimed-more (gave e s) s (enact e p s)
+  unfolding enact gave stays
   edit-untimed (Edit.raise n) p s h = still s
   edit-untimed (Edit.addSeat caps) p s h = still s
   edit-untimed (Edit.removeSeat seat) p s h = still s
   edit-untimed (Edit.addDevice seat caps) p s h = still s
-  edit-untimed (Edit.removeDevice k) p s h = still s
-  edit-untimed (Edit.removeDevicesOf seat) p s h = still s
+  edit-untimed (Edit.removeDevice k) p s h = absurd (false≢true h)
+  edit-untimed (Edit.removeDevicesOf seat) p s h = absurd (false≢true h)
   edit-untimed (Edit.amend k a) p s h = still s
   edit-untimed (Edit.pend k sight) p s h = still s
   edit-untimed (Edit.frame k serial time) p s h = absurd (false≢true h)
@@ -107,7 +107,7 @@ module _ {P : Type 0} where
   edit-untimed (Edit.peerObject id) p s h = still s
   edit-untimed Edit.endConnection p s h = still s
 
-  edits-untimed : {es : List Edit} (p : P) (s : Session P) → All Unframed es → Untimed-more (gaveAll es p s) s (enactAll es p s)
+  edits-untimed : {es : List Edit} (p : P) (s : Session P) → All (Stays false) es → Untimed-more (gaveAll es p s) s (enactAll es p s)
   unfolding gaveAll enactAll
   edits-untimed p s All.none = still s
   edits-untimed p s (All.more {x = e} {xs = es} h a) =
@@ -118,17 +118,18 @@ module _ {P : Type 0} where
             (moved-twice (s .requests) (gave e s) (enact e p s .requests) (gaveAll es p (enact e p s)) _ (untimed (first .0)) (untimed (others .0)) (first .1) (others .1)),
       )
 
-  -- by what the plan frames
-  frames-untimed : (now : ℕ) {c : Call Sight} {es : List Edit} (p : P) (s : Session P) → Frames (view s) now es c →
-      ((request : Plain) → c ≡ Call.plain request → Closing (view s) now request → ⊥) → Untimed-more (gaveAll es p s) s (enactAll es p s)
-  frames-untimed now p s (no-frame a) h = edits-untimed p s a
-  frames-untimed now p s (one-frame {request} k) h = absurd (h request refl k)
+  -- by its sort
+  sorted-untimed : {v : View} {now : ℕ} {c : Call Sight} {es : List Edit} (p : P) (s : Session P) → Sorted v now es c → (Closes-one v now c → ⊥) →
+      Untimed-more (gaveAll es p s) s (enactAll es p s)
+  sorted-untimed p s (staying true w a one) h = absurd (h (w refl))
+  sorted-untimed p s (staying false w a one) h = edits-untimed p s a
+  sorted-untimed p s (clearing r a) h = rw (clearing-gave p s a, clearing-clears p s a .requests) (still s)
 
 pub framed-by-closers : Framed-by-closers
 unfolding Framed-by-closers source carriedOut unchanged view
 framed-by-closers P t s other =
     step-by t s (λ r. Untimed-more (r .gave) s (r .session)) (λ o e. still s)
-    (frames-untimed (t .now) (t .load) s (decide-frames (view s) (t .now) (t .call)) none-closes)
+    (sorted-untimed (t .load) s (decide-sorted (view s) (t .now) (t .call)) λ w. none-closes (w .0) (w .1 .0) (w .1 .1))
   where
     none-closes : (request : Plain) → t .call ≡ Call.plain request → Closing (view s) (t .now) request → ⊥
     none-closes request e (Closing.closing {device} {serial} {time} {behind} k) = other request device serial time behind e k

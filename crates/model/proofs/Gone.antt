@@ -76,29 +76,29 @@ module _ {P : Type 0} where
 
   -- ---- plans under which every device stays
 
-  edit-stands : (d : ℕ) (e : Edit) (p : P) (s : Session P) → stays e ≡ true → standing d (s .devices) ≤ standing d (enact e p s .devices)
+  edit-stands : (frames : Bool) (d : ℕ) (e : Edit) (p : P) (s : Session P) → stays frames e ≡ true → standing d (s .devices) ≤ standing d (enact e p s .devices)
   unfolding enact stays pended emptied
-  edit-stands d (Edit.raise n) p s h = le-refl _
-  edit-stands d (Edit.addSeat caps) p s h = le-refl _
-  edit-stands d (Edit.removeSeat seat) p s h = le-refl _
-  edit-stands d (Edit.addDevice seat caps) p s h = let n = s .connection .nextId in omega (arith, added-count d (s .devices) (newDevice n seat caps))
-  edit-stands d (Edit.removeDevice k) p s h = absurd (false≢true h)
-  edit-stands d (Edit.removeDevicesOf seat) p s h = absurd (false≢true h)
-  edit-stands d (Edit.amend k a) p s h = omega (arith, at-count d (amended a) (λ x. amended-keeps a x .0) k (s .devices))
-  edit-stands d (Edit.pend k sight) p s h = omega (arith, at-count d (pended (item sight p)) (λ x. refl) k (s .devices))
-  edit-stands d (Edit.frame k serial time) p s h = omega (arith, at-count d emptied (λ x. refl) k (s .devices))
-  edit-stands d (Edit.queue u) p s h = le-refl _
-  edit-stands d Edit.deliver p s h = le-refl _
-  edit-stands d (Edit.peerObject id) p s h = le-refl _
-  edit-stands d Edit.endConnection p s h = le-refl _
+  edit-stands frames d (Edit.raise n) p s h = le-refl _
+  edit-stands frames d (Edit.addSeat caps) p s h = le-refl _
+  edit-stands frames d (Edit.removeSeat seat) p s h = le-refl _
+  edit-stands frames d (Edit.addDevice seat caps) p s h = let n = s .connection .nextId in omega (arith, added-count d (s .devices) (newDevice n seat caps))
+  edit-stands frames d (Edit.removeDevice k) p s h = absurd (false≢true h)
+  edit-stands frames d (Edit.removeDevicesOf seat) p s h = absurd (false≢true h)
+  edit-stands frames d (Edit.amend k a) p s h = omega (arith, at-count d (amended a) (λ x. amended-keeps a x .0) k (s .devices))
+  edit-stands frames d (Edit.pend k sight) p s h = omega (arith, at-count d (pended (item sight p)) (λ x. refl) k (s .devices))
+  edit-stands frames d (Edit.frame k serial time) p s h = omega (arith, at-count d emptied (λ x. refl) k (s .devices))
+  edit-stands frames d (Edit.queue u) p s h = le-refl _
+  edit-stands frames d Edit.deliver p s h = le-refl _
+  edit-stands frames d (Edit.peerObject id) p s h = le-refl _
+  edit-stands frames d Edit.endConnection p s h = le-refl _
 
-  pub edits-stand : (d : ℕ) {es : List Edit} (p : P) (s : Session P) → All Stays es → standing d (s .devices) ≤ standing d (enactAll es p s .devices)
+  pub edits-stand : (frames : Bool) (d : ℕ) {es : List Edit} (p : P) (s : Session P) → All (Stays frames) es → standing d (s .devices) ≤ standing d (enactAll es p s .devices)
   unfolding enactAll
-  edits-stand d p s none = le-refl _
-  edits-stand d p s (more {x = e} h a) = omega (arith, edit-stands d e p s h, edits-stand d p (enact e p s) a)
+  edits-stand frames d p s none = le-refl _
+  edits-stand frames d p s (more {x = e} h a) = omega (arith, edit-stands frames d e p s h, edits-stand frames d p (enact e p s) a)
 
-  pub staying-none : {es : List Edit} (p : P) (s : Session P) → All Stays es → goneFrom (enactAll es p s .devices) (s .devices) ≡ []
-  staying-none {es} p s a = gone-none (enactAll es p s .devices) (s .devices) (λ d l. omega (arith, edits-stand d p s a))
+  pub staying-none : (frames : Bool) {es : List Edit} (p : P) (s : Session P) → All (Stays frames) es → goneFrom (enactAll es p s .devices) (s .devices) ≡ []
+  staying-none frames {es} p s a = gone-none (enactAll es p s .devices) (s .devices) (λ d l. omega (arith, edits-stand frames d p s a))
 
   -- ---- plans that do nothing with requests but take devices out
 

@@ -10,14 +10,14 @@ use native.Mathlib.Nat.{le-refl}
 use lib.Dec.{eqb, leb}
 use borrow.Author.Tests.{eqb-true, leb-true, lt-ltb, le-leb}
 use Rattle.model.specs.Call.{Sight, Load, Call, Turn, Split, sight, mapCall, loadOf, split}
-use Rattle.model.specs.Session.{Item, Untimed, Queued, Device, Session, mapQueued, mapDevice, mapSession, fresh, view}
+use Rattle.model.specs.Session.{Item, Untimed, Queued, Device, Session, View, mapQueued, mapDevice, mapSession, fresh, view}
 use Rattle.model.specs.Edit.{Amend, Edit, amended, item, pended, emptied, newDevice, framed, at, framedAt, rest, enact, enactAll}
 use Rattle.model.specs.Step.{Step, oldest, gave, gaveAll, carriedOut, source, unchanged, step, run}
 use Rattle.model.specs.Demand3.{delivered}
 use Rattle.model.specs.Reachable.{countOf, sessionAfter}
 use Rattle.model.specs.Framed.{stands, goneFrom, removedBy, placesAfter, timedIn, pendingIn, itemsIn, numbered, loadAt, mapPlaces, inBlocks, runOf}
 use Rattle.model.proofs.All.{All, none, more}
-use Rattle.model.proofs.Commute.{mapSplit, mapStep, step-map, run-map}
+use Rattle.model.proofs.Commute.{mapSplit, mapStep, kept-map, step-map, run-map}
 use Rattle.model.proofs.Lists.{count-append}
 use Rattle.model.proofs.OneDevice.{framed-run, run-is, oldest-rest, standing, amended-keeps}
 use Rattle.model.proofs.Within.{step-by}
@@ -120,32 +120,32 @@ module _ (l : ℕ) where
   abbrev Adds : (gave : List (Queued ℕ)) (before after : Session ℕ) (more : ℕ) → Type 0
   Adds gave s s′ n = queued gave + (queued (s′ .requests) + waiting (s′ .devices)) ≤ (queued (s .requests) + waiting (s .devices)) + n
 
-  edit-adds : (e : Edit) (p : ℕ) (s : Session ℕ) → stays e ≡ true → Adds (gave e s) s (enact e p s) (once (eqb p l) (pends e))
+  edit-adds : (frames : Bool) (e : Edit) (p : ℕ) (s : Session ℕ) → stays frames e ≡ true → Adds (gave e s) s (enact e p s) (once (eqb p l) (pends e))
   unfolding enact gave stays pends timedIn pendingIn times countOf
-  edit-adds (Edit.raise n) p s h = omega arith
-  edit-adds (Edit.addSeat caps) p s h = omega arith
-  edit-adds (Edit.removeSeat seat) p s h = omega arith
-  edit-adds (Edit.addDevice seat caps) p s h = omega (arith, waiting-append (s .devices) (newDevice (s .connection .nextId) seat caps ∷ []))
-  edit-adds (Edit.removeDevice k) p s h = absurd (false≢true h)
-  edit-adds (Edit.removeDevicesOf seat) p s h = absurd (false≢true h)
-  edit-adds (Edit.amend k a) p s h = rw (amended-waiting a k (s .devices)) (omega arith)
-  edit-adds (Edit.pend k sight) p s h = omega (arith, pended-waiting (item sight p) k (s .devices))
-  edit-adds (Edit.frame k serial time) p s h =
+  edit-adds frames (Edit.raise n) p s h = omega arith
+  edit-adds frames (Edit.addSeat caps) p s h = omega arith
+  edit-adds frames (Edit.removeSeat seat) p s h = omega arith
+  edit-adds frames (Edit.addDevice seat caps) p s h = omega (arith, waiting-append (s .devices) (newDevice (s .connection .nextId) seat caps ∷ []))
+  edit-adds frames (Edit.removeDevice k) p s h = absurd (false≢true h)
+  edit-adds frames (Edit.removeDevicesOf seat) p s h = absurd (false≢true h)
+  edit-adds frames (Edit.amend k a) p s h = rw (amended-waiting a k (s .devices)) (omega arith)
+  edit-adds frames (Edit.pend k sight) p s h = omega (arith, pended-waiting (item sight p) k (s .devices))
+  edit-adds frames (Edit.frame k serial time) p s h =
       omega (arith, queued-append (s .requests) (framedAt k serial time (s .devices)), framed-waiting k serial time (s .devices))
-  edit-adds (Edit.queue u) p s h = omega (arith, queued-append (s .requests) (Queued.untimed u ∷ []))
-  edit-adds Edit.deliver p s h = omega (arith, queued-parted (s .requests))
-  edit-adds (Edit.peerObject id) p s h = omega arith
-  edit-adds Edit.endConnection p s h = omega arith
+  edit-adds frames (Edit.queue u) p s h = omega (arith, queued-append (s .requests) (Queued.untimed u ∷ []))
+  edit-adds frames Edit.deliver p s h = omega (arith, queued-parted (s .requests))
+  edit-adds frames (Edit.peerObject id) p s h = omega arith
+  edit-adds frames Edit.endConnection p s h = omega arith
 
-  edits-add : {es : List Edit} (p : ℕ) (s : Session ℕ) → All Stays es → Adds (gaveAll es p s) s (enactAll es p s) (once (eqb p l) (pendsAll es))
+  edits-add : (frames : Bool) {es : List Edit} (p : ℕ) (s : Session ℕ) → All (Stays frames) es → Adds (gaveAll es p s) s (enactAll es p s) (once (eqb p l) (pendsAll es))
   unfolding gaveAll enactAll pendsAll timedIn times countOf
-  edits-add p s none = omega arith
-  edits-add p s (more {x = e} {xs = es} h a) =
+  edits-add frames p s none = omega arith
+  edits-add frames p s (more {x = e} {xs = es} h a) =
       omega (
         arith,
         queued-append (gave e s) (gaveAll es p (enact e p s)),
-        edit-adds e p s h,
-        edits-add p (enact e p s) a,
+        edit-adds frames e p s h,
+        edits-add frames p (enact e p s) a,
         once-sum (eqb p l) (pends e) (pendsAll es),
       )
 
@@ -173,10 +173,10 @@ module _ (l : ℕ) where
   abbrev Puts : (gave : List (Queued ℕ)) (lost : List (Device ℕ)) (before after : Session ℕ) (more : ℕ) → Type 0
   Puts gave lost s s′ n = queued gave + (queued (s′ .requests) + (waiting (s′ .devices) + waiting lost)) ≤ (queued (s .requests) + waiting (s .devices)) + n
 
-  plan-puts : {c : Call Sight} {es : List Edit} (p : ℕ) (s : Session ℕ) → Sorted es c →
+  plan-puts : {v : View} {now : ℕ} {c : Call Sight} {es : List Edit} (p : ℕ) (s : Session ℕ) → Sorted v now es c →
       Puts (gaveAll es p s) (goneFrom (enactAll es p s .devices) (s .devices)) s (enactAll es p s) (once (eqb p l) 1)
   unfolding timedIn pendingIn times countOf
-  plan-puts {es = es} p s (staying a one) = rw (staying-none p s a) (omega (arith, edits-add p s a, once-most (eqb p l) (pendsAll es) one))
+  plan-puts {es = es} p s (staying frames w a one) = rw (staying-none frames p s a) (omega (arith, edits-add frames p s a, once-most (eqb p l) (pendsAll es) one))
   plan-puts {es = es} p s (clearing r a) =
       let c = clearing-clears p s a in
       rw (clearing-gave p s a, c .requests) (omega (arith, gone-waiting (enactAll es p s .devices) (c .devices) (λ d h. h)))
@@ -245,15 +245,10 @@ module _ {P Q : Type 0} (f : P → Q) where
   standing-map d [] = refl
   standing-map d (x ∷ ds) = rw (standing-map d ds)
 
-  kept-map : (b : Bool) (x : Device P) (ds : List (Device P)) →
-      cond b [] (mapDevice f x ∷ []) ++ map (mapDevice f) ds ≡ map (mapDevice f) (cond b [] (x ∷ []) ++ ds)
-  kept-map true x ds = refl
-  kept-map false x ds = refl
-
   gone-map : (after before : List (Device P)) → goneFrom (map (mapDevice f) after) (map (mapDevice f) before) ≡ map (mapDevice f) (goneFrom after before)
   unfolding goneFrom stands mapDevice
   gone-map after [] = refl
-  gone-map after (x ∷ xs) = rw (standing-map (x .id) after, gone-map after xs) (kept-map (stands (x .id) after) x (goneFrom after xs))
+  gone-map after (x ∷ xs) = rw (standing-map (x .id) after, gone-map after xs) (kept-map f (stands (x .id) after) x (goneFrom after xs))
 
   removed-map : (ts : List (Split P)) (s : Session P) → removedBy (map (mapSplit f) ts) (mapSession f s) ≡ map (mapDevice f) (removedBy ts s)
   unfolding removedBy mapStep mapSession

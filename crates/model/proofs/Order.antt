@@ -10,7 +10,7 @@ use native.Mathlib.Decide.{decLe}
 use lib.Dec.{eqb}
 use borrow.Author.Tests.{eqb-true, le-ltb}
 use Rattle.model.specs.Call.{Sight, Call}
-use Rattle.model.specs.Session.{Item, Queued, Device, Connection, Session, fresh}
+use Rattle.model.specs.Session.{Item, Queued, Device, Connection, Session, View, fresh}
 use Rattle.model.specs.Edit.{Edit, amended, item, pended, emptied, at, framedAt, rest, withDevices, withRequests, enact, enactAll}
 use Rattle.model.specs.Step.{oldest, gave, gaveAll}
 use Rattle.model.specs.Demand3.{itemsOf}
@@ -159,42 +159,42 @@ module _ {P : Type 0} (d : ℕ) where
             with-gone (ap (itemsOf d) (c .requests)) [] pending (none-pending d (s′ .devices) z) (had false e) (clear-sum T G queued pending lost (k .sum) (standing-keeps (omega arith)))
             (omega (arith, counted false e))
 
-  edit-keeps : (e : Edit) (p : P) (s : Session P) (T G : List (Item P)) (R : List (Device P)) → stays e ≡ true → Keeps s T G R →
+  edit-keeps : (frames : Bool) (e : Edit) (p : P) (s : Session P) (T G : List (Item P)) (R : List (Device P)) → stays frames e ≡ true → Keeps s T G R →
       Keeps (enact e p s) (T ++ took d e p s) (G ++ itemsOf d (gave e s)) R
   unfolding enact took gave itemsOf stays
-  edit-keeps (Edit.raise n) p s T G R h k = calm s T G R k (enact (Edit.raise n) p s) refl refl refl (omega arith)
-  edit-keeps (Edit.addSeat caps) p s T G R h k = calm s T G R k (enact (Edit.addSeat caps) p s) refl refl refl (omega arith)
-  edit-keeps (Edit.removeSeat seat) p s T G R h k = calm s T G R k (enact (Edit.removeSeat seat) p s) refl refl refl (omega arith)
-  edit-keeps (Edit.addDevice seat caps) p s T G R h k = add s T G R k _ _ refl refl (omega arith)
-  edit-keeps (Edit.removeDevice j) p s T G R h k = absurd (false≢true h)
-  edit-keeps (Edit.removeDevicesOf seat) p s T G R h k = absurd (false≢true h)
-  edit-keeps (Edit.amend j a) p s T G R h k =
+  edit-keeps frames (Edit.raise n) p s T G R h k = calm s T G R k (enact (Edit.raise n) p s) refl refl refl (omega arith)
+  edit-keeps frames (Edit.addSeat caps) p s T G R h k = calm s T G R k (enact (Edit.addSeat caps) p s) refl refl refl (omega arith)
+  edit-keeps frames (Edit.removeSeat seat) p s T G R h k = calm s T G R k (enact (Edit.removeSeat seat) p s) refl refl refl (omega arith)
+  edit-keeps frames (Edit.addDevice seat caps) p s T G R h k = add s T G R k _ _ refl refl (omega arith)
+  edit-keeps frames (Edit.removeDevice j) p s T G R h k = absurd (false≢true h)
+  edit-keeps frames (Edit.removeDevicesOf seat) p s T G R h k = absurd (false≢true h)
+  edit-keeps frames (Edit.amend j a) p s T G R h k =
       calm s T G R k (enact (Edit.amend j a) p s) refl (at-count d (amended a) (λ x. amended-keeps a x .0) j (s .devices)) (amended-pending d a j (s .devices)) (omega arith)
-  edit-keeps (Edit.pend j sight) p s T G R h k = pend s T G R k (item sight p) j
-  edit-keeps (Edit.frame j serial time) p s T G R h k = frame s T G R k j serial time
-  edit-keeps (Edit.queue r) p s T G R h k =
+  edit-keeps frames (Edit.pend j sight) p s T G R h k = pend s T G R k (item sight p) j
+  edit-keeps frames (Edit.frame j serial time) p s T G R h k = frame s T G R k j serial time
+  edit-keeps frames (Edit.queue r) p s T G R h k =
       calm s T G R k (enact (Edit.queue r) p s) (items-append d (s .requests) (Queued.untimed r ∷ []) ∙ append-nil (itemsOf d (s .requests))) refl refl (omega arith)
-  edit-keeps Edit.deliver p s T G R h k = deliver s T G R k
-  edit-keeps (Edit.peerObject id) p s T G R h k = calm s T G R k (enact (Edit.peerObject id) p s) refl refl refl (omega arith)
-  edit-keeps Edit.endConnection p s T G R h k = calm s T G R k (enact Edit.endConnection p s) refl refl refl (omega arith)
+  edit-keeps frames Edit.deliver p s T G R h k = deliver s T G R k
+  edit-keeps frames (Edit.peerObject id) p s T G R h k = calm s T G R k (enact (Edit.peerObject id) p s) refl refl refl (omega arith)
+  edit-keeps frames Edit.endConnection p s T G R h k = calm s T G R k (enact Edit.endConnection p s) refl refl refl (omega arith)
 
-  edits-keep : {es : List Edit} (p : P) (s : Session P) (T G : List (Item P)) (R : List (Device P)) → All Stays es → Keeps s T G R →
+  edits-keep : (frames : Bool) {es : List Edit} (p : P) (s : Session P) (T G : List (Item P)) (R : List (Device P)) → All (Stays frames) es → Keeps s T G R →
       Keeps (enactAll es p s) (T ++ tookAll d es p s) (G ++ itemsOf d (gaveAll es p s)) R
   unfolding enactAll tookAll gaveAll itemsOf
-  edits-keep p s T G R none k = rw (append-nil T, append-nil G) k
-  edits-keep p s T G R (more {x = e} {xs = es} h a) k =
+  edits-keep frames p s T G R none k = rw (append-nil T, append-nil G) k
+  edits-keep frames p s T G R (more {x = e} {xs = es} h a) k =
       rw (
         items-append d (gave e s) (gaveAll es p (enact e p s)),
         ← append-assoc T (took d e p s) (tookAll d es p (enact e p s)),
         ← append-assoc G (itemsOf d (gave e s)) (itemsOf d (gaveAll es p (enact e p s))),
       )
-      (edits-keep p (enact e p s) _ _ R a (edit-keeps e p s T G R h k))
+      (edits-keep frames p (enact e p s) _ _ R a (edit-keeps frames e p s T G R h k))
 
   -- a plan carried out
-  pub plan-keeps : {c : Call Sight} {es : List Edit} (p : P) (s : Session P) (T G : List (Item P)) (R : List (Device P)) → Sorted es c → Keeps s T G R →
+  pub plan-keeps : {v : View} {now : ℕ} {c : Call Sight} {es : List Edit} (p : P) (s : Session P) (T G : List (Item P)) (R : List (Device P)) → Sorted v now es c → Keeps s T G R →
       Keeps (enactAll es p s) (T ++ tookAll d es p s) (G ++ itemsOf d (gaveAll es p s)) (R ++ goneFrom (enactAll es p s .devices) (s .devices))
   unfolding itemsOf
-  plan-keeps p s T G R (staying a one) k = rw (staying-none p s a, append-nil R) (edits-keep p s T G R a k)
+  plan-keeps p s T G R (staying frames w a one) k = rw (staying-none frames p s a, append-nil R) (edits-keep frames p s T G R a k)
   plan-keeps {es = es} p s T G R (clearing r a) k =
       rw (clearing-took d p s a, clearing-gave p s a, append-nil T, append-nil G) (clear s T G R k (enactAll es p s) (clearing-clears p s a))
 
