@@ -76,15 +76,15 @@ pub enum Event {
 }
 
 // An event's record behind the object id: at most three numbers, each in so many bytes (0: no such number), then a text or none.
-struct Fields {
-    kind: u64,
-    n1: usize,
-    x1: u64,
-    n2: usize,
-    x2: u64,
-    n3: usize,
-    x3: u64,
-    text: bool,
+pub struct Fields {
+    pub kind: u64,
+    pub n1: usize,
+    pub x1: u64,
+    pub n2: usize,
+    pub x2: u64,
+    pub n3: usize,
+    pub x3: u64,
+    pub text: bool,
 }
 
 // A record of up to three numbers, with no text.
@@ -222,7 +222,7 @@ fn put(out: &mut [u8], at: usize, k: usize, x: u64) -> usize
 }
 
 // A text at a place of the buffer, from its last byte to its first.
-fn put_text(out: &mut [u8], at: usize, text: &[u8]) -> usize
+pub fn put_text(out: &mut [u8], at: usize, text: &[u8]) -> usize
     requires { ⌜ at + length (now text) ≤ length (now out) ⌝ }
     ensures { λ r. ⌜ Wrote (now (out .entry)) (now (out .exit)) at (length (now (text .entry))) (now (text .entry)) r ⌝ }
 {
@@ -247,7 +247,7 @@ fn put_start(out: &mut [u8], at: usize, object: u64, f: Fields, total: usize) ->
 }
 
 // A record and its text, where there is room for both. The room is a difference, so that no place and no length is too large.
-fn put_whole(out: &mut [u8], at: usize, object: u64, f: Fields, text: &[u8]) -> usize
+pub fn put_whole(out: &mut [u8], at: usize, object: u64, f: Fields, text: &[u8]) -> usize
     requires { ⌜ (f .kind < 32) × (size f ≤ 16) ⌝ }
     ensures { λ r. ⌜ PutWhole (now (out .entry)) (now (out .exit)) at (start object f (10 + size f + length (now (text .entry))) ++ now (text .entry)) r ⌝ }
 {
