@@ -1,0 +1,6 @@
+pub mod Steps
+pub mod Numbers
+pub mod Arguments
+pub mod Values
+pub mod Back
+pub mod Again
