@@ -40,7 +40,7 @@ static void name_event(uint32_t kind, unsigned times)
     }
 }
 
-/* The event records that a call wrote. A station encodes them for its socket; here they are named. */
+/* The event records that a call wrote. A station sends them, each as its bz_write_message; here they are named. */
 static void send_events(size_t count)
 {
     bozterrun_event event;

@@ -7,7 +7,8 @@
  *   - The client's messages are handed over as the bytes that were received, one message a call (bz_pending_request,
  *     in the handshake bz_handshake_pending_request); or the caller decodes them, and each becomes one call, or a
  *     record of a read, which hands over many in one call. What the client is to be sent comes back as event records
- *     in `out`; bz_next_event reads them. What the clerk did comes back from bz_next_request.
+ *     in `out`: bz_next_event reads them, and bz_write_message turns each into the bytes of its message. What the clerk
+ *     did comes back from bz_next_request.
  *   - A call answers 0 (BOZTERRUN_ACCEPTED) or the number of a refusal. After a refusal the session, the handshake and
  *     every lent buffer are as they were, byte for byte (of the bits of a NaN that is tested, not proved). Four calls
  *     say where they part from that: bz_handshake_new, bz_handshake_finish, bz_handshake_pending_request, and
@@ -28,14 +29,23 @@
  * length 0. Texts are void pointers, so that char and uint8_t arrays pass alike; they need no zero at the end and may
  * have one within. `count` gets the number of bytes that were written to out; `id`, `serial`, `truth`, `version` and
  * the like what was asked for. They are written at every answer, with 0 where there is nothing to tell, and may be
- * NULL. "Refuses" lists the refusals in the order in which they are tested. Every call may refuse BOZTERRUN_BAD_STATE:
- * first of all, but for BOZTERRUN_BAD_ARGUMENT. bz_read_.. gathers a read and calls no function of the library.
+ * NULL. "Refuses" lists the refusals in the order in which they are tested. Every call on a session or a handshake may
+ * refuse BOZTERRUN_BAD_STATE: first of all, but for BOZTERRUN_BAD_ARGUMENT. bz_write_message and bz_read_message know
+ * neither. Every other bz_read_.. gathers a read and calls no function of the library.
  *
  * A session, from its beginning: bz_check, bz_handshake_new, the client's messages (bz_handshake_..), at its Finish
  * bz_handshake_finish; then bz_add_seat, bz_add_device, bz_resumed; then the client's requests, each, or each read of
  * them, followed by bz_next_request until it answers BOZTERRUN_NONE; at last bz_disconnected. examples/station.c is a
- * whole program. From bytes: bz_handshake_pending_request until it says that the session has begun, then
- * bz_pending_request.
+ * whole program.
+ *
+ * Bytes in and bytes out. What was received goes to bz_handshake_pending_request until that says that the session has
+ * begun, and then to bz_pending_request; each record that a call wrote to out goes through bz_write_message to the
+ * client. That asks for the interface of the object that the record is on, which its kind tells, or a record before it:
+ *   - 16 to 18 are on 0, the handshake; 1 and 14 on 1, the connection; 15 on 2, a callback; 3 and 6 on 4, a seat; 7 to
+ *     13 on 5, a device.
+ *   - 2 and 4 are on that of the seat or the device: 4 where a record 1 brought the object's id, 5 where a 6 did.
+ *   - 5 is on that of the object that is destroyed: likewise, or where a record 8 brought its id the interface there.
+ * So a caller keeps the ids that records 1, 6 and 8 bring, each with its interface, until a record 5 is on them.
  */
 #ifndef BOZTERRUN_H
 #define BOZTERRUN_H
@@ -99,9 +109,12 @@ enum bozterrun_answer {
     BOZTERRUN_BAD_PART = 22, /* a record's part goes past the end of the read's texts */
 
     /* What a client can cause by the bytes of its messages. */
-    BOZTERRUN_MALFORMED = 23,  /* no message: bozterrun_details has the case and its numbers */
+    BOZTERRUN_MALFORMED = 23,  /* no message: bozterrun_details has the case and its numbers (bz_read_message: none) */
     BOZTERRUN_NO_OBJECT = 24,  /* no object with the addressed id is alive */
     BOZTERRUN_INVALID_ID = 25, /* Sync with an id that is not above all that the client gave before, or the server's */
+
+    /* What the caller of bz_write_message can cause. */
+    BOZTERRUN_UNSENDABLE = 26, /* bytes that are no event record, or one that an object of the interface cannot send */
 
     /* No refusals. */
     BOZTERRUN_NONE = 64,         /* nothing is queued, or the interface was not negotiated */
@@ -273,8 +286,10 @@ enum bozterrun_length {
     BOZTERRUN_RECORD_LENGTH = 8,     /* of each record of a read, among the records */
     BOZTERRUN_POINT_LENGTH = 2,      /* and among the points */
     BOZTERRUN_HEADER_LENGTH = 16,    /* of a message: the object's id, the length, the opcode */
-    BOZTERRUN_MESSAGE_LENGTH = 1024, /* the most bytes of a message, with its header */
-    BOZTERRUN_OUT_LENGTH = 1225      /* enough `out` for any call but a read, if only calls have changed the session */
+    BOZTERRUN_MESSAGE_LENGTH = 1024, /* the most bytes of a client's message, with its header */
+    BOZTERRUN_OUT_LENGTH = 1225,     /* enough `out` for any call but a read, if only calls have changed the session */
+    BOZTERRUN_EVENT_MESSAGE_LENGTH = 284, /* the most bytes of an event's message: enough for bz_write_message */
+    BOZTERRUN_EVENT_RECORD_LENGTH = 273   /* and of an event record: enough for bz_read_message */
 };
 
 /* ---------------------------------------------------------------------------------------------------------------- */
@@ -1942,6 +1957,48 @@ static inline bool bz_next_event(const uint8_t *out, size_t count, size_t *at, b
 }
 
 /* ---------------------------------------------------------------------------------------------------------------- */
+/* Event records as the protocol's messages. These calls know no session and no handshake.                          */
+/* ---------------------------------------------------------------------------------------------------------------- */
+
+/*
+ * Writes the message of one event record, which is what the client is sent: 284 bytes at most. The record has to be
+ * exactly what is lent. `interface` is that of the object that it is on, 0 for the handshake: the comment at the top
+ * says how it is known. What a call wrote is sendable on its object, but where a text that the caller gave with the
+ * call has a zero byte.
+ * Refuses BOZTERRUN_UNSENDABLE, for a wrong length, a kind that the interface lacks, an interface, a reason or a device
+ * type that has no such number, a bit set that is zero in every record, and a text that is longer than 254 bytes, no
+ * UTF-8, not given, or has a zero byte within; then BOZTERRUN_SHORT_OUT.
+ */
+uint32_t bozterrun_write_message(uint32_t interface, const uint8_t *record, size_t record_length, uint8_t *out,
+                                 size_t out_length, size_t *count);
+
+static inline uint32_t bz_write_message(uint32_t interface, const void *record, size_t record_length, uint8_t *out,
+                                        size_t out_length, size_t *count)
+{
+    size_t spare;
+    return bozterrun_write_message(interface, BZ_TEXT(record, record_length), BZ_OUT(out, out_length),
+                                   BZ_OR(count, &spare));
+}
+
+/*
+ * The other way, for a client that tests a station: writes the record of one message to an object of this interface,
+ * 273 bytes at most. It takes exactly what bz_write_message writes, so that writing what it read gives the same bytes.
+ * There is no BOZTERRUN_WAIT: bytes 8 to 11 of a message tell its length.
+ * Refuses BOZTERRUN_MALFORMED, here without a case, for bytes that are no message that bz_write_message makes for the
+ * interface; then BOZTERRUN_SHORT_OUT.
+ */
+uint32_t bozterrun_read_message(uint32_t interface, const uint8_t *message, size_t message_length, uint8_t *out,
+                                size_t out_length, size_t *count);
+
+static inline uint32_t bz_read_message(uint32_t interface, const void *message, size_t message_length, uint8_t *out,
+                                       size_t out_length, size_t *count)
+{
+    size_t spare;
+    return bozterrun_read_message(interface, BZ_TEXT(message, message_length), BZ_OUT(out, out_length),
+                                  BZ_OR(count, &spare));
+}
+
+/* ---------------------------------------------------------------------------------------------------------------- */
 /* Names, sentences, and the test at a program's start.                                                             */
 /* ---------------------------------------------------------------------------------------------------------------- */
 
@@ -1958,14 +2015,14 @@ static inline const char *bz_interface_name(uint32_t interface)
 /* The name of an answer as docs/REFERENCE.md has it, and a sentence for a person. */
 static inline const char *bz_refusal_name(uint32_t answer)
 {
-    static const char *const names[26] = {
+    static const char *const names[27] = {
         "Accepted",            "UnexpectedHandshakeEvent", "InvalidInterfaceVersion", "InvalidCapabilities",
         "TooManyTouches",      "DuplicatedTouchDown",      "InvalidTextLength",       "NonHandshakeEvent",
         "DuplicateEvent",      "MissingInterface",         "BadUtf8",                 "NameLong",
         "UnknownHandle",       "BadCapabilities",          "FullSeats",               "FullDevices",
         "FullPending",         "FullQueue",                "FullTexts",               "ShortOut",
         "IdsSpent",            "BadState",                 "BadPart",                 "Malformed",
-        "NoObject",            "InvalidId"};
+        "NoObject",            "InvalidId",                "Unsendable"};
     if (answer == BOZTERRUN_NONE) {
         return "None";
     }
@@ -1975,12 +2032,12 @@ static inline const char *bz_refusal_name(uint32_t answer)
     if (answer == BOZTERRUN_WAIT) {
         return "Wait";
     }
-    return answer < 26 ? names[answer] : "Unknown";
+    return answer < 27 ? names[answer] : "Unknown";
 }
 
 static inline const char *bz_refusal_text(uint32_t answer)
 {
-    static const char *const texts[26] = {
+    static const char *const texts[27] = {
         "The call was accepted.",
         "The client sent a handshake's request in a running session.",
         "The client used a version that the interface does not have.",
@@ -2004,9 +2061,10 @@ static inline const char *bz_refusal_text(uint32_t answer)
         "No object ids are left.",
         "The memory that was lent holds no session or no handshake.",
         "A record's part goes past the end of the texts of its read.",
-        "The client sent bytes that are no message.",
+        "The bytes are no message.",
         "The client sent a message to an object that is not alive.",
-        "The client gave a new object an id that it may not have."};
+        "The client gave a new object an id that it may not have.",
+        "The bytes are no event record that an object of the interface can send."};
     if (answer == BOZTERRUN_NONE) {
         return "There is none.";
     }
@@ -2016,7 +2074,7 @@ static inline const char *bz_refusal_text(uint32_t answer)
     if (answer == BOZTERRUN_WAIT) {
         return "The message is not yet whole.";
     }
-    return answer < 26 ? texts[answer] : "This is no answer of the library.";
+    return answer < 27 ? texts[answer] : "This is no answer of the library.";
 }
 
 /* The name of a case of BOZTERRUN_MALFORMED as docs/REFERENCE.md has it, "" where there is no such number, and a
@@ -2054,12 +2112,12 @@ uint64_t bozterrun_number(size_t place);
 
 /*
  * Whether this header is the library's: 0, or the place, from 1 on, of the first number or length that differs. Places
- * 1 to 126 are the library's table, 127 to 132 the lengths in the order above, 133 says that the table goes on. Call it
+ * 1 to 129 are the library's table, 130 to 135 the lengths in the order above, 136 says that the table goes on. Call it
  * once at the start.
  */
 static inline size_t bz_check(void)
 {
-    static const uint16_t numbers[126] = {
+    static const uint16_t numbers[129] = {
         BOZTERRUN_UNEXPECTED_HANDSHAKE_EVENT,
         BOZTERRUN_INVALID_INTERFACE_VERSION,
         BOZTERRUN_INVALID_CAPABILITIES,
@@ -2085,6 +2143,7 @@ static inline size_t bz_check(void)
         BOZTERRUN_MALFORMED,
         BOZTERRUN_NO_OBJECT,
         BOZTERRUN_INVALID_ID,
+        BOZTERRUN_UNSENDABLE,
         BOZTERRUN_NONE,
         BOZTERRUN_BAD_ARGUMENT,
         BOZTERRUN_WAIT,
@@ -2186,8 +2245,10 @@ static inline size_t bz_check(void)
         BOZTERRUN_PARSE_ERROR_INVALID_NULL,
         BOZTERRUN_HEADER_LENGTH,
         BOZTERRUN_MESSAGE_LENGTH,
+        BOZTERRUN_EVENT_MESSAGE_LENGTH,
+        BOZTERRUN_EVENT_RECORD_LENGTH,
     };
-    for (size_t place = 0; place < 126; place++) {
+    for (size_t place = 0; place < 129; place++) {
         if (bozterrun_number(place) != numbers[place]) {
             return place + 1;
         }
@@ -2199,10 +2260,10 @@ static inline size_t bz_check(void)
     };
     for (size_t place = 0; place < 6; place++) {
         if (!equal[place]) {
-            return 127 + place;
+            return 130 + place;
         }
     }
-    return bozterrun_number(126) == 0 ? 0 : 133;
+    return bozterrun_number(129) == 0 ? 0 : 136;
 }
 
 #undef BZ_ASSERT
