@@ -513,6 +513,8 @@ static void try_no_out(void)
     SHORT(bz_stop_emulating(s, device, NULL, 1000, NULL));
     SHORT(bz_frame(s, device, 1, NULL, 1000, NULL));
     SHORT(bz_disconnected(s, 0, NULL, 0, NULL, 1000, NULL));
+    SHORT(bz_write_message(4, event_image, sizeof event_image, NULL, 1000, NULL));
+    SHORT(bz_read_message(4, sent_image, sizeof sent_image, NULL, 1000, NULL));
 
     GOOD(bz_handshake_new(&h, 7, out, sizeof out, NULL));
     h = handshake_image;
@@ -540,6 +542,8 @@ static void try_no_out(void)
     GOOD(bz_has_interface(s, "ei_seat", 7, NULL));
     GOOD(bz_interface_version(s, "ei_seat", 7, NULL));
     GOOD(bz_has_capability(s, device, BOZTERRUN_CAPABILITY_TEXT, NULL));
+    GOOD(bz_write_message(4, event_image, sizeof event_image, out, sizeof out, NULL));
+    GOOD(bz_read_message(4, sent_image, sizeof sent_image, out, sizeof out, NULL));
 }
 
 /* No name and no explanation are none at all; the empty ones are sent. Any other text that is NULL is empty. */
@@ -568,6 +572,10 @@ static void try_no_text(void)
     same("bz_handshake_pending_request of NULL",
          bz_handshake_pending_request(&h, s, NULL, 16, out, sizeof out, NULL, NULL, NULL, NULL), BOZTERRUN_WAIT);
     check(memcmp(&session, &session_image, sizeof session) == 0, "the session has changed");
+    same("bz_write_message of NULL", bz_write_message(4, NULL, 14, out, sizeof out, &count), BOZTERRUN_UNSENDABLE);
+    check(count == 0, "the count");
+    same("bz_read_message of NULL", bz_read_message(4, NULL, 20, out, sizeof out, &count), BOZTERRUN_MALFORMED);
+    check(count == 0, "the count");
     same("bz_text_utf8 of NULL", bz_text_utf8(s, with.device + 7, NULL, 5), BOZTERRUN_INVALID_TEXT_LENGTH);
     same("bz_unexpected_handshake with NULL", bz_unexpected_handshake(s, 3, 0, NULL, 500),
          BOZTERRUN_UNEXPECTED_HANDSHAKE_EVENT);

@@ -247,7 +247,7 @@ int main(void)
     try_fields();
     for (uint32_t n = 0; n <= 67; n++) {
         printf("refusal %" PRIu32 " %s\n", n, bz_refusal_name(n));
-        check((n > 25 && (n < 64 || n > 66)) == (strcmp(bz_refusal_text(n), bz_refusal_text(1000)) == 0), "text", n);
+        check((n > 26 && (n < 64 || n > 66)) == (strcmp(bz_refusal_text(n), bz_refusal_text(1000)) == 0), "text", n);
     }
     for (uint32_t n = 0; n <= 13; n++) {
         printf("interface %" PRIu32 " %s\n", n, bz_interface_name(n));

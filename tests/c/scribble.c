@@ -66,8 +66,8 @@ static void make(size_t k, bool keep)
 {
     const call *const c = &calls[k];
     const bool shakes = (c->lent & M_HANDSHAKE) != 0;
-    const bool begins = c->make == call_handshake_new;
-    const bool sound = begins || (shakes ? sound_handshake() : sound_control());
+    const bool any = c->make == call_handshake_new || c->lent == 0; /* whatever the memory holds */
+    const bool sound = any || (shakes ? sound_handshake() : sound_control());
     if (keep) {
         slices_keep();
     }

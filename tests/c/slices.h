@@ -21,7 +21,7 @@
 
 enum {
     HANDSHAKE, NAME, CONTROL, WORDS, REALS, TEXTS, OUT, BUFFER, TEXT, RECORDS, POINTS, MESSAGE, FINISH, /* slices */
-    NUMBERS, COORDINATES,                                                                               /* arrays */
+    EVENT, SENT, NUMBERS, COORDINATES,        /* an event record, an event's message; arrays */
     COUNT, VALUE, FIRST, SECOND, CASE, BEGUN, /* one number each */
     SLICES
 };
@@ -31,6 +31,9 @@ enum { READ_SYNC, READ_KEY, READ_TEXT, READ_RECORDS };
 
 /* The messages: a Sync in the session, and in the handshake its Finish. */
 enum { SYNC_LENGTH = 28, FINISH_LENGTH = 16 };
+
+/* A seat that is destroyed, as an event record and as its message. */
+enum { EVENT_LENGTH = 14, SENT_LENGTH = 20 };
 
 enum { PAGE = 4096, BEFORE_BYTE = 0xa5, LENT_BYTE = 0xee };
 
@@ -57,6 +60,8 @@ static slice slices[SLICES] = {
     {"points", 4, READ_RECORDS * BOZTERRUN_POINT_LENGTH, 0, NULL, NULL, NULL, NULL},
     {"message", 1, SYNC_LENGTH, 0, NULL, NULL, NULL, NULL},
     {"handshake's message", 1, FINISH_LENGTH, 0, NULL, NULL, NULL, NULL},
+    {"event record", 1, EVENT_LENGTH, 0, NULL, NULL, NULL, NULL},
+    {"event's message", 1, SENT_LENGTH, 0, NULL, NULL, NULL, NULL},
     {"numbers", 8, 5, 0, NULL, NULL, NULL, NULL},
     {"coordinates", 4, 2, 0, NULL, NULL, NULL, NULL},
     {"count", 8, 1, 0, NULL, NULL, NULL, NULL},
@@ -186,6 +191,7 @@ typedef struct {
     uint64_t seat, device; /* with all seven interfaces */
     uint64_t capability, mask;
     uint32_t state, context_type, device_type, reason, given, opcode, version, touch;
+    uint32_t interface; /* of an event's object */
 } arguments;
 
 static arguments with;
@@ -259,8 +265,10 @@ CALL(last_serial, L_CONTROL, PLACE_OF(uint64_t, VALUE))
 CALL(has_interface, L_CONTROL, BYTES(TEXT), PLACE_OF(uint64_t, VALUE))
 CALL(interface_version, L_CONTROL, BYTES(TEXT), PLACE_OF(uint64_t, VALUE))
 CALL(has_capability, L_CONTROL, with.device, with.capability, PLACE_OF(uint64_t, VALUE))
+CALL(write_message, with.interface, BYTES(EVENT), L_OUT)
+CALL(read_message, with.interface, BYTES(SENT), L_OUT)
 
-/* Which slices a call is lent that make a handshake or a session. */
+/* Which slices a call is lent that make a handshake or a session; 0 where it knows neither. */
 enum {
     M_HANDSHAKE = 1 << HANDSHAKE | 1 << NAME,
     M_CONTROL = 1 << CONTROL,
@@ -347,6 +355,8 @@ static const call calls[] = {
     ROW(has_interface, M_CONTROL, 0, 0, TELLS_VALUE),
     ROW(interface_version, M_CONTROL, BOZTERRUN_NONE, 0, TELLS_VALUE),
     ROW(has_capability, M_CONTROL, 0, 0, TELLS_VALUE),
+    ROW(write_message, 0, 0, SENT_LENGTH, TELLS_COUNT),
+    ROW(read_message, 0, 0, EVENT_LENGTH, TELLS_COUNT),
 };
 enum { CALLS = sizeof calls / sizeof calls[0] };
 
@@ -364,6 +374,10 @@ static bozterrun_point points_image[READ_RECORDS];
 static const uint8_t sync_image[SYNC_LENGTH] = {0, 0, 0, 0, 0, 0, 0, 255, 28, 0, 0, 0, 0,
                                                 0, 0, 0, 9, 0, 0, 0, 0,   0,  0, 0, 1};
 static const uint8_t finish_image[FINISH_LENGTH] = {0, 0, 0, 0, 0, 0, 0, 0, 16, 0, 0, 0, 1};
+
+/* Kind 5 on the object 0xff00000000000001, serial 8; as a message opcode 0. */
+static const uint8_t event_image[EVENT_LENGTH] = {0x28, 14, 255, 0, 0, 0, 0, 0, 0, 1, 0, 0, 0, 8};
+static const uint8_t sent_image[SENT_LENGTH] = {1, 0, 0, 0, 0, 0, 0, 255, 20, 0, 0, 0, 0, 0, 0, 0, 8};
 
 static void must(const char *what, uint32_t answer)
 {
@@ -414,7 +428,8 @@ static void session_make(unsigned devices, unsigned place)
     const arguments good = {.seat = seat[place], .device = device[place], .capability = BOZTERRUN_CAPABILITY_KEYBOARD,
                             .mask = 127, .state = BOZTERRUN_PRESS, .context_type = BOZTERRUN_CONTEXT_TYPE_SENDER,
                             .device_type = BOZTERRUN_DEVICE_TYPE_PHYSICAL, .reason = BOZTERRUN_REASON_PROTOCOL,
-                            .given = 1, .opcode = BOZTERRUN_OPCODE_NAME, .version = 2, .touch = 9};
+                            .given = 1, .opcode = BOZTERRUN_OPCODE_NAME, .version = 2, .touch = 9,
+                            .interface = BOZTERRUN_INTERFACE_SEAT};
     with = good;
     bozterrun_read read;
     bz_read_begin(&read, records_image, points_image, READ_RECORDS, NULL, 0);
@@ -427,6 +442,8 @@ static void session_make(unsigned devices, unsigned place)
     slices[POINTS].image = points_image;
     slices[MESSAGE].image = sync_image;
     slices[FINISH].image = finish_image;
+    slices[EVENT].image = event_image;
+    slices[SENT].image = sent_image;
     slices[HANDSHAKE].image = handshake_image.words;
     slices[NAME].image = handshake_image.name;
     slices[CONTROL].image = s->control;
