@@ -19,10 +19,11 @@ enum { LINE_LIMIT = 65536, OUT_LIMIT = 1 << 21, OUT_USUAL = 4096, WORDS_LIMIT = 
 
 /*
  * The calls, by where they may be made, with a letter for each word behind the name: L a number of 64 bits, I one of
- * 32, N how many lines a read has, A a signed amount, F an f32, T a text, O a text or `none`, S a press state, C a
- * context type, D a device type, R a reason, M one capability.
+ * 32, B one of 8, N how many lines a read has, A a signed amount, F an f32, T a text, O a text or `none`, S a press
+ * state, C a context type, D a device type, R a reason, M one capability.
  */
 #define SETTINGS(X) X(NOW, "now", "L") X(OUT, "out", "L") X(BUFFER, "buffer", "L") X(START, "start", "I")
+#define ANYWHERE(X) X(WRITE_MESSAGE, "write_message", "BT") X(READ_MESSAGE, "read_message", "BT")
 #define CLIENT(X) \
     X(HANDSHAKE_VERSION, "handshake.handshake_version", "I") \
     X(HANDSHAKE_NAME, "handshake.name", "T") \
@@ -81,10 +82,10 @@ enum { LINE_LIMIT = 65536, OUT_LIMIT = 1 << 21, OUT_USUAL = 4096, WORDS_LIMIT = 
 
 #define AS_CASE(name, word, words) name,
 #define AS_ROW(name, word, words) {word, words},
-enum verb { SETTINGS(AS_CASE) CLIENT(AS_CASE) STATION(AS_CASE) VERBS };
+enum verb { SETTINGS(AS_CASE) ANYWHERE(AS_CASE) CLIENT(AS_CASE) STATION(AS_CASE) VERBS };
 static const struct {
     const char *name, *words;
-} verbs[VERBS] = {SETTINGS(AS_ROW) CLIENT(AS_ROW) STATION(AS_ROW)};
+} verbs[VERBS] = {SETTINGS(AS_ROW) ANYWHERE(AS_ROW) CLIENT(AS_ROW) STATION(AS_ROW)};
 
 /* A line: what it asks for, its words by place, and its text, NULL where it is `none`. */
 static struct {
@@ -227,6 +228,8 @@ static bool read_word(char letter, size_t place, const char *word, size_t length
     switch (letter) {
     case 'I':
         return *n <= UINT32_MAX;
+    case 'B':
+        return *n <= UINT8_MAX;
     case 'N':
         return *n <= READ_LIMIT;
     case 'S':
@@ -454,6 +457,23 @@ static void write_answer(const told *t)
 static size_t at_most(uint64_t length)
 {
     return length < OUT_LIMIT ? (size_t)length : OUT_LIMIT;
+}
+
+/* A record turned into its message, or a message into its record. */
+static void turn(void)
+{
+    const bool writes = line.verb == WRITE_MESSAGE;
+    const size_t room = at_most(run.out_length);
+    size_t count;
+    const uint32_t answer = writes ? bz_write_message((uint32_t)line.n[0], line.text, line.length, out, room, &count)
+                                   : bz_read_message((uint32_t)line.n[0], line.text, line.length, out, room, &count);
+    if (answer != BOZTERRUN_ACCEPTED) {
+        printf("refused %" PRIu32 "\n", answer);
+        return;
+    }
+    printf("%s t:", writes ? "message" : "record");
+    write_hex(out, count);
+    printf("\n");
 }
 
 #define N32(place) ((uint32_t)line.n[place])
@@ -864,6 +884,10 @@ static bool play(void)
         return true;
     case BUFFER:
         run.buffer_length = line.n[0];
+        return true;
+    case WRITE_MESSAGE:
+    case READ_MESSAGE:
+        turn();
         return true;
     case START:
         run.phase = SHAKING;
