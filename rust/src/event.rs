@@ -1,4 +1,4 @@
-//! Event records: what the client is to be told, as the calls write it to `out`.
+//! Event records: what the client is to be told, as the calls write it to `out`. `wire` turns them into messages.
 
 use crate::{
     eis::{connection::DisconnectReason, device::DeviceType, Object},
@@ -345,7 +345,8 @@ impl<'a> Event<'a> {
     }
 }
 
-/// The event records that a call wrote: bytes to send, and an iterator over what they say.
+/// The event records that a call wrote, and an iterator over what they say. The client is sent them as messages, by a
+/// [`MessageWriter`](crate::MessageWriter).
 ///
 /// The iterator ends with the last record, or at bytes that are none; [`as_bytes`](Self::as_bytes) has what it has
 /// not gone over. No call of this crate writes bytes that are none.
@@ -377,7 +378,7 @@ impl<'a> Events<'a> {
         Self(out.get(..count).unwrap_or_default())
     }
 
-    /// The bytes that the iterator has not gone over. Send them to the client.
+    /// The bytes of the records that the iterator has not gone over. They are no messages of the protocol.
     #[inline]
     #[must_use]
     pub const fn as_bytes(&self) -> &'a [u8] {

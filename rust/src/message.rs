@@ -10,7 +10,7 @@ use std::{error, fmt};
 /// The bytes of a message's header: the object's id, the length, the opcode.
 pub const HEADER_LENGTH: usize = 16;
 
-/// The most bytes of a message, with its header.
+/// The most bytes of a client's message, with its header.
 pub const MESSAGE_LENGTH: usize = 1024;
 
 /// What the library answers where a message is not yet whole, which is no refusal.

@@ -74,12 +74,16 @@ pub enum Refusal {
     BadState,
     /// 22: the part of a request with text goes past the end of the texts of its read.
     BadPart,
-    /// 23: bytes that are no message, and why.
+    /// 23: bytes of a client that are no message, and why.
     Malformed(ParseError),
+    /// 23, without a case: bytes that are no event's message, or not one of the object's interface.
+    MalformedEvent,
     /// 24: a message to an object that is not alive.
     NoObject,
     /// 25: a Sync whose callback's id is not above all that the client gave before, or is the server's.
     InvalidId,
+    /// 26: bytes that are no event record, or one that an object of its interface cannot send.
+    Unsendable,
 }
 
 impl Refusal {
@@ -109,6 +113,7 @@ impl Refusal {
             22 => Self::BadPart,
             24 => Self::NoObject,
             25 => Self::InvalidId,
+            26 => Self::Unsendable,
             _ => Self::BadState,
         }
     }
@@ -133,7 +138,7 @@ impl Refusal {
         }
     }
 
-    /// Its number, 1 to 25.
+    /// Its number, 1 to 26.
     ///
     /// ```
     /// assert_eq!(bozterrun::Refusal::ShortOut.number(), 19);
@@ -163,9 +168,10 @@ impl Refusal {
             Self::IdsSpent => 20,
             Self::BadState => 21,
             Self::BadPart => 22,
-            Self::Malformed(_) => 23,
+            Self::Malformed(_) | Self::MalformedEvent => 23,
             Self::NoObject => 24,
             Self::InvalidId => 25,
+            Self::Unsendable => 26,
         }
     }
 
@@ -199,9 +205,10 @@ impl Refusal {
             Self::IdsSpent => "IdsSpent",
             Self::BadState => "BadState",
             Self::BadPart => "BadPart",
-            Self::Malformed(_) => "Malformed",
+            Self::Malformed(_) | Self::MalformedEvent => "Malformed",
             Self::NoObject => "NoObject",
             Self::InvalidId => "InvalidId",
+            Self::Unsendable => "Unsendable",
         }
     }
 }
@@ -238,8 +245,10 @@ impl fmt::Display for Refusal {
             Self::BadState => "the memory is no session's and cannot be trusted",
             Self::BadPart => "the part goes past the end of the texts of its read",
             Self::Malformed(error) => return write!(f, "the client's message is malformed: {error}"),
-            Self::NoObject => "the client sent a message to an object that is not alive",
+            Self::MalformedEvent => "the bytes are no message of an event of the object's interface",
+            Self::NoObject => "the message is to an object that is not alive",
             Self::InvalidId => "the client gave a new object an id that it may not have",
+            Self::Unsendable => "the event is none that an object of its interface can send",
         })
     }
 }
@@ -274,7 +283,7 @@ pub(crate) mod tests {
 
     #[test]
     fn answers_that_the_library_does_not_give_are_bad_state() {
-        for number in [0, 2, 9, 23, 26, 64, 65, 66, u32::MAX] {
+        for number in [0, 2, 9, 23, 27, 64, 65, 66, u32::MAX] {
             assert_eq!(Refusal::from_number(number), Refusal::BadState);
         }
         assert_eq!(Refusal::from_versioned(2, 0, 7), Refusal::BadState);
@@ -282,8 +291,9 @@ pub(crate) mod tests {
 
     #[test]
     fn each_has_a_name_and_a_sentence_of_its_own() {
-        for number in 1..=25 {
+        for number in 1..=26 {
             let refusal = of_number(number);
+            assert_eq!(refusal.number(), number);
             assert!(format!("{refusal:?}").starts_with(refusal.name()));
             assert!(refusal.to_string().contains(' '));
             for other in 1..number {
@@ -291,5 +301,8 @@ pub(crate) mod tests {
                 assert_ne!(of_number(other).to_string(), refusal.to_string());
             }
         }
+        let (read, received) = (Refusal::MalformedEvent, of_number(23));
+        assert_eq!((read.number(), read.name()), (received.number(), received.name()));
+        assert_ne!(read.to_string(), received.to_string());
     }
 }

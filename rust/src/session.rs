@@ -56,6 +56,7 @@ impl Session {
 mod tests {
     use super::*;
     use crate::message::{HEADER_LENGTH, MESSAGE_LENGTH, WAIT};
+    use crate::wire::{EVENT_MESSAGE_LENGTH, EVENT_RECORD_LENGTH};
     use crate::{sys, DeviceCapability, DisconnectReason, Interface};
     use crate::{ButtonState, ContextType, DeviceType, KeyState};
 
@@ -91,7 +92,7 @@ mod tests {
 
     #[test]
     fn numbers_are_the_librarys() {
-        let refusals = (1..=25).map(|number| u64::from(crate::refusal::tests::of_number(number).number()));
+        let refusals = (1..=26).map(|number| u64::from(crate::refusal::tests::of_number(number).number()));
         let others = [u64::from(NONE), 65, u64::from(WAIT)];
         let kinds = 0..22;
         let interfaces = Interface::ALL.map(|interface| u64::from(interface.number()));
@@ -111,6 +112,8 @@ mod tests {
         let (requests, record) = (0..36, [8, 2]);
         // The cases of a malformed message, the bytes of a header and the most of a message.
         let (cases, message) = (1..=7, [HEADER_LENGTH as u64, MESSAGE_LENGTH as u64]);
+        // The most bytes of an event's message, and of an event record.
+        let event = [EVENT_MESSAGE_LENGTH as u64, EVENT_RECORD_LENGTH as u64];
         let ours: Vec<u64> = refusals
             .chain(others)
             .chain(kinds)
@@ -123,10 +126,12 @@ mod tests {
             .chain(record)
             .chain(cases)
             .chain(message)
+            .chain(event)
             .collect();
         let theirs: Vec<u64> = (0..ours.len()).map(number).collect();
         assert_eq!(theirs, ours);
         // The table ends here.
+        assert_eq!(ours.len(), 129);
         assert_eq!(number(ours.len()), 0);
         // States have no place in the table: a press is 1.
         assert_eq!((KeyState::Press.number(), KeyState::Released.number()), (1, 0));

@@ -554,6 +554,22 @@ extern "C" {
         truth: *mut u64,
     ) -> u32;
 
+    pub fn bozterrun_write_message(
+        interface: u32,
+        record: *const u8,
+        record_length: usize,
+        out: *mut u8,
+        out_length: usize,
+        count: *mut usize,
+    ) -> u32;
+    pub fn bozterrun_read_message(
+        interface: u32,
+        message: *const u8,
+        message_length: usize,
+        out: *mut u8,
+        out_length: usize,
+        count: *mut usize,
+    ) -> u32;
 }
 
 #[cfg(test)]

@@ -1,6 +1,7 @@
 //! A client's bytes, message by message. What each is to answer was worked out by hand from the scope.
 
 mod begin;
+mod encode;
 
 use begin::begin;
 use bozterrun::eis::{connection, keyboard, text, Object, Request};
@@ -9,6 +10,7 @@ use bozterrun::{
     ContextType, Device, DeviceCapabilities, DeviceType, DisconnectReason, EisHandshaker, EisRequestConverter,
     Interface, KeyState, ParseError, Refusal, Seat, HEADER_LENGTH, MESSAGE_LENGTH, OUT_LENGTH, TEXT_LENGTH,
 };
+use encode::{message, with_text};
 
 /// Ids as `begin` leaves them: the connection, the first seat and the first device, with every interface.
 const CONNECTION: u64 = 0xff00000000000000;
@@ -27,30 +29,6 @@ fn with_device() -> EisRequestConverter {
         .expect("a device fits");
     assert_eq!((seat, device), (Seat(SEAT), Device(DEVICE)));
     converter
-}
-
-/// A message of numbers of 32 bits.
-fn message(object: u64, opcode: u32, arguments: &[u32]) -> Vec<u8> {
-    let mut bytes = object.to_le_bytes().to_vec();
-    bytes.extend((16 + 4 * arguments.len() as u32).to_le_bytes());
-    bytes.extend(opcode.to_le_bytes());
-    bytes.extend(arguments.iter().flat_map(|number| number.to_le_bytes()));
-    bytes
-}
-
-/// The same, with a text before the numbers.
-fn with_text(object: u64, opcode: u32, text: &[u8], arguments: &[u32]) -> Vec<u8> {
-    let length = text.len() as u32 + 1;
-    let mut words = text.to_vec();
-    words.resize(length.next_multiple_of(4) as usize, 0);
-    let mut all = vec![length];
-    all.extend(
-        words
-            .chunks_exact(4)
-            .map(|word| u32::from_le_bytes([word[0], word[1], word[2], word[3]])),
-    );
-    all.extend(arguments);
-    message(object, opcode, &all)
 }
 
 fn with_length(mut bytes: Vec<u8>, length: u32) -> Vec<u8> {
