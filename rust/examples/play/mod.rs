@@ -7,8 +7,8 @@ use bozterrun::eis::{
 };
 use bozterrun::request::EisRequest;
 use bozterrun::{
-    ButtonState, ContextType, Device, DeviceCapabilities, DeviceCapability, DeviceType, DisconnectReason,
-    EisHandshaker, EisRequestConverter, Events, Interface, KeyState, ParseError, Read, Refusal, Seat,
+    read_message, write_message, ButtonState, ContextType, Device, DeviceCapabilities, DeviceCapability, DeviceType,
+    DisconnectReason, EisHandshaker, EisRequestConverter, Events, Interface, KeyState, ParseError, Read, Refusal, Seat,
 };
 use std::io::{self, Write};
 
@@ -25,6 +25,8 @@ enum Step<'a> {
     Out(u64),
     Buffer(u64),
     Start(u32),
+    WriteMessage(u8, &'a [u8]),
+    ReadMessage(u8, &'a [u8]),
     Client(Request<'a>),
     Read(u16, &'a [u8]),
     Message(&'a [u8]),
@@ -89,6 +91,10 @@ impl<'l> Words<'l, '_> {
 
     fn u32(&mut self) -> Option<u32> {
         u32::try_from(self.u64()?).ok()
+    }
+
+    fn u8(&mut self) -> Option<u8> {
+        u8::try_from(self.u64()?).ok()
     }
 
     /// A number that may have a `-` before it, if it is decimal.
@@ -189,6 +195,16 @@ fn parse<'t>(line: &[u8], text: &'t mut Vec<u8>) -> Option<Step<'t>> {
         b"out" => Step::Out(w.u64()?),
         b"buffer" => Step::Buffer(w.u64()?),
         b"start" => Step::Start(w.u32()?),
+        b"write_message" => {
+            let interface = w.u8()?;
+            w.text()?;
+            Step::WriteMessage(interface, lacks)
+        }
+        b"read_message" => {
+            let interface = w.u8()?;
+            w.text()?;
+            Step::ReadMessage(interface, lacks)
+        }
         b"read" => {
             let requests = u16::try_from(w.u64()?).ok()?;
             w.text()?;
@@ -242,6 +258,7 @@ fn parse<'t>(line: &[u8], text: &'t mut Vec<u8>) -> Option<Step<'t>> {
         Step::Client(Request::Text(_, text::Request::Utf8 { text: bytes })) => *bytes = text,
         Step::Read(_, texts) => *texts = text,
         Step::Message(message) => *message = text,
+        Step::WriteMessage(_, bytes) | Step::ReadMessage(_, bytes) => *bytes = text,
         Step::Station(Station::AddSeat(Some(name), _) | Station::AddDevice(_, Some(name), ..)) => *name = text,
         Step::Station(Station::Disconnected(_, Some(explanation))) => *explanation = text,
         Step::Station(Station::HasInterface(name) | Station::InterfaceVersion(name)) => *name = text,
@@ -545,6 +562,27 @@ fn write_added(trail: &mut impl Write, kind: &str, answer: Result<(u64, Events),
     }
 }
 
+/// What an event record or its message is turned into.
+fn write_turned(trail: &mut impl Write, kind: &str, answer: Result<&[u8], Refusal>) -> io::Result<()> {
+    match answer {
+        Ok(bytes) => {
+            write!(trail, "{kind} t:")?;
+            write_hexadecimal(trail, bytes)?;
+            writeln!(trail)
+        }
+        Err(refusal) => write_refusal(trail, refusal, &[]),
+    }
+}
+
+/// The interface of an event's object, `Some(None)` for the handshake's; `None` where there is no such one, which this
+/// crate's calls cannot be told: nothing can be sent on it.
+fn interface_of(number: u8) -> Option<Option<Interface>> {
+    match number {
+        0 => Some(None),
+        _ => Interface::from_number(number.into()).map(Some),
+    }
+}
+
 /// What is answered to a question.
 fn write_value(trail: &mut impl Write, answer: Result<String, Refusal>) -> io::Result<()> {
     match answer {
@@ -604,6 +642,18 @@ impl<W: Write> Play<W> {
                     None => EisHandshaker::new(serial, &mut [0; 14]).ok().map(|begun| begun.0),
                 };
                 *stage = handshaker.map_or(Stage::Nothing, |begun| Stage::Handshake(Box::new(begun)));
+            }
+            (Step::WriteMessage(interface, record), _) => {
+                let answer = interface_of(interface)
+                    .ok_or(Refusal::Unsendable)
+                    .and_then(|interface| write_message(interface, record, out));
+                write_turned(trail, "message", answer)?;
+            }
+            (Step::ReadMessage(interface, message), _) => {
+                let answer = interface_of(interface)
+                    .ok_or(Refusal::MalformedEvent)
+                    .and_then(|interface| read_message(interface, message, out));
+                write_turned(trail, "record", answer)?;
             }
             (Step::Client(request), Stage::Handshake(handshaker)) => {
                 let mut response = None;
