@@ -1,14 +1,15 @@
 //! A counter station's loop: a clerk's client keys a token of twenty digits and sends a text, and the station writes
 //! what it is given, frame by frame.
 //!
-//! What the client sends stands here in its place. A station decodes it from its socket, and sends the bytes of the
-//! events there.
+//! What the client sends stands here in its place, as requests; what it is sent are the protocol's bytes. The example
+//! `server` has a socket, and bytes both ways.
 //!
 //!     cargo run --example station
 
 use bozterrun::eis::{device, handshake, keyboard, seat, text, Object, Request};
 use bozterrun::{
-    DeviceCapability, DeviceType, EisHandshaker, EisRequest, EisRequestConverter, Events, Interface, KeyState, Refusal,
+    DeviceCapability, DeviceType, EisHandshaker, EisRequest, EisRequestConverter, Events, Interface, KeyState,
+    MessageWriter, Refusal,
 };
 use std::error::Error;
 use std::io::{self, Write};
@@ -50,23 +51,29 @@ impl Client {
 struct Station<W> {
     converter: EisRequestConverter,
     out: [u8; bozterrun::OUT_LENGTH],
-    /// Bytes that went to the client.
-    sent: usize,
+    sent: Sent,
     lines: W,
 }
 
-/// Sends events to the client.
-fn send(sent: &mut usize, events: Events) {
-    *sent += events.as_bytes().len();
+/// What went to the client: its bytes, and the writer that makes them.
+#[derive(Default)]
+struct Sent {
+    bytes: Vec<u8>,
+    writer: MessageWriter,
+}
+
+impl Sent {
+    /// Sends events to the client, each as its message.
+    fn send(&mut self, events: Events) -> Result<(), Refusal> {
+        self.writer.write(events, &mut self.bytes)
+    }
 }
 
 impl<W: Write> Station<W> {
     /// Takes a request of the client, and acts on all that is then delivered.
     fn receive(&mut self, request: Request, now: u64) -> Result<(), Box<dyn Error>> {
-        send(
-            &mut self.sent,
-            self.converter.handle_request(request, now, &mut self.out)?,
-        );
+        self.sent
+            .send(self.converter.handle_request(request, now, &mut self.out)?)?;
         let mut buffer = [0; bozterrun::TEXT_LENGTH];
         while let Some(request) = self.converter.next_request(&mut buffer)? {
             let connection = self.converter.handle_mut();
@@ -75,11 +82,11 @@ impl<W: Write> Station<W> {
                     writeln!(self.lines, "bind {}", bind.capabilities.bits())?;
                     let kind = DeviceType::Virtual;
                     let added = connection.add_device(bind.seat, None, kind, bind.capabilities, &mut self.out)?;
-                    send(&mut self.sent, added.1);
+                    self.sent.send(added.1)?;
                 }
                 EisRequest::Ready(ready) => {
                     writeln!(self.lines, "ready")?;
-                    send(&mut self.sent, connection.resumed(ready.device, &mut self.out)?);
+                    self.sent.send(connection.resumed(ready.device, &mut self.out)?)?;
                 }
                 EisRequest::KeyboardKey(key) => {
                     let state = if key.state == KeyState::Press { "down" } else { "up" };
@@ -89,7 +96,8 @@ impl<W: Write> Station<W> {
                 EisRequest::Frame(frame) => writeln!(self.lines, "frame at {}", frame.time)?,
                 EisRequest::DeviceClosed(closed) => {
                     writeln!(self.lines, "closed")?;
-                    send(&mut self.sent, connection.remove_device(closed.device, &mut self.out)?);
+                    self.sent
+                        .send(connection.remove_device(closed.device, &mut self.out)?)?;
                 }
                 other => writeln!(self.lines, "other: {other:?}")?,
             }
@@ -99,9 +107,9 @@ impl<W: Write> Station<W> {
 }
 
 /// A handshake of a client that knows every interface, and the session that begins.
-fn shake_hands(sent: &mut usize, out: &mut [u8]) -> Result<EisRequestConverter, Refusal> {
+fn shake_hands(sent: &mut Sent, out: &mut [u8]) -> Result<EisRequestConverter, Refusal> {
     let (mut handshaker, events) = EisHandshaker::new(7, out)?;
-    send(sent, events);
+    sent.send(events)?;
     for interface in Interface::ALL {
         let (name, version) = (interface.name().as_bytes(), interface.version());
         let known = handshake::Request::InterfaceVersion { name, version };
@@ -109,7 +117,7 @@ fn shake_hands(sent: &mut usize, out: &mut [u8]) -> Result<EisRequestConverter, 
     }
     let finish = Request::Handshake(handshake::Request::Finish);
     let (response, events) = handshaker.handle_request(finish, out)?;
-    send(sent, events);
+    sent.send(events)?;
     // Only a Finish that is refused has no response.
     Ok(EisRequestConverter::new(
         response.ok_or(Refusal::MissingInterface { count: 0 })?,
@@ -119,11 +127,11 @@ fn shake_hands(sent: &mut usize, out: &mut [u8]) -> Result<EisRequestConverter, 
 /// The whole of it, written to `lines`.
 pub fn run(lines: impl Write) -> Result<(), Box<dyn Error>> {
     let mut out = [0; bozterrun::OUT_LENGTH];
-    let mut sent = 0;
+    let mut sent = Sent::default();
     let mut converter = shake_hands(&mut sent, &mut out)?;
     let both = DeviceCapability::Keyboard | DeviceCapability::Text;
     let (seat, events) = converter.handle_mut().add_seat(Some(b"counter 3"), both, &mut out)?;
-    send(&mut sent, events);
+    sent.send(events)?;
     let mut station = Station {
         converter,
         out,
@@ -158,7 +166,7 @@ pub fn run(lines: impl Write) -> Result<(), Box<dyn Error>> {
         station.receive(request, client.clock)?;
     }
     station.receive(Request::Device(device, device::Request::Release), client.clock)?;
-    writeln!(station.lines, "{} bytes sent", station.sent)?;
+    writeln!(station.lines, "{} bytes sent", station.sent.bytes.len())?;
     Ok(())
 }
 
