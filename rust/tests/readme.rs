@@ -30,7 +30,8 @@ fn the_station_of_the_readme_serves_a_client() {
     requests.push(Request::Device(device, device::Request::Ready));
     let mut requests = requests.into_iter();
     let mut sent = Vec::new();
-    serve(|| requests.next(), |events| sent.push(events.len()), || 5).expect("nothing is refused");
+    let send = |events: Events| sent.push(events.as_bytes().len());
+    serve(|| requests.next(), send, || 5).expect("nothing is refused");
     sent.retain(|length| *length > 0);
     // The versions of the interfaces and the connection; the seat, its name, two capabilities, done; the device, its
     // type, two interfaces, done; resumed.
