@@ -1,9 +1,9 @@
 /*
- * events [ROUNDS]: event records as messages and back, by bozterrun_write_message and bozterrun_read_message.
+ * events [ROUNDS [STEP]]: event records as messages and back, by bozterrun_write_message and bozterrun_read_message.
  *
  * The bytes of worked lines were written by hand from the scope. Then every kind on every interface, with random
  * fields, has to give the message that the table below says; texts of every length; each byte of a record and of a
- * message with each value; ROUNDS (200000) records and messages that are damaged or random; and what calls write.
+ * message with each STEP-th value; ROUNDS (200000) records and messages that are damaged or random; what calls write.
  *
  * Checked at each call: no read and no write outside the slices (a page behind each that may not be touched, known
  * bytes before it), that what is lent stays as it is, that nothing is written to `out` behind the count, that a refusal
@@ -41,19 +41,20 @@ static uint32_t hand_in(size_t which, uint32_t interface, const uint8_t *lent, s
     memcpy(slice_data(which), lent, size);
     slice_lend(OUT, room);
     with.interface = interface;
-    slices_keep();
+    slice_keep(which);
+    slice_keep(OUT);
     const uint32_t answer = writes ? call_write_message() : call_read_message();
     const size_t most = writes ? BOZTERRUN_EVENT_MESSAGE_LENGTH : BOZTERRUN_EVENT_RECORD_LENGTH;
     const size_t count = number_at(COUNT);
     const uint32_t wrong = writes ? BOZTERRUN_UNSENDABLE : BOZTERRUN_MALFORMED;
     got_length = 0;
     check(answer == BOZTERRUN_ACCEPTED || answer == wrong || answer == BOZTERRUN_SHORT_OUT, "no answer of the call");
-    check(slices_overrun() == SLICES, "written before a slice");
+    check(!slice_overrun(which) && !slice_overrun(OUT), "written before a slice");
+    check(slice_same(which), "what was lent has changed");
     if (answer != BOZTERRUN_ACCEPTED) {
-        check(count == 0 && slices_changed() == SLICES, "a refusal that writes");
+        check(count == 0 && slice_same(OUT), "a refusal that writes");
         return answer;
     }
-    check(slice_same(which), "what was lent has changed");
     if (count == 0 || count > most || count > room) {
         check(false, "the count");
         return answer;
@@ -121,11 +122,21 @@ static void is_message(uint32_t interface, const char *record_digits, const char
     check(got_bytes(record, record_length), "the record");
 }
 
+/* What is refused changes nothing, not even where it was lent nothing: a session beside it stays as it is. */
+static void changes_nothing(size_t which, uint32_t interface, const uint8_t *lent, size_t size)
+{
+    hand_in(which, interface, lent, size, BOZTERRUN_OUT_LENGTH);
+    slices_keep();
+    hand_in(which, interface, lent, size, BOZTERRUN_OUT_LENGTH);
+    check(slices_changed() == SLICES && slices_overrun() == SLICES, "a slice has changed");
+}
+
 static void unsendable(uint32_t interface, const char *digits)
 {
     snprintf(where, sizeof where, "record %.60s on %" PRIu32, digits, interface);
     record_length = from_digits(digits, record);
     check(there_and_back(EVENT, interface, record, record_length) == BOZTERRUN_UNSENDABLE, "it is sent");
+    changes_nothing(EVENT, interface, record, record_length);
 }
 
 static void malformed(uint32_t interface, const char *digits)
@@ -133,6 +144,7 @@ static void malformed(uint32_t interface, const char *digits)
     snprintf(where, sizeof where, "message %.60s on %" PRIu32, digits, interface);
     message_length = from_digits(digits, message);
     check(there_and_back(SENT, interface, message, message_length) == BOZTERRUN_MALFORMED, "it is read");
+    changes_nothing(SENT, interface, message, message_length);
 }
 
 static void try_worked(void)
@@ -377,7 +389,7 @@ static void try_table(void)
         for (uint32_t interface = 0; interface <= 14; interface++) {
             snprintf(where, sizeof where, "kind %" PRIu32 " on %" PRIu32, kind, interface);
             events += has_event(kind, interface);
-            for (unsigned round = 0; round < 100; round++) {
+            for (unsigned round = 0; round < 30; round++) {
                 random_event(kind);
                 put_record();
                 const uint32_t answer = there_and_back(EVENT, interface, record, record_length);
@@ -509,8 +521,9 @@ static void try_texts(void)
 
 /* ---- Damaged and random bytes ---- */
 
-/* Each byte with each value. What is then still accepted comes back as it is: that is asked at every call. */
-static void try_bytes(void)
+/* Each byte with its own value and each STEP-th one behind it. What is then still accepted comes back as it is: that is
+ * asked at every call. */
+static void try_bytes(unsigned step)
 {
     for (uint32_t kind = 1; kind <= 18; kind++) {
         for (uint32_t interface = 0; interface <= 12; interface++) {
@@ -525,8 +538,8 @@ static void try_bytes(void)
             for (size_t at = 0; at < record_length; at++) {
                 snprintf(where, sizeof where, "byte %zu of record %" PRIu32 " on %" PRIu32, at, kind, interface);
                 const uint8_t kept = record[at];
-                for (unsigned value = 0; value < 256; value++) {
-                    record[at] = (uint8_t)value;
+                for (unsigned value = 0; value < 256; value += step) {
+                    record[at] = (uint8_t)(kept + value);
                     there_and_back(EVENT, interface, record, record_length);
                 }
                 record[at] = kept;
@@ -534,10 +547,10 @@ static void try_bytes(void)
             for (size_t at = 0; at < message_length; at++) {
                 snprintf(where, sizeof where, "byte %zu of message %" PRIu32 " on %" PRIu32, at, kind, interface);
                 const uint8_t kept = message[at];
-                for (unsigned value = 0; value < 256; value++) {
-                    message[at] = (uint8_t)value;
+                for (unsigned value = 0; value < 256; value += step) {
+                    message[at] = (uint8_t)(kept + value);
                     const uint32_t answer = there_and_back(SENT, interface, message, message_length);
-                    check(at < 8 || at >= 12 || value == kept || answer == BOZTERRUN_MALFORMED, "another length");
+                    check(at < 8 || at >= 12 || value == 0 || answer == BOZTERRUN_MALFORMED, "another length");
                 }
                 message[at] = kept;
             }
@@ -674,6 +687,11 @@ static void try_session(void)
 int main(int count, char **words)
 {
     const unsigned long rounds = count > 1 ? strtoul(words[1], NULL, 10) : 200000;
+    const unsigned long step = count > 2 ? strtoul(words[2], NULL, 10) : 1;
+    if (count > 3 || step == 0 || step > 255) {
+        fprintf(stderr, "usage: events [ROUNDS [STEP]]\n");
+        return 2;
+    }
     watch();
     alarm(120);
     slices_make();
@@ -684,7 +702,7 @@ int main(int count, char **words)
     try_cuts();
     try_short_out();
     try_texts();
-    try_bytes();
+    try_bytes((unsigned)step);
     try_random(rounds);
     try_session();
     printf("answers to random records: 0:%lu 26:%lu, to random messages: 0:%lu 23:%lu\n", seen[0][0],

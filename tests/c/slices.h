@@ -131,10 +131,15 @@ static void slices_lend(void)
     }
 }
 
+static void slice_keep(size_t which)
+{
+    memcpy(slices[which].kept, slice_data(which), slice_bytes(&slices[which]));
+}
+
 static void slices_keep(void)
 {
     for (size_t i = 0; i < SLICES; i++) {
-        memcpy(slices[i].kept, slice_data(i), slice_bytes(&slices[i]));
+        slice_keep(i);
     }
 }
 
@@ -154,13 +159,19 @@ static size_t slices_changed(void)
     return SLICES;
 }
 
-/* The first slice before which something was written, SLICES where there is none: bytes equal to their neighbours. */
+/* Whether something was written before a slice: bytes equal to their neighbours. */
+static bool slice_overrun(size_t which)
+{
+    const uint8_t *const first = slices[which].first;
+    const size_t before = (size_t)(slice_data(which) - first);
+    return before > 0 && (first[0] != BEFORE_BYTE || memcmp(first, first + 1, before - 1) != 0);
+}
+
+/* The first slice before which something was written, SLICES where there is none. */
 static size_t slices_overrun(void)
 {
     for (size_t i = 0; i < SLICES; i++) {
-        const uint8_t *const first = slices[i].first;
-        const size_t before = (size_t)(slice_data(i) - first);
-        if (before > 0 && (first[0] != BEFORE_BYTE || memcmp(first, first + 1, before - 1) != 0)) {
+        if (slice_overrun(i)) {
             return i;
         }
     }
