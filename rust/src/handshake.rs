@@ -43,7 +43,7 @@ impl fmt::Debug for EisHandshakeResp {
 ///
 /// let mut out = [0; 256];
 /// let (mut handshaker, events) = EisHandshaker::new(7, &mut out)?;
-/// assert_eq!(events.as_bytes().len(), 14); // to be sent
+/// assert_eq!(events.count(), 1); // the handshake's version, to be sent
 ///
 /// // What the client answers. A station decodes it from its socket.
 /// let finish = Request::Handshake(handshake::Request::Finish);
@@ -111,8 +111,8 @@ impl EisHandshaker {
     ///
     /// [`Refusal::NonHandshakeEvent`] for a request that is no handshake's, [`Refusal::DuplicateEvent`],
     /// [`Refusal::BadUtf8`], [`Refusal::NameLong`]; for a Finish [`Refusal::ShortOut`] (206 bytes are enough) and
-    /// [`Refusal::MissingInterface`], which alone writes: send the first `count` bytes of `out` all the same. The
-    /// handshake goes on behind each of them.
+    /// [`Refusal::MissingInterface`], which alone writes: send the events in the first `count` bytes of `out` all the
+    /// same. The handshake goes on behind each of them.
     pub fn handle_request<'o>(
         &mut self,
         request: Request<'_>,

@@ -44,10 +44,10 @@
 //! # Ok::<(), bozterrun::Refusal>(())
 //! ```
 //!
-//! What one wakeup brings can be gathered in a [`Read`] and handed over in one call. Or the station decodes nothing: the
-//! bytes that its client sends go to [`EisHandshaker::pending_request`] and [`EisRequestConverter::pending_request`].
-//! Then it is bytes in and bytes out, as in the example `server`, which serves clients on a Unix socket. A client that
-//! tests a station reads its events with a [`MessageReader`].
+//! What one wakeup brings can be gathered in a [`Read`] and handed over in one call. Or the station decodes nothing:
+//! the bytes that its client sends go to [`EisHandshaker::pending_request`] and
+//! [`EisRequestConverter::pending_request`]. Then it is bytes in and bytes out, as in the example `server`, which
+//! serves clients on a Unix socket. A client that tests a station reads its events with a [`MessageReader`].
 //!
 //! A call that is refused answers a [`Refusal`] and leaves the session as it was. Nothing here panics on what a client
 //! sends, blocks, or locks; memory is allocated once for each session.

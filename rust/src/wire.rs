@@ -82,8 +82,8 @@ pub fn write_message<'o>(interface: Option<Interface>, record: &[u8], out: &'o m
 /// [`Refusal::ShortOut`]. `out` is then as it was.
 pub fn read_message<'o>(interface: Option<Interface>, message: &[u8], out: &'o mut [u8]) -> Result<&'o [u8], Refusal> {
     let mut count = 0;
-    // SAFETY: each pointer is that of a slice or a number that is borrowed for the call, with its length; the message is
-    // only read.
+    // SAFETY: each pointer is that of a slice or a number that is borrowed for the call, with its length; the message
+    // is only read.
     let status = unsafe {
         sys::bozterrun_read_message(
             number(interface),

@@ -219,6 +219,15 @@ fn lines_that_are_no_calls_end_the_trail() {
         "has_capability 5 128",
         "handshake.context_type 0",
         "handshake.context_type 3",
+        "write_message 4",
+        "write_message t:",
+        "write_message 256 t:",
+        "write_message -1 t:",
+        "write_message 4 t:280",
+        "write_message 4 none",
+        "write_message 4 p:0:0",
+        "read_message 256 t:",
+        "read_message 4 t: 1",
     ];
     for line in lines {
         let (trail, stopped) = trail_of(format!("{BEGIN}# a comment\n{line}\nlast_serial\n").as_bytes());
@@ -245,6 +254,27 @@ fn lines_that_are_calls_are_answered() {
         ("text.utf8 5 t:", "accepted"),
         ("out 18446744073709551615\nresumed 5", "refused 12"),
         ("handshake.finish", "refused 1"),
+        (
+            "write_message 4 t:200aff00000000000001",
+            "message t:01000000000000ff1000000003000000",
+        ),
+        (
+            "write_message 0x5 t:200AFF00000000000002",
+            "message t:02000000000000ff1000000006000000",
+        ),
+        ("write_message 1 t:200aff00000000000001", "refused 26"),
+        ("write_message 13 t:200aff00000000000001", "refused 26"),
+        ("write_message 255 t:", "refused 26"),
+        ("out 15\nwrite_message 4 t:200aff00000000000001", "refused 19"),
+        ("out 0\nwrite_message 4 t:", "refused 26"),
+        (
+            "read_message 4 t:01000000000000ff1000000003000000",
+            "record t:200aff00000000000001",
+        ),
+        ("read_message 4 t:01000000000000ff1000000006000000", "refused 23"),
+        ("read_message 255 t:", "refused 23"),
+        ("out 9\nread_message 4 t:01000000000000ff1000000003000000", "refused 19"),
+        ("out 0\nread_message 4 t:", "refused 23"),
     ];
     for (line, answer) in lines {
         let (trail, stopped) = trail_of(format!("{BEGIN}{line}").as_bytes());
@@ -265,6 +295,24 @@ fn calls_before_their_time_end_the_trail() {
         let (trail, stopped) = trail_of(script.as_bytes());
         assert_eq!(stopped, Some(line), "{script:?}");
         assert_eq!(trail.lines().last(), Some(format!("error line {line}").as_str()));
+    }
+}
+
+/// The messages of events ask for no session: they may stand before the first start, and in a handshake, but not in a
+/// read.
+#[test]
+fn messages_of_events_stand_anywhere_but_in_a_read() {
+    let write = "write_message 0 t:800e000000000000000000000001\n";
+    let message = "message t:0000000000000000140000000000000001000000\n";
+    let read = "read_message 0 t:0000000000000000140000000000000001000000\n";
+    let record = "record t:800e000000000000000000000001\n";
+    let started = "accepted | 800e000000000000000000000001\n";
+    let (trail, stopped) = trail_of(format!("{write}start 7\n{read}").as_bytes());
+    assert_eq!((trail, stopped), (format!("{message}{started}{record}"), None));
+    for line in [write, read] {
+        let (trail, stopped) = trail_of(format!("{BEGIN}read 1 t:\n{line}").as_bytes());
+        assert_eq!(stopped, Some(7));
+        assert_eq!(trail.lines().last(), Some("error line 7"));
     }
 }
 
