@@ -3,9 +3,9 @@
 //!     cargo run --example server -- SOCKET [CLIENTS]
 //!
 //! SOCKET is where the socket is made; where a file stands already that is an error. Each client is offered a seat, and
-//! when it binds a device with a keyboard and one for texts. A line is written for each request that is delivered; what
-//! belongs to a frame has its time. A client that breaks the protocol is told why and disconnected, and the next one is
-//! served. With CLIENTS the server ends after so many.
+//! with each Bind it is given a device with a keyboard and one for texts, as far as it asks for them. A line is written
+//! for each request that is delivered; what belongs to a frame has its time. A client that breaks the protocol is told
+//! why and disconnected, and the next one is served. With CLIENTS the server ends after so many.
 
 use bozterrun::{
     DeviceCapability, DeviceType, DisconnectReason, EisHandshaker, EisRequest, EisRequestConverter, Events,
@@ -130,7 +130,7 @@ fn deliver(
     Ok(true)
 }
 
-/// Offers a seat, and takes what the client sends until it leaves.
+/// Offers a seat, and takes what the client sends until it leaves. The clock is in microseconds, from `began` on.
 fn attend(
     client: &mut Client,
     converter: &mut EisRequestConverter,
@@ -167,10 +167,10 @@ fn serve(client: &mut Client, began: Instant, lines: impl Write) -> Result<(), B
     if let Some(refusal) = ended.as_ref().err().and_then(|error| error.downcast_ref::<Refusal>()) {
         let mut out = [0; bozterrun::OUT_LENGTH];
         let (reason, why) = (DisconnectReason::Protocol, refusal.to_string());
-        let events = converter
-            .handle_mut()
-            .disconnected(reason, Some(why.as_bytes()), &mut out)?;
-        client.send(events)?;
+        let connection = converter.handle_mut();
+        let events = connection.disconnected(reason, Some(why.as_bytes()), &mut out)?;
+        // It may have hung up: that it was refused is what counts.
+        let _ = client.send(events);
     }
     ended
 }

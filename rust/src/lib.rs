@@ -50,7 +50,7 @@
 //! serves clients on a Unix socket. A client that tests a station reads its events with a [`MessageReader`].
 //!
 //! A call that is refused answers a [`Refusal`] and leaves the session as it was. Nothing here panics on what a client
-//! sends, blocks, or locks; memory is allocated once for each session.
+//! sends, blocks, or locks; memory is allocated once for each session, and by a [`MessageWriter`] as it needs it.
 
 #![deny(missing_docs)]
 #![deny(unsafe_op_in_unsafe_fn)]

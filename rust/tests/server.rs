@@ -259,7 +259,7 @@ fn break_off(path: &Path, lines: &Lines, number: u64, bytes: &[u8], why: &str) {
 }
 
 /// How many clients `drive` has.
-const CLIENTS: u64 = 12;
+const CLIENTS: u64 = 13;
 
 fn drive(path: &Path, lines: &Lines) {
     work(path, lines, 1);
@@ -304,10 +304,7 @@ fn drive(path: &Path, lines: &Lines) {
     client.send(&[0xff; 40]);
     client.expect_end();
     drop(client);
-    lines.expect(&[
-        "client 8",
-        &format!("gone: {}", "the message is to an object that is not alive"),
-    ]);
+    lines.expect(&["client 8", "gone: the message is to an object that is not alive"]);
     // A Finish too soon: what was negotiated is told all the same.
     let mut client = Client::connect(path, 9);
     client.expect(0, EventKind::HandshakeVersion { version: 1 });
@@ -327,6 +324,12 @@ fn drive(path: &Path, lines: &Lines) {
     client.shake_hands(&message(SEAT, 1, &[4, 0])[..21]);
     drop(client);
     lines.expect(&["client 11", "gone"]);
+    // One that does not wait to be told why.
+    let mut client = Client::connect(path, 12);
+    client.shake_hands(&message(CONNECTION, 9, &[]));
+    drop(client);
+    let why = "the client's message is malformed: opcode '9' invalid for interface 'ei_connection'";
+    lines.expect(&["client 12", &format!("gone: {why}")]);
 
     work(path, lines, CLIENTS);
 }
