@@ -1963,8 +1963,8 @@ static inline bool bz_next_event(const uint8_t *out, size_t count, size_t *at, b
 /*
  * Writes the message of one event record, which is what the client is sent: 284 bytes at most. The record has to be
  * exactly what is lent. `interface` is that of the object that it is on, 0 for the handshake: the comment at the top
- * says how it is known. What a call wrote is sendable on its object, but where a text that the caller gave with the
- * call has a zero byte.
+ * says how it is known. What a call wrote is sendable on its object, but for a text of the caller's own with a zero
+ * byte: give names and explanations without one.
  * Refuses BOZTERRUN_UNSENDABLE, for a wrong length, a kind that the interface lacks, an interface, a reason or a device
  * type that has no such number, a bit set that is zero in every record, and a text that is longer than 254 bytes, no
  * UTF-8, not given, or has a zero byte within; then BOZTERRUN_SHORT_OUT.

@@ -351,25 +351,26 @@ impl Drop for Running {
     }
 }
 
-/// The example beside this test's own program.
-fn example() -> PathBuf {
+/// The example beside this test's own program, where it is built; else says what is left out.
+fn example(what: &str) -> Option<PathBuf> {
     let own = env::current_exe().expect("a program knows where it is");
-    let folder = own
-        .parent()
-        .and_then(Path::parent)
-        .expect("it is in a folder of the target's");
-    folder.join("examples/server")
+    let folder = own.parent().and_then(Path::parent)?;
+    let built = Some(folder.join("examples/server")).filter(|path| path.exists());
+    if built.is_none() {
+        // Written past the harness, which shows nothing of a test that passes.
+        let line = format!("\nleft out, the example server not being built: {what}\n");
+        let _ = io::stderr().write_all(line.as_bytes());
+    }
+    built
 }
 
 #[test]
 fn the_example_serves_one_client_after_another() {
-    if !example().exists() {
-        // Written past the harness, which shows nothing of a test that passes.
-        let _ = io::stderr().write_all(b"\nleft out, the example not being built: the server as a program\n");
+    let Some(example) = example("the server as a program") else {
         return;
-    }
+    };
     let path = place("server");
-    let started = Command::new(example())
+    let started = Command::new(example)
         .args([path.as_os_str(), CLIENTS.to_string().as_ref()])
         .stdout(Stdio::piped())
         .spawn();
@@ -408,9 +409,9 @@ fn the_same_in_a_thread() {
 /// A file that stands where the socket is to be made is left alone.
 #[test]
 fn a_place_that_is_taken_is_an_error() {
-    if !example().exists() {
+    let Some(example) = example("a socket's place that is taken") else {
         return;
-    }
+    };
     let path = place("taken");
     fs::write(&path, "not a socket").expect("the place is empty");
     for (words, status) in [
@@ -418,7 +419,7 @@ fn a_place_that_is_taken_is_an_error() {
         (vec![], 2),
         (vec![path.as_os_str(), "x".as_ref()], 2),
     ] {
-        let ended = Command::new(example())
+        let ended = Command::new(&example)
             .args(words)
             .output()
             .expect("the example can be run");
