@@ -7,8 +7,10 @@
 #[allow(dead_code)]
 #[path = "../examples/play/mod.rs"]
 mod play;
+mod releases;
 
 use play::Stop;
+use releases::without_releases;
 use std::io::{self, Write};
 use std::path::PathBuf;
 use std::process::{Command, Stdio};
@@ -106,18 +108,6 @@ fn releases_are_answered_as_by_hand() {
         assert_eq!(answers.next(), None, "{}", path.display());
     }
     assert!(told > 0, "lines by hand");
-}
-
-/// A script without the releases of seats and interfaces in its sessions: tests/releases.py says why these are not
-/// compared.
-fn without_releases(script: &str) -> String {
-    let mut running = false;
-    let kept = script.lines().filter(|line| {
-        running = (running || *line == "handshake.finish") && !line.starts_with("start ");
-        let verb = line.split(' ').next().unwrap_or("");
-        !(running && verb.ends_with(".release") && verb != "device.release")
-    });
-    kept.fold(String::new(), |script, line| script + line + "\n")
 }
 
 #[test]

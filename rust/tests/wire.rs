@@ -1,6 +1,8 @@
-//! Event records as messages and back. The bytes were written by hand from the scope.
+//! Event records as messages and back. The bytes were written by hand from the scope; with the oracle's folder in
+//! BOZTERRUN_ORACLE what the original sends is compared too.
 
 mod begin;
+mod releases;
 
 use bozterrun::eis::{connection, handshake, keyboard, Object, Request};
 use bozterrun::{
@@ -8,6 +10,9 @@ use bozterrun::{
     EisHandshaker, EisRequestConverter, Event, EventKind, Events, Interface, MessageReader, MessageWriter, Refusal,
     Seat, EVENT_MESSAGE_LENGTH, EVENT_RECORD_LENGTH, OUT_LENGTH,
 };
+use std::io::{self, Write};
+use std::path::PathBuf;
+use std::{env, fs, process, process::Command};
 
 /// Bytes from hexadecimal digits, two for each; spaces are left out.
 fn bytes(digits: &str) -> Vec<u8> {
@@ -503,6 +508,67 @@ fn what_is_gone_is_not_known() {
         reader.push(&bytes(gone));
         assert_eq!(reader.next_event(), Err(Refusal::NoObject));
     }
+}
+
+/// What the original's own proxies and backend send in random sessions: the writer makes the same bytes, by what it
+/// knows of the objects, and they are read as the same records.
+#[test]
+fn the_originals_messages_are_these() {
+    let Some(oracle) = env::var_os("BOZTERRUN_ORACLE").map(PathBuf::from) else {
+        // Written past the harness, which shows nothing of a test that passes.
+        let line = "\nleft out, BOZTERRUN_ORACLE not being set: the original's messages\n";
+        let _ = io::stderr().write_all(line.as_bytes());
+        return;
+    };
+    let path = env::temp_dir().join(format!("bozterrun-wire-{}", process::id()));
+    let mut sent = 0;
+    let profiles = ["mixed", "text", "removal", "frames"];
+    for (seed, profile) in (1..=3).flat_map(|seed| profiles.map(|profile| (seed, profile))) {
+        let mut generator = Command::new(oracle.join("gen.py"));
+        generator
+            .args([&format!("{seed}"), "400", "--profile", profile])
+            .env("PYTHONHASHSEED", "0");
+        let script = generator.output().expect("it can be run").stdout;
+        let script = String::from_utf8(script).expect("a script is ASCII");
+        fs::write(&path, releases::without_releases(&script)).expect("it can be written");
+        let mut program = Command::new(oracle.join("target/release/oracle"));
+        let told = program.arg("--wire").arg(&path).output().expect("it can be run");
+        assert!(told.status.success(), "seed {seed}, {profile}");
+        let mut writer = MessageWriter::new();
+        // `wire INTERFACE t:MESSAGE t:RECORD`, among other lines.
+        for line in String::from_utf8(told.stdout).expect("it is ASCII").lines() {
+            let Some(words) = line.strip_prefix("wire ") else {
+                continue;
+            };
+            let words: Vec<&str> = words.split(' ').collect();
+            let number: u32 = words[0].parse().expect("a number");
+            let (message, record) = (bytes(&words[1][2..]), bytes(&words[2][2..]));
+            let begins = number == 0 && record[0] >> 3 == 16;
+            writer = if begins { MessageWriter::new() } else { writer };
+            // A text with a zero byte is sent by the original, and by nobody here.
+            let text = match record[0] >> 3 {
+                2 => &record[10..],
+                14 => &record[19..],
+                _ => &[],
+            };
+            let (mut written, mut out) = (Vec::new(), [0; EVENT_RECORD_LENGTH]);
+            let answer = writer.write(Events::new(&record), &mut written);
+            let read = read_message(interface(number), &message, &mut out);
+            if text.contains(&0) {
+                assert_eq!(
+                    (answer, read),
+                    (Err(Refusal::Unsendable), Err(Refusal::MalformedEvent)),
+                    "{line}"
+                );
+            } else {
+                assert_eq!((answer, written, read), (Ok(()), message, Ok(&record[..])), "{line}");
+                sent += 1;
+            }
+        }
+    }
+    let _ = fs::remove_file(&path);
+    println!("{sent} messages");
+    assert!(sent > 1000, "{sent} messages");
 }
 
 /// Damaged bytes: nothing panics, and what is read is written again as it was.
