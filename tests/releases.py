@@ -6,7 +6,8 @@ script, and all the rest of it is compared, where whole sessions would be lost o
 the scripts of tests/released: up to the first release of a session their trail is the oracle's, from there on every line is by hand (`expected`). A
 release during the handshake is refused there, like any other request, and stays. So does a device's release, which only tells the station.
 
-A client's bytes (`message`) are a call that the crate's program has not: from the first of a session or of a handshake on every line is by hand too.
+A client's bytes (`message`) are a call that the crate's program has not: from the first of a session or of a handshake on every line is by hand too. So are
+an event's record and message (`write_message`, `read_message`), which change nothing: their own lines are by hand, and no others.
 """
 import glob
 import os
@@ -14,6 +15,7 @@ import sys
 
 HERE = os.path.dirname(os.path.abspath(__file__))
 RELEASES = {f"{name}.release" for name in ("seat", "pointer", "pointer_absolute", "scroll", "button", "keyboard", "touchscreen", "text")}
+EVENTS = ("write_message", "read_message")
 SETTINGS = ("now", "out", "buffer")
 
 
@@ -23,6 +25,10 @@ def is_call(line):
 
 def is_release(line):
     return line.split(" ")[0] in RELEASES
+
+
+def is_event(line):
+    return line.split(" ")[0] in EVENTS
 
 
 def marked(lines):
@@ -53,18 +59,22 @@ def without(script):
 
 
 def expected(lines, trail):
-    """The trail that a script has to have, of the oracle's and the script's lines by hand; and how many these are."""
+    """The trail that a script has to have, of the oracle's and the script's lines by hand; and how many these are. The oracle's has no line of an event."""
     calls, hand = [], {}
     for line, released in marked(lines):
         if line.startswith("#= "):
             hand[len(calls) - 1] = line[3:]
         elif is_call(line):
             calls.append((line, released))
-    if len(calls) != len(trail):
-        sys.exit(f"{lines[0]}\n{len(trail)} lines for {len(calls)} calls")
+    played = sum(not is_event(call) for call, _ in calls)
+    if played != len(trail):
+        sys.exit(f"{lines[0]}\n{len(trail)} lines for {played} calls")
+    theirs, wanted = iter(trail), []
     for place, (call, released) in enumerate(calls):
-        if released and place not in hand:
-            sys.exit(f"{lines[0]}\ncall {place + 1}, {call}: no line by hand, though a release is above")
-        if not released and hand.get(place, trail[place]) != trail[place]:
-            sys.exit(f"{lines[0]}\ncall {place + 1}, {call}: by hand {hand[place]}, the oracle {trail[place]}")
-    return [hand[place] if released else trail[place] for place, (_, released) in enumerate(calls)], len(hand)
+        answer = hand.get(place) if is_event(call) else next(theirs)
+        if (released or is_event(call)) and place not in hand:
+            sys.exit(f"{lines[0]}\ncall {place + 1}, {call}: no line by hand, though it is an event's or a release is above")
+        if not released and hand.get(place, answer) != answer:
+            sys.exit(f"{lines[0]}\ncall {place + 1}, {call}: by hand {hand[place]}, the oracle {answer}")
+        wanted.append(hand[place] if released else answer)
+    return wanted, len(hand)

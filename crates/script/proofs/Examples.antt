@@ -8,7 +8,7 @@ use lib.Ieee.{nan, fin, inf}
 use lib.IntN.{pos, negsuc}
 use lib.ListN.{length}
 use Rattle.script.specs.declared.line.LineEnd.{LineEnd}
-use Rattle.script.specs.declared.verb.Verb.the-variants.{Now, Out, Start, HandshakeInterfaceVersion, HandshakeFinish, SeatBind, KeyboardKey, ScrollScrollDiscrete, PointerMotionRelative, TextUtf8, AddSeat, AddDevice, Disconnected, HasCapability, Read, Message}
+use Rattle.script.specs.declared.verb.Verb.the-variants.{Now, Out, Start, HandshakeInterfaceVersion, HandshakeFinish, SeatBind, KeyboardKey, ScrollScrollDiscrete, PointerMotionRelative, TextUtf8, AddSeat, AddDevice, Disconnected, HasCapability, Read, Message, WriteMessage, ReadMessage}
 use Rattle.eiproto.specs.Interface.{ascii}
 use Rattle.script.specs.Words.{words}
 use Rattle.script.specs.Verbs.{table}
@@ -22,8 +22,8 @@ read s = reading false (ascii s)
 abbrev record-of : String → Reading
 record-of s = reading true (ascii s)
 
--- three settings and 53 calls
-rows : length table ≡ 57
+-- three settings and 56 calls
+rows : length table ≡ 59
 unfolding table
 rows = refl
 
@@ -97,6 +97,20 @@ reads = refl
 message : read "message t:0100" ≡ call Message (text (1 ∷ 0 ∷ []) ∷ [])
 unfolding reading ascii
 message = refl
+
+-- an event's record and its message, for an interface below 256
+write-message : read "write_message 255 t:01" ≡ call WriteMessage (number32 255 ∷ text (1 ∷ []) ∷ [])
+unfolding reading ascii
+write-message = refl
+
+read-message : read "read_message 0 t:" ≡ call ReadMessage (number32 0 ∷ text [] ∷ [])
+unfolding reading ascii
+read-message = refl
+
+no-interface : map read ("write_message 256 t:01" ∷ "read_message 0x100 t:" ∷ "write_message 5" ∷ "read_message t:" ∷ "write_message 5 01" ∷ "read_message 5 none" ∷ [])
+    ≡ noCall ∷ noCall ∷ noCall ∷ noCall ∷ noCall ∷ noCall ∷ []
+unfolding reading ascii
+no-interface = refl
 
 part : record-of "text.utf8 1 p:0x2:18446744073709551615" ≡ call TextUtf8 (number64 1 ∷ textPart 2 (2 ^ 64 - 1) ∷ [])
 unfolding reading ascii

@@ -140,7 +140,7 @@ in-turn zero (a ∷ b ∷ ks) = omega arith
 in-turn (suc k) [] = omega arith
 in-turn (suc k) (a ∷ ks) = in-turn k ks
 
-pub row-split : (i : ℕ) (r : Bool) → i < 57 → kindsOf r (rowAt i) ≡ present (slotAt 0 (kindsOf r (rowAt i))) ++ from1 (kindsOf r (rowAt i))
+pub row-split : (i : ℕ) (r : Bool) → i < 59 → kindsOf r (rowAt i) ≡ present (slotAt 0 (kindsOf r (rowAt i))) ++ from1 (kindsOf r (rowAt i))
 row-split i r h = split (kindsOf r (rowAt i)) (row-kinds i h r)
 
 module _ (line : List ℕ) (at : ℕ) where
@@ -163,7 +163,7 @@ found-below n (x ∷ es) w i e = go (sameBytes (x .name) w) e (λ f. found-below
     go true e f = let z : i ≡ n = cc in omega arith
     go false e f = omega (arith, f e)
 
-pub row-below : (w : List ℕ) (i : ℕ) → some i ≡ lookup w → i < 57
+pub row-below : (w : List ℕ) (i : ℕ) → some i ≡ lookup w → i < 59
 unfolding lookup table
 row-below w i e = omega (arith, found-below 0 table w i e)
 

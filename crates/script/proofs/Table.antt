@@ -13,7 +13,7 @@ use lib.Seq.{drop-cons, drop-append-add, take-append-le, take-at, getD-drop, get
 use Rattle.script.specs.declared.verb.Verb.{Verb}
 use Rattle.script.specs.declared.verb.Verb.the-variants.{Now}
 use Rattle.script.specs.declared.verb.Kind.{Kind}
-use Rattle.script.specs.declared.verb.Kind.the-variants.{U64, U32, I32, F32, Text, OptionalText, State, TypeNumber, Reason, Capability, Count, Part}
+use Rattle.script.specs.declared.verb.Kind.the-variants.{U64, U32, I32, F32, Text, OptionalText, State, TypeNumber, Reason, Capability, Count, Part, Interface}
 use Rattle.script.specs.declared.verb.Slot.the-variants.{Empty, Of}
 use Rattle.eiproto.specs.Interface.{sameBytes}
 use Rattle.script.specs.Words.{before}
@@ -83,7 +83,7 @@ lines-drop (e ∷ es) d (suc i) t h =
     ap (λ (m : ℕ). drop m (line e ++ lines es)) n ∙ drop-append-add (line e) (lines es) (i * 37)
     ∙ lines-drop es d i (b .1) (omega arith)
 
-module _ (i : ℕ) (h : i < 57) where
+module _ (i : ℕ) (h : i < 59) where
   row-fits : fits (rowAt i) ≡ true
   unfolding rowAt
   row-fits = at fits table (row "" Now []) tested i h
@@ -124,6 +124,7 @@ slot-letter Reason = refl
 slot-letter Capability = refl
 slot-letter Count = refl
 slot-letter Part = refl
+slot-letter Interface = refl
 
 slot-space : slotOf 0x20 ≡ Empty
 unfolding slotOf
@@ -134,7 +135,7 @@ letters [] m p h = ap slotOf (getD-replicate {A = ℕ} m p 0x20 0 (omega arith))
 letters (k ∷ ks) m zero h = slot-letter k
 letters (k ∷ ks) m (suc p) h = letters ks m p (omega arith)
 
-module _ (i p : ℕ) (h : i < 57) (k : p < 4) where
+module _ (i p : ℕ) (h : i < 59) (k : p < 4) where
   pub slot-in-row : slotOf (getD (lines table) (i * 37 + 33 + p) 0) ≡ slotAt p (rowAt i .kinds)
   unfolding line padded slotAt
   slot-in-row =
@@ -181,7 +182,7 @@ getD-any [] i d e h = absurd (omega arith)
 getD-any (x ∷ l) zero d e h = refl
 getD-any (x ∷ l) (suc i) d e h = getD-any l i d e (omega arith)
 
-pub verb-of : (d : Verb) (i : ℕ) → i < 57 → getD (map (λ (e : Entry). e .verb) table) i d ≡ rowAt i .verb
+pub verb-of : (d : Verb) (i : ℕ) → i < 59 → getD (map (λ (e : Entry). e .verb) table) i d ≡ rowAt i .verb
 unfolding rowAt
 verb-of d i h =
     getD-any (map (λ (e : Entry). e .verb) table) i d Now h ∙ List·getD-map (λ (e : Entry). e .verb) table i (row "" Now [])
@@ -193,14 +194,14 @@ unfolding lookup
 look-start word = refl
 
 module _ (word : List ℕ) (i : ℕ) where
-  pub look-hit : i < 57 → true ≡ sameBytes (rowAt i .name) word → some i ≡ lookupFrom i (drop i table) word
+  pub look-hit : i < 59 → true ≡ sameBytes (rowAt i .name) word → some i ≡ lookupFrom i (drop i table) word
   unfolding lookupFrom rowAt
   look-hit h e = rw (drop-cons table i (row "" Now []) h, ← e)
 
-  pub look-miss : i < 57 → false ≡ sameBytes (rowAt i .name) word → lookupFrom i (drop i table) word ≡ lookupFrom (i + 1) (drop (i + 1) table) word
+  pub look-miss : i < 59 → false ≡ sameBytes (rowAt i .name) word → lookupFrom i (drop i table) word ≡ lookupFrom (i + 1) (drop (i + 1) table) word
   unfolding lookupFrom rowAt
   look-miss h e = rw (drop-cons table i (row "" Now []) h, ← e, add-one)
 
-  pub look-end : 57 ≤ i → none ≡ lookupFrom i (drop i table) word
+  pub look-end : 59 ≤ i → none ≡ lookupFrom i (drop i table) word
   unfolding lookupFrom table
   look-end h = rw (drop-of-length-le table h)

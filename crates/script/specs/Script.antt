@@ -78,6 +78,7 @@ readAs Kind.Reason w = unsignedOf number32 (within 0 5) w
 readAs Kind.Capability w = unsignedOf number64 oneOfSeven w
 readAs Kind.Count w = unsignedOf number32 (within 0 65535) w
 readAs Kind.Part w = partOf w
+readAs Kind.Interface w = unsignedOf number32 (within 0 255) w
 
 -- what stands behind what was read
 abbrev pub behind : List Arg → Option (List Arg) → Option (List Arg)

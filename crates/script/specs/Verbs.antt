@@ -7,9 +7,9 @@ use mathlib.Core.Option.{Option, none, some}
 use lib.Dec.{eqb}
 use lib.ListN.{getD, length, replicate}
 use Rattle.script.specs.declared.verb.Verb.{Verb}
-use Rattle.script.specs.declared.verb.Verb.the-variants.{Now, Out, Buffer, Start, HandshakeHandshakeVersion, HandshakeName, HandshakeContextType, HandshakeInterfaceVersion, HandshakeFinish, ConnectionSync, ConnectionDisconnect, PingpongDone, SeatRelease, SeatBind, SeatRequestDevice, DeviceRelease, DeviceStartEmulating, DeviceStopEmulating, DeviceFrame, DeviceReady, PointerRelease, PointerMotionRelative, PointerAbsoluteRelease, PointerAbsoluteMotionAbsolute, ScrollRelease, ScrollScroll, ScrollScrollDiscrete, ScrollScrollStop, ButtonRelease, ButtonButton, KeyboardRelease, KeyboardKey, TouchscreenRelease, TouchscreenDown, TouchscreenMotion, TouchscreenUp, TouchscreenCancel, TextRelease, TextKeysym, TextUtf8, NextRequest, AddSeat, AddDevice, RemoveSeat, RemoveDevice, Resumed, Paused, StartEmulating, StopEmulating, Frame, Disconnected, LastSerial, HasInterface, InterfaceVersion, HasCapability, Read, Message}
+use Rattle.script.specs.declared.verb.Verb.the-variants.{Now, Out, Buffer, Start, HandshakeHandshakeVersion, HandshakeName, HandshakeContextType, HandshakeInterfaceVersion, HandshakeFinish, ConnectionSync, ConnectionDisconnect, PingpongDone, SeatRelease, SeatBind, SeatRequestDevice, DeviceRelease, DeviceStartEmulating, DeviceStopEmulating, DeviceFrame, DeviceReady, PointerRelease, PointerMotionRelative, PointerAbsoluteRelease, PointerAbsoluteMotionAbsolute, ScrollRelease, ScrollScroll, ScrollScrollDiscrete, ScrollScrollStop, ButtonRelease, ButtonButton, KeyboardRelease, KeyboardKey, TouchscreenRelease, TouchscreenDown, TouchscreenMotion, TouchscreenUp, TouchscreenCancel, TextRelease, TextKeysym, TextUtf8, NextRequest, AddSeat, AddDevice, RemoveSeat, RemoveDevice, Resumed, Paused, StartEmulating, StopEmulating, Frame, Disconnected, LastSerial, HasInterface, InterfaceVersion, HasCapability, Read, Message, WriteMessage, ReadMessage}
 use Rattle.script.specs.declared.verb.Kind.{Kind}
-use Rattle.script.specs.declared.verb.Kind.the-variants.{U64, U32, I32, F32, Text, OptionalText, State, TypeNumber, Reason, Capability, Count, Part}
+use Rattle.script.specs.declared.verb.Kind.the-variants.{U64, U32, I32, F32, Text, OptionalText, State, TypeNumber, Reason, Capability, Count, Part, Interface}
 use Rattle.script.specs.declared.verb.Slot.{Slot}
 use Rattle.script.specs.declared.verb.Slot.the-variants.{Empty, Of}
 use Rattle.script.specs.declared.verb.Found.{Found}
@@ -92,6 +92,8 @@ calls =
     ∷ row "has_capability" HasCapability (U64 ∷ Capability ∷ [])
     ∷ row "read" Read (Count ∷ Text ∷ [])
     ∷ row "message" Message (Text ∷ [])
+    ∷ row "write_message" WriteMessage (Interface ∷ Text ∷ [])
+    ∷ row "read_message" ReadMessage (Interface ∷ Text ∷ [])
     ∷ []
 
 unfoldable pub table : List Entry
@@ -118,6 +120,7 @@ kindIn true Reason = Reason
 kindIn true Capability = Capability
 kindIn true Count = Count
 kindIn true Part = Part
+kindIn true Interface = Interface
 
 -- what the words behind the first are, in a read or outside of one
 abbrev pub kindsOf : (inRead : Bool) → Entry → List Kind
@@ -162,9 +165,10 @@ letter Reason = 0x72
 letter Capability = 0x6d
 letter Count = 0x6e
 letter Part = 0x70
+letter Interface = 0x65
 
 abbrev pub kinds : List Kind
-kinds = U64 ∷ U32 ∷ I32 ∷ F32 ∷ Text ∷ OptionalText ∷ State ∷ TypeNumber ∷ Reason ∷ Capability ∷ Count ∷ Part ∷ []
+kinds = U64 ∷ U32 ∷ I32 ∷ F32 ∷ Text ∷ OptionalText ∷ State ∷ TypeNumber ∷ Reason ∷ Capability ∷ Count ∷ Part ∷ Interface ∷ []
 
 -- the kind of the list that has the letter, and nothing where there is none
 abbrev pub slotIn : List Kind → ℕ → Slot

@@ -78,7 +78,7 @@ fn read_slot(line: &[u8], at: usize, slot: Slot) -> Step
 
 // The words behind the first, which ends at a place, for the row of that.
 fn read_args(line: &[u8], at: usize, i: usize, within: bool) -> Read
-    requires { ⌜ (at ≤ length (now line)) × (i < 57) ⌝ }
+    requires { ⌜ (at ≤ length (now line)) × (i < 59) ⌝ }
     ensures { λ r. ⌜ Given (now (line .entry)) at i within r ⌝ }
 {
     let Step::Read { value: a, next: p } = read_slot(line, at, verb::slot_at(i, 0, within)) else {

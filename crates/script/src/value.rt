@@ -180,6 +180,7 @@ pub fn read(line: &[u8], from: usize, end: usize, kind: Kind) -> Word
         Kind::Capability => capability(&line[from..end]),
         Kind::Count => unsigned32(&line[from..end], 0, 65535),
         Kind::Part => part_of_texts(&line[from..end]),
+        Kind::Interface => unsigned32(&line[from..end], 0, 255),
     }
 }
 

@@ -64,6 +64,8 @@ pub enum Verb {
     HasCapability,
     Read,
     Message,
+    WriteMessage,
+    ReadMessage,
 }
 
 // What a word is read as.
@@ -87,6 +89,8 @@ pub enum Kind {
     Count,
     // A part of a read's texts.
     Part,
+    // The number of an interface.
+    Interface,
 }
 
 // One of the four places for a word behind the first.
@@ -96,7 +100,7 @@ pub enum Slot {
 }
 
 // A row for each first word, the settings first: 33 bytes for the word, and a letter for each word behind it.
-const ROWS: [u8; 2109] = *b"now                              q   \
+const ROWS: [u8; 2183] = *b"now                              q   \
     out                              q   \
     buffer                           q   \
     start                            u   \
@@ -152,9 +156,11 @@ const ROWS: [u8; 2109] = *b"now                              q   \
     interface_version                t   \
     has_capability                   qm  \
     read                             nt  \
-    message                          t   ";
+    message                          t   \
+    write_message                    et  \
+    read_message                     et  ";
 
-const VERBS: [Verb; 57] = [
+const VERBS: [Verb; 59] = [
     Verb::Now,
     Verb::Out,
     Verb::Buffer,
@@ -212,6 +218,8 @@ const VERBS: [Verb; 57] = [
     Verb::HasCapability,
     Verb::Read,
     Verb::Message,
+    Verb::WriteMessage,
+    Verb::ReadMessage,
 ];
 
 // The row of a first word, counted from 0.
@@ -222,7 +230,7 @@ pub enum Found {
 
 // Whether the row is that of the word.
 fn is_verb(i: usize, word: &[u8]) -> bool
-    requires { ⌜ i < 57 ⌝ }
+    requires { ⌜ i < 59 ⌝ }
     ensures { λ r. ⌜ r ≡ sameBytes (rowAt i .name) (now (word .entry)) ⌝ }
 {
     let rows = ROWS;
@@ -238,7 +246,7 @@ pub fn find(word: &[u8]) -> Found
     ensures { λ r. ⌜ numberFound r ≡ lookup (now (word .entry)) ⌝ }
 {
     let mut i: usize = 0;
-    while i < 57 {
+    while i < 59 {
         if is_verb(i, word) {
             return Found::Row(i);
         }
@@ -248,7 +256,7 @@ pub fn find(word: &[u8]) -> Found
 }
 
 pub fn verb_at(i: usize) -> Verb
-    requires { ⌜ i < 57 ⌝ }
+    requires { ⌜ i < 59 ⌝ }
     ensures { λ r. ⌜ r ≡ rowAt i .verb ⌝ }
 {
     VERBS[i]
@@ -271,6 +279,7 @@ fn slot_of(letter: u8) -> Slot
         b'm' => Slot::Of(Kind::Capability),
         b'n' => Slot::Of(Kind::Count),
         b'p' => Slot::Of(Kind::Part),
+        b'e' => Slot::Of(Kind::Interface),
         _ => Slot::Empty,
     }
 }
@@ -298,7 +307,7 @@ fn slot_in(slot: Slot, within: bool) -> Slot
 
 // What the word at a place behind the first is read as, in a read or outside of one.
 pub fn slot_at(i: usize, place: usize, within: bool) -> Slot
-    requires { ⌜ (i < 57) × (place < 4) ⌝ }
+    requires { ⌜ (i < 59) × (place < 4) ⌝ }
     ensures { λ r. ⌜ r ≡ slotAt place (kindsOf within (rowAt i)) ⌝ }
 {
     slot_in(slot_of(ROWS[i * 37 + 33 + place]), within)

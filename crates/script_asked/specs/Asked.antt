@@ -33,6 +33,7 @@ use Rattle.script_asked.specs.declared.Add.{Add}
 use Rattle.script_asked.specs.declared.Remove.{Remove}
 use Rattle.script_asked.specs.declared.Tell.{Tell}
 use Rattle.script_asked.specs.declared.Ask.{Ask}
+use Rattle.script_asked.specs.declared.Event.{Event}
 use Rattle.script_asked.specs.declared.Station.{Station}
 use Rattle.script_asked.specs.declared.Words.{Words}
 use Rattle.script_asked.specs.declared.Asked.{Asked}
@@ -164,6 +165,8 @@ told Verb.InterfaceVersion w = Asked.Station (Station.Ask Ask.InterfaceVersion)
 told Verb.HasCapability w = Asked.Station (Station.Ask (Ask.HasCapability (w .a64) (w .capability)))
 told Verb.Read w = Asked.Read (w .a32)
 told Verb.Message w = Asked.Message
+told Verb.WriteMessage w = Asked.Event (Event.Write (w .a32))
+told Verb.ReadMessage w = Asked.Event (Event.Read (w .a32))
 
 -- WHAT A LINE ASKS FOR
 unfoldable pub asked : Verb → Args → Asked

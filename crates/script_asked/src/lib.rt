@@ -68,6 +68,12 @@ pub enum Ask {
     },
 }
 
+// An event's record written as its message, or read from it, on an interface of this number. The bytes are lent beside it.
+pub enum Event {
+    Write { interface: u32 },
+    Read { interface: u32 },
+}
+
 // A call of the station. The calls stand in groups that are lent the same slices to be changed.
 pub enum Station {
     Add(Add),
@@ -95,6 +101,7 @@ pub enum Asked {
     Read(u32),
     // The first message of the bytes that are lent beside it.
     Message,
+    Event(Event),
 }
 
 // A press state, a device's type, a reason and a capability. A line that has another value is no call.
@@ -473,6 +480,8 @@ fn told(verb: Verb, w: Words) -> Asked
         })),
         Verb::Read => Asked::Read(w.a32),
         Verb::Message => Asked::Message,
+        Verb::WriteMessage => Asked::Event(Event::Write { interface: w.a32 }),
+        Verb::ReadMessage => Asked::Event(Event::Read { interface: w.a32 }),
     }
 }
 

@@ -130,6 +130,7 @@ refusalPatterns =
     ∷ "refused $ (malformed)"
     ∷ "refused $ (no object)"
     ∷ "refused $ (invalid id)"
+    ∷ "refused $ (unsendable)"
     ∷ []
 
 -- an event record in words, from kind 1 on; 0 is no kind
@@ -194,8 +195,15 @@ malformedPatterns =
     ∷ "refused $ InvalidNull (malformed)"
     ∷ []
 
+-- an event's message, and its record
+abbrev eventPatterns : List String
+eventPatterns =
+    "message t:%"
+    ∷ "record t:%"
+    ∷ []
+
 unfoldable pub patterns : List String
-patterns = requestPatterns ++ (outcomePatterns ++ (refusalPatterns ++ (recordPatterns ++ (linePatterns ++ (readPatterns ++ (messagePatterns ++ malformedPatterns))))))
+patterns = requestPatterns ++ (outcomePatterns ++ (refusalPatterns ++ (recordPatterns ++ (linePatterns ++ (readPatterns ++ (messagePatterns ++ (malformedPatterns ++ eventPatterns)))))))
 
 -- where each group begins
 abbrev pub firstOutcome : ℕ
@@ -205,22 +213,25 @@ abbrev pub firstRefusal : ℕ
 firstRefusal = 30
 
 abbrev pub firstRecord : ℕ
-firstRecord = 56
+firstRecord = 57
 
 abbrev pub firstLine : ℕ
-firstLine = 75
+firstLine = 76
 
 abbrev pub firstRead : ℕ
-firstRead = 78
+firstRead = 79
 
 abbrev pub firstMessage : ℕ
-firstMessage = 79
+firstMessage = 80
 
 abbrev pub firstMalformed : ℕ
-firstMalformed = 81
+firstMalformed = 82
+
+abbrev pub firstEvent : ℕ
+firstEvent = 96
 
 abbrev pub patternCount : ℕ
-patternCount = 95
+patternCount = 98
 
 -- the pattern of a number; past the table, none
 unfoldable pub patternAt : ℕ → List ℕ

@@ -16,23 +16,25 @@ pub struct Shown {
     pub e: u64,
 }
 
-// Where a group of patterns begins: outcomes, refusals by number, records by kind, other lines, reads, messages, malformed ones.
+// Where a group of patterns begins: outcomes, refusals by number, records by kind, other lines, reads, messages, malformed ones, events.
 pub const OUTCOME: usize = 23;
 
 pub const REFUSAL: usize = 30;
 
-pub const RECORD: usize = 56;
+pub const RECORD: usize = 57;
 
-pub const LINE: usize = 75;
+pub const LINE: usize = 76;
 
-pub const READ: usize = 78;
+pub const READ: usize = 79;
 
-pub const MESSAGE: usize = 79;
+pub const MESSAGE: usize = 80;
 
-pub const MALFORMED: usize = 81;
+pub const MALFORMED: usize = 82;
+
+pub const EVENT: usize = 96;
 
 // A pattern in 66 bytes.
-const ROWS: [u8; 6270] = *b"Disconnect........................................................\
+const ROWS: [u8; 6468] = *b"Disconnect........................................................\
     Bind seat=# capabilities=$........................................\
     DeviceClosed device=#.............................................\
     RequestDevice seat=# capabilities=$...............................\
@@ -88,6 +90,7 @@ const ROWS: [u8; 6270] = *b"Disconnect..........................................
     refused $ (malformed).............................................\
     refused $ (no object).............................................\
     refused $ (invalid id)............................................\
+    refused $ (unsendable)............................................\
     unknown record....................................................\
     seat # version $..................................................\
     name \"*\"..........................................................\
@@ -126,7 +129,9 @@ const ROWS: [u8; 6270] = *b"Disconnect..........................................
     refused $ InvalidVariant $ (malformed)............................\
     refused $ HeaderLength $ (malformed)..............................\
     refused $ MessageLength $ $ (malformed)...........................\
-    refused $ InvalidNull (malformed).................................";
+    refused $ InvalidNull (malformed).................................\
+    message t:%.......................................................\
+    record t:%........................................................";
 
 // A pattern with one value or none.
 pub fn single(pattern: usize, a: u64) -> Shown
@@ -158,7 +163,7 @@ fn value(s: Shown, place: usize) -> u64
 
 // The byte at a place of a pattern's row.
 fn byte_of(pattern: usize, place: usize) -> u8
-    requires { ⌜ (pattern < 95) × (place < 66) ⌝ }
+    requires { ⌜ (pattern < 98) × (place < 66) ⌝ }
     ensures { λ r. ⌜ r ≡ getD (padded (patternAt pattern)) place 0 ⌝ }
 {
     ROWS[pattern * 66 + place]
@@ -169,7 +174,7 @@ pub fn show(line: &mut [u8], at: usize, s: Shown, text: &[u8]) -> usize
     ensures { λ r. ⌜ Puts line at r (bytesOf s (now (text .entry))) ⌝ }
 {
     let pattern = s.pattern;
-    if 95 <= pattern {
+    if 98 <= pattern {
         return at;
     }
     let mut next = at;

@@ -18,6 +18,10 @@ fn is_quiet(told: Told) -> bool {
         } => false,
         Told::Received(_) => false,
         Told::ShakenBy(_) => false,
+        Told::Turned {
+            event: _,
+            written: _,
+        } => false,
     }
 }
 

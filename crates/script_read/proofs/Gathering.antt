@@ -31,7 +31,7 @@ use Rattle.script.specs.Text.{Copied}
 use Rattle.script_run.specs.declared.call.Run.{Run}
 use Rattle.script_run.specs.declared.call.Why.{Why}
 use Rattle.script_run.specs.declared.call.Told.{Told}
-use Rattle.script_run.specs.declared.record.Record.{Record}
+use Rattle.script_record.specs.declared.Record.{Record}
 use Rattle.script_run.proofs.call.Told.{the-type}
 use Rattle.script_run.proofs.Doings.{text-lent}
 use Rattle.script_run.specs.Take.{quiet, noCall, counted}
@@ -157,13 +157,13 @@ pub begins-as : {run : Run} {m n : ℕ} {line : List ℕ} {s e : Store} {out lat
 begins-as p h = rw p at h
 
 -- the tags are those of the arm that begins none
-pub not-begun : (t : Told) → OneOf (0 ∷ 1 ∷ 2 ∷ 3 ∷ 4 ∷ arms.run 6 4) (tagOf the-type t) → (n : ℕ) → t ≡ Told.Begun n → ⊥
-not-begun t o n e = go (subst (λ (x : Told). OneOf (0 ∷ 1 ∷ 2 ∷ 3 ∷ 4 ∷ arms.run 6 4) (tagOf the-type x)) e o)
+pub not-begun : (t : Told) → OneOf (0 ∷ 1 ∷ 2 ∷ 3 ∷ 4 ∷ arms.run 6 5) (tagOf the-type t) → (n : ℕ) → t ≡ Told.Begun n → ⊥
+not-begun t o n e = go (subst (λ (x : Told). OneOf (0 ∷ 1 ∷ 2 ∷ 3 ∷ 4 ∷ arms.run 6 5) (tagOf the-type x)) e o)
   where
-    go : OneOf (0 ∷ 1 ∷ 2 ∷ 3 ∷ 4 ∷ arms.run 6 4) (tagOf the-type (Told.Begun n)) → ⊥
+    go : OneOf (0 ∷ 1 ∷ 2 ∷ 3 ∷ 4 ∷ arms.run 6 5) (tagOf the-type (Told.Begun n)) → ⊥
     go (inl e) = omega (arith, e)
     go (inr (inl e)) = omega (arith, e)
     go (inr (inr (inl e))) = omega (arith, e)
     go (inr (inr (inr (inl e)))) = omega (arith, e)
     go (inr (inr (inr (inr (inl e))))) = omega (arith, e)
-    go (inr (inr (inr (inr (inr o))))) = omega (arith, among 6 4 5 o .0)
+    go (inr (inr (inr (inr (inr o))))) = omega (arith, among 6 5 5 o .0)

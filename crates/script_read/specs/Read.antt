@@ -24,10 +24,10 @@ use Rattle.script_run.specs.declared.call.Run.{Run}
 use Rattle.script_run.specs.declared.call.Why.{Why}
 use Rattle.script_run.specs.declared.call.Told.{Told}
 use Rattle.script_run.specs.declared.call.Took.{Took}
-use Rattle.script_run.specs.declared.record.Record.{Record}
+use Rattle.script_record.specs.declared.Record.{Record}
 use Rattle.script_run.specs.Take.{quiet, noCall, counted}
 use Rattle.script_run.specs.Take as lines
-use Rattle.script_run.specs.Record.{Records, callText}
+use Rattle.script_record.specs.Record.{Records, callText}
 use Rattle.script_read.specs.declared.Reading.{Reading}
 use Rattle.script_read.specs.declared.Taken.{Taken}
 

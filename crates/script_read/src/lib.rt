@@ -8,7 +8,7 @@ use reads::ReadAnswer;
 use reads::record::RequestRecord;
 use requests::eis::Request;
 use script::Part;
-use script_run::Record;
+use script_record::Record;
 use script_run::Run;
 use script_run::Told;
 use script_run::Took;
@@ -194,7 +194,7 @@ fn go_on(
     ensures { λ r. ⌜ GoesOnLent run reading cut line control words reals texts records points lent out r ⌝ }
 {
     let here = script_run::counted(run);
-    match script_run::record_in(line, cut) {
+    match script_record::record_in(line, cut) {
         Record::Blank => Taken {
             took: script_run::quiet(here),
             reading,
@@ -257,7 +257,7 @@ fn begin(
     let reading = Reading {
         left,
         held: 0,
-        length: script_run::lend_text(line, lent),
+        length: script_record::lend_text(line, lent),
     };
     settle(
         run,

@@ -20,9 +20,12 @@ use Rattle.messages.specs.Received.{ReceivedFrom}
 use Rattle.handshake_messages.specs.Reading as shaking
 use Rattle.handshake_messages.specs.declared.Told as handed
 use Rattle.handshake_messages.specs.declared.HandshakeReceived.{HandshakeReceived}
+use Rattle.event_messages.specs.declared.Written.{Written}
 use Rattle.script_message.specs.Lent.{unhanded}
+use Rattle.script_events.specs.Lent.{EventTurned}
 use Rattle.script.specs.declared.line.Line.{Line}
 use Rattle.script.specs.Told.{Parsed}
+use Rattle.script_asked.specs.declared.Event.{Event}
 use Rattle.script_asked.specs.declared.Station.{Station}
 use Rattle.script_asked.specs.declared.Asked.{Asked}
 use Rattle.script_asked.specs.Asked.{asked}
@@ -96,6 +99,9 @@ toldBy handed.Told.Handed n = Told.ShakenBy n
 abbrev pub shakenBy : HandshakeReceived → Run → Took
 shakenBy x r = record { run = afterShaking (x .answer) r; told = toldBy (x .told) (x .taken) }
 
+abbrev pub turned : Event → Written → Run → Took
+turned event x r = record { run = r; told = Told.Turned event x }
+
 -- ---- the calls. s are the session's slices before the line, e those after it, out and later the buffer
 
 -- nothing is changed, and this is told
@@ -133,6 +139,12 @@ pub record ShakesBy (run : Run) (bytes : List ℕ) (c d : List ℕ) (out later :
   pub meets : InRoom (run .out) out later (λ lent after. shaking.Received (run .shaken .handshaker) bytes lent after came)
   pub opens : Opens c d (came .answer)
   pub told : r ≡ shakenBy came run
+
+-- an event's record written as its message, or read from it
+pub record Turns (run : Run) (event : Event) (bytes : List ℕ) (out later : List ℕ) (r : Took) : Type 0 where
+  pub written : Written
+  pub meets : InRoom (run .out) out later (λ lent after. EventTurned event bytes lent after written)
+  pub told : r ≡ turned event written run
 
 -- next_request
 pub record Delivers (run : Run) (s e : Store) (out later : List ℕ) (r : Took) : Type 0 where
@@ -185,6 +197,8 @@ Does run Asked.NextRequest g text s e out later r = NextDoes run s e out later r
 Does run (Asked.Station call) g text s e out later r = StationDoes run call g text s e out later r
 Does run (Asked.Read count) g text s e out later r = ReadDoes run count s e out later r
 Does run Asked.Message g text s e out later r = MessageDoes run text s e out later r
+-- "Neither asks for a session or a handshake: both may stand before the first `start`"
+Does run (Asked.Event event) g text s e out later r = Turns run event text out later r × (e ≡ s)
 
 -- by what it is: a comment does nothing, and one that is no call ends the trail
 abbrev pub LineDoes : Run → (line : List ℕ) → Line → (s e : Store) (out later : List ℕ) → Took → Type 0

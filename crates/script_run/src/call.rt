@@ -1,6 +1,7 @@
 // A line of a script, carried out: before the session by `script_handshake`, on a running one by `script_session`.
 use answers::Answer;
 use converter::request::NextRequest;
+use event_messages::Written;
 use handshake::handshake::EisHandshaker;
 use handshake::handshake::HandshakeAnswer;
 use handshake_messages::HandshakeReceived;
@@ -11,6 +12,7 @@ use script::Line;
 use script::Text;
 use script::Value;
 use script_asked::Asked;
+use script_asked::Event;
 use script_asked::Station;
 ghost use mathlib.Core.Path.{_≡_};
 ghost use mathlib.Core.List.{List};
@@ -18,8 +20,8 @@ ghost use Prim.Native.Nat.{ℕ};
 ghost use lib.ListN.{length};
 ghost use Rattle.session.specs.Slices.{before, after, rowsBefore, rowsAfter};
 ghost use Rattle.script_run.specs.Line.{hasText, isGiven, textFirst, lentText, lineText};
-ghost use Rattle.script_run.specs.Take.{quiet, noCall, answered, given, begun, shaken, received, toldBy, shakenBy, counted, atClock, withOut, withBuffer, first};
-ghost use Rattle.script_run.specs.Take.{Starts, Shakes, ShakesBy, Receives, Handles, Delivers, Makes, Does, Takes};
+ghost use Rattle.script_run.specs.Take.{quiet, noCall, answered, given, begun, shaken, received, toldBy, shakenBy, turned, counted, atClock, withOut, withBuffer, first};
+ghost use Rattle.script_run.specs.Take.{Starts, Shakes, ShakesBy, Receives, Turns, Handles, Delivers, Makes, Does, Takes};
 
 // What the lines so far have come to.
 pub struct Run {
@@ -72,6 +74,8 @@ pub enum Told {
     Received(Received),
     // The handshake's answer to a message, which the run has, and how many bytes of it were taken.
     ShakenBy(usize),
+    // What an event's record or message was turned into.
+    Turned { event: Event, written: Written },
 }
 
 pub struct Took {
@@ -197,6 +201,15 @@ fn shaken_by(run: Run, r: HandshakeReceived) -> Took
     }
 }
 
+fn turned(run: Run, event: Event, written: Written) -> Took
+    ensures { λ r. ⌜ r ≡ turned event written run ⌝ }
+{
+    Took {
+        run,
+        told: Told::Turned { event, written },
+    }
+}
+
 // One more line.
 pub fn counted(run: Run) -> Run
     ensures { λ r. ⌜ r ≡ counted run ⌝ }
@@ -284,6 +297,14 @@ fn receive(
         out,
     );
     received(run, r)
+}
+
+// An event's record or message, whether or not there is a session.
+fn turn(run: Run, event: Event, bytes: &[u8], out: &mut [u8]) -> Took
+    ensures { λ r. ⌜ Turns run event (now (bytes .entry)) (now (out .entry)) (now (out .exit)) r ⌝ }
+{
+    let written = script_events::turn(event, bytes, run.out, out);
+    turned(run, event, written)
 }
 
 // A client's request on the session.
@@ -417,6 +438,7 @@ fn carry_out(
             }
             no_call(run, Why::Early)
         }
+        Asked::Event(event) => turn(run, event, text, out),
     }
 }
 

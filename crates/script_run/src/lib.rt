@@ -1,6 +1,5 @@
 // A line of a call script, carried out: before the session on its handshake, then on the session; and what a trail has of it.
 mod call;
-mod record;
 
 pub use call::Run;
 pub use call::Told;
@@ -11,6 +10,4 @@ pub use call::new_run;
 pub use call::no_call;
 pub use call::quiet;
 pub use call::take;
-pub use record::Record;
-pub use record::lend_text;
-pub use record::record_in;
+pub use call::text_of;

@@ -67,9 +67,9 @@ amount-above (negsuc k) f h =
     let w : _≡_ {A = ℕ} 0 1 = cc in
     absurd (omega arith)
 
--- ---- the numbers of refusals are at most 25
+-- ---- the numbers of refusals are at most 26
 
-pub error-most : (e : Error) → numberOf e ≤ 25
+pub error-most : (e : Error) → numberOf e ≤ 26
 unfolding numberOf
 error-most Error.UnexpectedHandshakeEvent = lit≤ tt
 error-most (Error.InvalidInterfaceVersion i v) = lit≤ tt
@@ -92,7 +92,7 @@ error-most Error.BadState = lit≤ tt
 error-most Error.BadPart = lit≤ tt
 error-most Error.InvalidId = lit≤ tt
 
-pub handshake-most : (e : HandshakeError) → number e ≤ 25
+pub handshake-most : (e : HandshakeError) → number e ≤ 26
 handshake-most HandshakeError.NonHandshakeEvent = lit≤ tt
 handshake-most HandshakeError.DuplicateEvent = lit≤ tt
 handshake-most HandshakeError.MissingInterface = lit≤ tt

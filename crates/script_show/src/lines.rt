@@ -12,7 +12,7 @@ use script_pattern::table;
 use script_pattern::table::Shown;
 ghost use mathlib.Core.List.{[], _∷_, _++_};
 ghost use mathlib.Core.Path.{_≡_};
-ghost use mathlib.Core.Bool.{cond};
+ghost use mathlib.Core.Bool.{true, cond};
 ghost use Prim.Native.Nat.{_≤_};
 ghost use lib.ListN.{take};
 ghost use Rattle.answers.specs.Answer.{errorOf, outcomeOf};
@@ -20,11 +20,12 @@ ghost use Rattle.model.specs.Plan.{Result};
 ghost use Rattle.script_pattern.specs.Put.{Puts};
 ghost use Rattle.script_pattern.specs.Pattern.{bytesOf};
 ghost use Rattle.script_show.specs.Answer.{result, handshakeOutcome, behindOutcome, lineOf, readRefusal, readLine};
+ghost use Rattle.script_show.specs.Records.{eachRecord, recordBytes};
 ghost use Rattle.script_show.specs.Answer.{answerLine, handshakeLine, nextShown, nextLength, nextLine, errorLine, callLine};
 
 // A refusal by its number, or with its name too.
 pub fn refusal(number: u32, explained: bool) -> Shown
-    requires { ⌜ number ≤ 25 ⌝ }
+    requires { ⌜ number ≤ 26 ⌝ }
     ensures { λ r. ⌜ r ≡ result explained (Result.refused number) ⌝ }
 {
     if explained {
@@ -110,6 +111,16 @@ fn beginning(line: &mut [u8], at: usize, count: usize, out: &[u8], explained: bo
     records_behind(line, at, out, explained)
 }
 
+// The records that begin `out` in words, a line for each.
+pub fn in_words(line: &mut [u8], at: usize, count: usize, out: &[u8]) -> usize
+    ensures { λ r. ⌜ Puts line at r (eachRecord (recordBytes true) (take count (now (out .entry)))) ⌝ }
+{
+    if count <= out.len() {
+        return records::each(line, at, &out[..count], true);
+    }
+    records::each(line, at, out, true)
+}
+
 // The outcome of a call, and what stands behind it.
 pub fn whole(line: &mut [u8], s: Shown, count: usize, out: &[u8], explained: bool) -> usize
     ensures { λ r. ⌜ Puts line 0 r (lineOf s (take count (now (out .entry))) explained) ⌝ }
@@ -162,7 +173,7 @@ pub fn read_answer(line: &mut [u8], accepted: u64, a: Answer, out: &[u8], explai
 }
 
 // What is shown of the first n bytes of a text, and the end of its line.
-fn ended_first(line: &mut [u8], s: Shown, n: usize, text: &[u8]) -> usize
+pub fn ended_first(line: &mut [u8], s: Shown, n: usize, text: &[u8]) -> usize
     ensures { λ r. ⌜ Puts line 0 r (bytesOf s (take n (now (text .entry))) ++ (0x0a ∷ [])) ⌝ }
 {
     if n <= text.len() {

@@ -34,5 +34,12 @@ pub fn written(took: Took, out: &[u8], explained: bool, shown: &mut [u8]) -> usi
             out,
             explained,
         ),
+        Told::Turned { event, written } => script_events::event_answer(
+            shown,
+            event,
+            written,
+            out,
+            explained,
+        ),
     }
 }

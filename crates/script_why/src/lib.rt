@@ -61,6 +61,7 @@ fn say_kind(kind: Kind) {
         Kind::Capability => put(b" is no capability"),
         Kind::Count => put(b" is no number below 65,536"),
         Kind::Part => put(b" is no part (p:START:LENGTH)"),
+        Kind::Interface => put(b" is no number below 256"),
     }
 }
 
@@ -96,7 +97,7 @@ fn word(line: &[u8], at: usize, kind: Kind) -> Next {
 }
 
 fn word_at(line: &[u8], at: usize, i: usize, place: usize, within: bool) -> Next {
-    if 57 <= i {
+    if 59 <= i {
         return Next::Said;
     }
     if 4 <= place {

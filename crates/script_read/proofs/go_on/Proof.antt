@@ -1,9 +1,9 @@
 -- A blank line, a record, and a line that is none. Assumes nothing.
 use mathlib.Core.Path.{refl, sym, ap, ap₂, _∙_, subst}
 use Rattle.script_run.specs.declared.call.Took.{Took}
-use Rattle.script_run.specs.declared.record.Record.{Record}
+use Rattle.script_record.specs.declared.Record.{Record}
 use Rattle.script_run.specs.Take.{quiet, noCall}
-use Rattle.script_run.specs.Record.{Records}
+use Rattle.script_record.specs.Record.{Records}
 use Rattle.script_read.specs.declared.Reading.{Reading}
 use Rattle.script_read.specs.Read.{taken, Fits}
 use Rattle.script_read.proofs.Gathering.{no-read-fits, settled-fits, onward-fits, record-does}

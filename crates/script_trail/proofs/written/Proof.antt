@@ -67,6 +67,12 @@ returns-10 c =
     let a = at-told .before .before .before .before .before .before .args in
     put-is (c .before .before .handshake-message-answer .ensures) (ap (λ (t : Told). lineOf (a .took .run) t (a .out .now) (a .explained)) (sym (at-told .told5 .given .1)))
 
+returns-11 : tie.Need-returns-11
+returns-11 c =
+    let at-told = c .before .before .before .before .before in
+    let a = at-told .before .before .before .before .before .before .args in
+    put-is (c .before .before .event-answer .ensures) (ap (λ (t : Told). lineOf (a .took .run) t (a .out .now) (a .explained)) (sym (at-told .told6 .given .1)))
+
 pub written-spec : {M : Type 1} → statement M
 written-spec =
     tie.close
@@ -88,6 +94,8 @@ written-spec =
     (λ c κs. search needs)  -- message-answer-requires
     (λ c. search needs)  -- enum-known-told-5
     (λ c κs. search needs)  -- handshake-message-answer-requires
+    (λ c. search needs)  -- enum-known-told-6
+    (λ c κs. search needs)  -- event-answer-requires
     returns
     (λ c. search needs)  -- same-length
     returns-2
@@ -104,4 +112,6 @@ written-spec =
     (λ c. search needs)  -- same-length-6
     returns-9
     (λ c. search needs)  -- same-length-7
-    returns-10)
+    returns-10
+    (λ c. search needs)  -- same-length-8
+    returns-11)

@@ -80,6 +80,12 @@ returns-12 c =
     let a = c .before .before .before .before .before .args in
     c .part-of-texts .ensures (a .line .now) ∙ as-kind (part (a .from) (a .end) (a .line .now)) (a .kind) Kind.Part (c .before .before .enum-told12 .given .1)
 
+returns-13 : tie.Need-returns-13
+unfolding readAs
+returns-13 c =
+    let a = c .before .before .before .before .before .args in
+    c .unsigned326 .ensures (a .line .now) ∙ as-kind (part (a .from) (a .end) (a .line .now)) (a .kind) Kind.Interface (c .before .before .enum-told13 .given .1)
+
 pub read-spec : {M : Type 1} → statement M
 read-spec =
     tie.close
@@ -138,6 +144,11 @@ read-spec =
     (λ c. search needs)
     (λ c. search needs)
     (λ c κs. search needs)
+    (λ c. search needs)
+    (λ c. search needs)
+    (λ c. search needs)
+    (λ c. search needs)
+    (λ c κs. search needs)
     returns
     returns-2
     returns-3
@@ -149,4 +160,5 @@ read-spec =
     returns-9
     returns-10
     returns-11
-    returns-12)
+    returns-12
+    returns-13)

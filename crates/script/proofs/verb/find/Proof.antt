@@ -9,10 +9,10 @@ use Rattle.script.proofs.verb.find.Statement.{statement}
 use Rattle.script.proofs.verb.find.Tie as tie
 
 abbrev Inv-loop : tie.InvT-loop
-Inv-loop word i₀ i = (i ≤ 57) × (lookup word ≡ lookupFrom i (drop i table) word)
+Inv-loop word i₀ i = (i ≤ 59) × (lookup word ≡ lookupFrom i (drop i table) word)
 
 abbrev μ-loop : tie.MeasureT-loop
-μ-loop word i₀ i = 57 - i
+μ-loop word i₀ i = 59 - i
 
 loop-holds : tie.Need-loop-holds Inv-loop μ-loop
 loop-holds c = (omega arith, look-start (c .before .args .word .now))

@@ -10,7 +10,7 @@ use denote.Enum.Declared.{tagOf}
 use types.Run.{OneOf}
 use borrow.Author.Needs.{needs}
 use Rattle.script.specs.declared.verb.Kind.{Kind}
-use Rattle.script.specs.declared.verb.Kind.the-variants.{U64, U32, I32, F32, Text, OptionalText, State, TypeNumber, Reason, Capability, Count, Part}
+use Rattle.script.specs.declared.verb.Kind.the-variants.{U64, U32, I32, F32, Text, OptionalText, State, TypeNumber, Reason, Capability, Count, Part, Interface}
 use Rattle.script.specs.Verbs.{kindIn}
 use Rattle.script.proofs.verb.Kind.{the-type}
 use Rattle.script.proofs.verb.kind_in.Statement.{statement}
@@ -32,12 +32,12 @@ listed (a ∷ b ∷ l) k (inr o) = go (eqb k a) (listed (b ∷ l) k o)
     go false e = e
 
 -- the tags are those of the arm that has no text
-no-text : (k : Kind) → OneOf (0 ∷ 1 ∷ 2 ∷ 3 ∷ 5 ∷ 6 ∷ 7 ∷ 8 ∷ 9 ∷ 10 ∷ 11 ∷ []) (tagOf the-type k) → k ≡ kindIn true k
+no-text : (k : Kind) → OneOf (0 ∷ 1 ∷ 2 ∷ 3 ∷ 5 ∷ 6 ∷ 7 ∷ 8 ∷ 9 ∷ 10 ∷ 11 ∷ 12 ∷ []) (tagOf the-type k) → k ≡ kindIn true k
 no-text U64 o = refl
 no-text U32 o = refl
 no-text I32 o = refl
 no-text F32 o = refl
-no-text Text o = absurd (false≢true (listed (0 ∷ 1 ∷ 2 ∷ 3 ∷ 5 ∷ 6 ∷ 7 ∷ 8 ∷ 9 ∷ 10 ∷ 11 ∷ []) 4 o))
+no-text Text o = absurd (false≢true (listed (0 ∷ 1 ∷ 2 ∷ 3 ∷ 5 ∷ 6 ∷ 7 ∷ 8 ∷ 9 ∷ 10 ∷ 11 ∷ 12 ∷ []) 4 o))
 no-text OptionalText o = refl
 no-text State o = refl
 no-text TypeNumber o = refl
@@ -45,6 +45,7 @@ no-text Reason o = refl
 no-text Capability o = refl
 no-text Count o = refl
 no-text Part o = refl
+no-text Interface o = refl
 
 returns-2 : tie.Need-returns-2
 returns-2 c = rw (c .before .if1 .taken) (no-text (c .before .before .args .kind) (c .match .keys2))

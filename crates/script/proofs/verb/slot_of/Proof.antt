@@ -54,7 +54,11 @@ unfolding slotOf
 returns-12 c = sym (ap slotOf (c .match .keys12))
 
 returns-13 : tie.Need-returns-13
-returns-13 c = no-letter (c .before .args .letter) (c .match .rest)
+unfolding slotOf
+returns-13 c = sym (ap slotOf (c .match .keys13))
+
+returns-14 : tie.Need-returns-14
+returns-14 c = no-letter (c .before .args .letter) (c .match .rest)
 
 pub slot-of-spec : {M : Type 1} → statement M
 slot-of-spec =
@@ -72,4 +76,5 @@ slot-of-spec =
     returns-10
     returns-11
     returns-12
-    returns-13)
+    returns-13
+    returns-14)

@@ -12,7 +12,7 @@ use Rattle.script_pattern.proofs.table.show.Tie as tie
 
 abbrev Inv-loop : tie.InvT-loop
 Inv-loop line₀ at s text pattern next₀ place₀ i₀ line next place i =
-    (i ≤ 66) × (place ≤ i) × (length line ≡ length line₀) × (s .pattern < 95) × Rest line₀ at (patterned (padded (patternAt (s .pattern))) (values s) text) line next (patterned (drop i (padded (patternAt (s .pattern)))) (drop place (values s)) text)
+    (i ≤ 66) × (place ≤ i) × (length line ≡ length line₀) × (s .pattern < 98) × Rest line₀ at (patterned (padded (patternAt (s .pattern))) (values s) text) line next (patterned (drop i (padded (patternAt (s .pattern)))) (drop place (values s)) text)
 
 abbrev μ-loop : tie.MeasureT-loop
 μ-loop line₀ at s text pattern next₀ place₀ i₀ line next place i = 66 - i

@@ -95,6 +95,9 @@ returns-16 c =
       early = λ h k. (c .no-call5 .ensures, (refl, refl));
     })
 
+returns-17 : tie.Need-returns-17
+returns-17 c = rw (c .before .before .before .before .before .asked8 .given .1) (c .before .before .turn .ensures, refl)
+
 pub carry-out-spec : {M : Type 1} → statement M
 carry-out-spec =
     tie.close
@@ -154,6 +157,8 @@ carry-out-spec =
     (λ c. search needs)  -- same-length-23
     returns-7
     (λ c κs. search needs)  -- no-call-requires-5
+    (λ c. search needs)  -- enum-known-asked-8
+    (λ c κs. search needs)  -- turn-requires
     returns-8
     returns-9
     returns-10
@@ -163,4 +168,6 @@ carry-out-spec =
     returns-13
     returns-14
     returns-15
-    returns-16)
+    returns-16
+    (λ c. search needs)  -- same-length-25
+    returns-17)

@@ -10,14 +10,14 @@ use Rattle.requests.proofs.Arms.{run, among}
 use Rattle.script.specs.declared.text.Part.{Part}
 use Rattle.script_asked.specs.declared.Asked.{Asked}
 use Rattle.script_asked.proofs.Asked.{the-type}
 use Rattle.script_run.specs.declared.call.Why.{Why}
-use Rattle.script_run.specs.declared.record.Record.{Record}
-use Rattle.script_run.specs.Record.{recordOf}
-use Rattle.script_run.proofs.record.requested.Statement.{statement}
-use Rattle.script_run.proofs.record.requested.Tie as tie
+use Rattle.script_record.specs.declared.Record.{Record}
+use Rattle.script_record.specs.Record.{recordOf}
+use Rattle.script_record.proofs.requested.Statement.{statement}
+use Rattle.script_record.proofs.requested.Tie as tie
 
 -- the tags are those of the arm that has no client's request
-no-client : (a : Asked) (p : Part) → OneOf (0 ∷ 1 ∷ 2 ∷ 3 ∷ run 5 4) (tagOf the-type a) → Record.Nothing Why.NoRecord ≡ recordOf a p
+no-client : (a : Asked) (p : Part) → OneOf (0 ∷ 1 ∷ 2 ∷ 3 ∷ run 5 5) (tagOf the-type a) → Record.Nothing Why.NoRecord ≡ recordOf a p
 no-client (Asked.Now n) p o = refl
 no-client (Asked.Out n) p o = refl
 no-client (Asked.Buffer n) p o = refl
@@ -26,11 +26,12 @@ no-client Asked.NextRequest p o = refl
 no-client (Asked.Station call) p o = refl
 no-client (Asked.Read n) p o = refl
 no-client Asked.Message p o = refl
+no-client (Asked.Event event) p o = refl
 no-client (Asked.Client object version request) p (inl e) = absurd (omega (arith, e))
 no-client (Asked.Client object version request) p (inr (inl e)) = absurd (omega (arith, e))
 no-client (Asked.Client object version request) p (inr (inr (inl e))) = absurd (omega (arith, e))
 no-client (Asked.Client object version request) p (inr (inr (inr (inl e)))) = absurd (omega (arith, e))
-no-client (Asked.Client object version request) p (inr (inr (inr (inr o)))) = absurd (omega (arith, among 5 4 4 o .0))
+no-client (Asked.Client object version request) p (inr (inr (inr (inr o)))) = absurd (omega (arith, among 5 5 4 o .0))
 
 returns : tie.Need-returns
 returns c = sym (ap (λ (a : Asked). recordOf a (c .before .before .before .args .part)) (c .before .asked .given .1))

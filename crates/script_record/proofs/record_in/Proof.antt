@@ -1,11 +1,11 @@
 -- A line that is cut, and each kind of line. Assumes nothing.
 use mathlib.Core.Path.{refl, ap₂, _∙_}
 use Rattle.script.specs.declared.line.Line.{Line}
-use Rattle.script_run.specs.Record.{recordOf}
+use Rattle.script_record.specs.Record.{recordOf}
 use Rattle.script_run.proofs.Doings.{never, read-as}
 use borrow.Author.Needs.{needs}
-use Rattle.script_run.proofs.record.record_in.Statement.{statement}
-use Rattle.script_run.proofs.record.record_in.Tie as tie
+use Rattle.script_record.proofs.record_in.Statement.{statement}
+use Rattle.script_record.proofs.record_in.Tie as tie
 
 returns : tie.Need-returns
 returns c = record { long = λ h. refl; reads = λ h. never h (c .if1 .taken) }

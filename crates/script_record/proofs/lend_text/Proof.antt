@@ -5,11 +5,11 @@ use mathlib.Core.List.{List, []}
 use lib.Seq.{paste-zero}
 use Rattle.script.specs.declared.line.Line.{Line}
 use Rattle.script.specs.Text.{Copied}
-use Rattle.script_run.specs.Record.{callText}
+use Rattle.script_record.specs.Record.{callText}
 use Rattle.script_run.proofs.Doings.{read-as}
 use borrow.Author.Needs.{needs}
-use Rattle.script_run.proofs.record.lend_text.Statement.{statement}
-use Rattle.script_run.proofs.record.lend_text.Tie as tie
+use Rattle.script_record.proofs.lend_text.Statement.{statement}
+use Rattle.script_record.proofs.lend_text.Tie as tie
 
 nothing : (l : List ℕ) → Copied [] l l 0
 nothing l = record { count = omega arith; bytes = paste-zero l 0 [] }

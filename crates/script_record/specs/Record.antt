@@ -11,9 +11,9 @@ use Rattle.script.specs.Text.{textBytes, Copied}
 use Rattle.script.specs.Told.{partIn, Parsed}
 use Rattle.script_asked.specs.declared.Asked.{Asked}
 use Rattle.script_asked.specs.Asked.{asked}
 use Rattle.script_run.specs.declared.call.Why.{Why}
-use Rattle.script_run.specs.declared.record.Record.{Record}
+use Rattle.script_record.specs.declared.Record.{Record}
 use Rattle.script_run.specs.Line.{textFirst}
 
 abbrev pub hasPart : Value → Bool
 hasPart Value.Nothing = false
@@ -40,6 +40,7 @@ recordOf Asked.NextRequest p = Record.Nothing Why.NoRecord
 recordOf (Asked.Station call) p = Record.Nothing Why.NoRecord
 recordOf (Asked.Read count) p = Record.Nothing Why.NoRecord
 recordOf Asked.Message p = Record.Nothing Why.NoRecord
+recordOf (Asked.Event event) p = Record.Nothing Why.NoRecord
 
 abbrev pub lineRecord : Line → Record
 lineRecord Line.Blank = Record.Blank

@@ -1,14 +1,13 @@
 // A line of a read: one of its records, or none. And the texts of a read, which stand in its first line.
-use crate::call;
-use crate::call::Why;
 use requests::eis::Request;
 use script::Args;
 use script::Line;
 use script::Part;
 use script::Value;
 use script_asked::Asked;
+use script_run::Why;
 ghost use mathlib.Core.Path.{_≡_};
-ghost use Rattle.script_run.specs.Record.{hasPart, partFirst, recordOf, Records, Lends};
+ghost use Rattle.script_record.specs.Record.{hasPart, partFirst, recordOf, Records, Lends};
 
 // What a line of a read is.
 pub enum Record {
@@ -93,7 +92,7 @@ pub fn lend_text(line: &[u8], lent: &mut [u8]) -> usize
     match script::parse(line, false) {
         Line::Blank => 0,
         Line::Setting { verb: _, args: _ } => 0,
-        Line::Call { verb: _, args } => script::text_into(line, call::text_of(args), lent),
+        Line::Call { verb: _, args } => script::text_into(line, script_run::text_of(args), lent),
         Line::NoCall => 0,
     }
 }
