@@ -29,6 +29,10 @@ noObjectNumber = 24
 abbrev pub invalidIdNumber : ℕ
 invalidIdNumber = 25
 
+-- the refusal that a record to be sent alone meets: "26 UNSENDABLE"
+abbrev pub unsendableNumber : ℕ
+unsendableNumber = 26
+
 -- what a function answers: the number of the refusal, 0 where there is none
 abbrev pub statusOf : Outcome → ℕ
 statusOf Outcome.Accepted = 0

@@ -22,6 +22,9 @@ pub const NO_OBJECT: u32 = 24;
 
 pub const INVALID_ID: u32 = 25;
 
+// The refusal that a record to be sent alone meets.
+pub const UNSENDABLE: u32 = 26;
+
 pub fn status(outcome: Outcome) -> u32
     ensures { λ r. ⌜ r ≡ statusOf outcome ⌝ }
 {

@@ -3,3 +3,4 @@ pub mod Numbers
 pub mod Delivery
 pub mod Handshake
 pub mod Message
+pub mod Events

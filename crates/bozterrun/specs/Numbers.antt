@@ -22,7 +22,7 @@ use Rattle.handshake.specs.declared.handshake.HandshakeError.{HandshakeError}
 use Rattle.lent_read.specs.Numbers.{recordWords, recordReals}
 use Rattle.answers.specs.Answer.{numberOf}
 use Rattle.answers.specs.declared.Error.{Error}
-use Rattle.answer_numbers.specs.Numbers.{noneNumber, badArgument, waitNumber, malformedNumber, noObjectNumber}
+use Rattle.answer_numbers.specs.Numbers.{noneNumber, badArgument, waitNumber, malformedNumber, noObjectNumber, unsendableNumber}
 use Rattle.bozterrun.specs.Message.{toldError}
 
 -- a handshake's request by its opcode (src/eiproto_eis.rs), with the number that it carries
@@ -66,7 +66,7 @@ refusals =
     ++ map number (HandshakeError.NonHandshakeEvent ∷ HandshakeError.DuplicateEvent ∷ HandshakeError.MissingInterface ∷ [])
     ++ map numberOf (Error.BadUtf8 ∷ Error.NameLong ∷ Error.UnknownHandle ∷ Error.BadCapabilities ∷ Error.FullSeats ∷ Error.FullDevices ∷ Error.FullPending
     ∷ Error.FullQueue ∷ Error.FullTexts ∷ Error.ShortOut ∷ Error.IdsSpent ∷ Error.BadState ∷ Error.BadPart ∷ [])
-    ++ (malformedNumber ∷ noObjectNumber ∷ numberOf Error.InvalidId ∷ [])
+    ++ (malformedNumber ∷ noObjectNumber ∷ numberOf Error.InvalidId ∷ unsendableNumber ∷ [])
 
 -- the kinds of delivered requests are the places of `meanings` in requests/specs/Row
 abbrev kinds : List ℕ
@@ -92,10 +92,14 @@ parseErrors =
 abbrev messageLengths : List ℕ
 messageLengths = 16 ∷ 1024 ∷ []
 
+-- the most that an event's message has, and its record
+abbrev eventLengths : List ℕ
+eventLengths = 284 ∷ 273 ∷ []
+
 -- THE TABLE that a header is tested by
 unfoldable pub numbers : List ℕ
 unfolding numberOf
 numbers =
     refusals ++ (noneNumber ∷ badArgument ∷ waitNumber ∷ []) ++ kinds ++ interfaces ++ map capabilityMask capabilities ++ map contextTypeNumber contextTypes
     ++ map deviceTypeNumber deviceTypes ++ map disconnectReasonNumber disconnectReasons ++ requests ++ (recordWords ∷ recordReals ∷ [])
-    ++ parseErrors ++ messageLengths
+    ++ parseErrors ++ messageLengths ++ eventLengths

@@ -2,6 +2,7 @@
 // declares them. A function answers 0 where its call is accepted, else the number of the refusal.
 mod client;
 mod delivery;
+mod events;
 mod handshakes;
 mod message;
 mod numbers;

@@ -4,10 +4,13 @@ use answer_numbers::INVALID_ID;
 use answer_numbers::MALFORMED;
 use answer_numbers::NO_OBJECT;
 use answer_numbers::NONE;
+use answer_numbers::UNSENDABLE;
 use answer_numbers::WAIT;
 use answers::NAME_LENGTH_LIMIT;
 use control::CONTROL_LENGTH;
 use eiproto::event::DeviceCapability;
+use event_messages::EVENT_MESSAGE_LENGTH;
+use event_messages::EVENT_RECORD_LENGTH;
 use lent_handshake::HANDSHAKE_LENGTH;
 use lent_read::numbers as read;
 use lent_read::record::RECORD_REALS;
@@ -69,9 +72,9 @@ pub extern "C" fn bozterrun_texts_length() -> usize
 }
 
 // The numbers that include/bozterrun.h has names for, in its order: refusals, what is no refusal, kinds of requests, interfaces, capabilities,
-// context types, device types, reasons, requests of a read, the
-// words and the reals of its records, the cases of a malformed message, the bytes of a message's header and the most of a message. specs/Numbers says what each is the number of.
-const NUMBERS: usize = 126;
+// context types, device types, reasons, requests of a read, the words and the reals of its records, the cases of a malformed message, the bytes of
+// a message's header and the most of a message, the most of an event's message and of its record. specs/Numbers says what each is the number of.
+const NUMBERS: usize = 129;
 
 // The number at a place of that table, 0 past its end: a program tests by it that its header is the library's.
 #[no_mangle]
@@ -104,6 +107,7 @@ pub extern "C" fn bozterrun_number(place: usize) -> u64
         MALFORMED as u64,
         NO_OBJECT as u64,
         INVALID_ID as u64,
+        UNSENDABLE as u64,
         NONE as u64,
         BAD_ARGUMENT as u64,
         WAIT as u64,
@@ -205,6 +209,8 @@ pub extern "C" fn bozterrun_number(place: usize) -> u64
         7,
         HEADER_LENGTH as u64,
         MESSAGE_LENGTH_LIMIT as u64,
+        EVENT_MESSAGE_LENGTH as u64,
+        EVENT_RECORD_LENGTH as u64,
     ];
     if place < NUMBERS { table[place] } else { 0 }
 }

@@ -6,8 +6,8 @@ use mathlib.Core.Logic.{dite}
 use mathlib.Core.Path.{_≡_, refl, sym, ap, subst, _∙_}
 use native.Mathlib.Decide.{decLt}
 use native.Mathlib.Omega.{arith}
-use borrow.Author.Tests.{leb-true, ltb-true}
-use lib.Dec.{leb, ltb}
+use borrow.Author.Tests.{leb-true}
+use lib.Dec.{leb}
 use lib.ListN.{length, take, drop, length-append}
 use Rattle.wire.specs.Fields.{numbers, start}
 use Rattle.wire.specs.Put.{PutWhole}
@@ -24,8 +24,8 @@ use Rattle.event_messages.specs.declared.Shape.{Shape}
 use Rattle.event_messages.specs.declared.Values.{Values}
 use Rattle.event_messages.specs.declared.Written.{Written}
 use Rattle.event_messages.proofs.Events.{Same, kind-least, every, some, laid-by}
-use Rattle.event_messages.proofs.Tables.{upto, at as upto-at, past-interfaces, past-opcodes}
-use Rattle.message_writer.proofs.Reduced.{le-mod}
+use Rattle.event_messages.proofs.Tables.{upto, at as upto-at, past-opcodes, kind-most}
+use Rattle.message_writer.proofs.Normal.{message-reduced}
 use Rattle.message_reader.specs.declared.Read.{Read}
 use Rattle.message_reader.specs.Read.{wordAt, doubleAt, valuesRead}
 use Rattle.message_reader.specs.Back.{valuesIn, textIn, Said, recordOf}
@@ -44,18 +44,6 @@ shape-size k h = leb-true _ _ (upto-at (λ k. leb (width (shapeOf k .first) + (w
 
 pub fixed-small : (kind : ℕ) {s : Shape} → s ≡ shapeOf kind → kind < 19 → width (s .first) + (width (s .second) + width (s .third)) ≤ 16
 fixed-small kind is h = rw is (shape-size kind h)
-
-kind-test : upto (λ i. upto (λ o. ltb (kindOf i o) 19) 12) 13 ≡ true
-unfolding kindOf
-kind-test = refl
-
-kind-most : (i o : ℕ) → kindOf i o < 19
-kind-most i o =
-    dite (decLt i 13)
-    (λ l. dite (decLt o 12)
-    (λ k. ltb-true _ _ (upto-at (λ o. ltb (kindOf i o) 19) 12 (upto-at (λ i. upto (λ o. ltb (kindOf i o) 19) 12) 13 kind-test i l) o k))
-    (λ n. omega (arith, past-opcodes i o (omega arith))))
-    (λ n. omega (arith, past-interfaces i o (omega arith)))
 
 -- ---- the record written
 
@@ -108,11 +96,6 @@ module _ (m : List ℕ) (object opcode : ℕ) (xs : List ℕ) (told : m ≡ mess
   opcode-read : opcode < 12 → wordAt m 12 ≡ opcode
   opcode-read h = word-le m 12 opcode xs at-opcode ∙ omega arith
 
--- an object's id has 64 bits in a message
-message-low : (object opcode : ℕ) (xs : List ℕ) → message (object % 2 ^ 64) opcode xs ≡ message object opcode xs
-unfolding message
-message-low object opcode xs = ap (λ (l : List ℕ). l ++ (le 4 (16 + length xs) ++ (le 4 opcode ++ xs))) (le-mod 8 object)
-
 -- what is read of a message that stands for a record
 record Reads (bytes m : List ℕ) (kind : ℕ) (r : Read) : Type 0 where
   pub least : 0 < kind
@@ -143,7 +126,7 @@ module _ (interface : ℕ) (bytes m : List ℕ) (stands : Stands interface bytes
         rw o hk,
         record {
           least = least;
-          said = record { allows = rw (a .texts) (a .fits); told = rw (o, id, a .texts, a .same) (told ∙ sym (message-low object opcode (sentArguments s v t))) };
+          said = record { allows = rw (a .texts) (a .fits); told = rw (o, id, a .texts, a .same) (told ∙ sym (message-reduced object opcode (sentArguments s v t))) };
           is = is ∙ same-record m object k v t r a id;
         },
       )
@@ -176,7 +159,7 @@ module _ (interface : ℕ) (m : List ℕ) {opcode kind : ℕ} (ho : opcode ≡ w
   kind-is = hk ∙ ap (kindOf interface) ho
 
   pub kind-below : kind < 19
-  kind-below = rw hk (kind-most interface opcode)
+  kind-below = omega (arith, hk, kind-most interface opcode)
 
   pub no-kind : kind ≡ 0 → (bytes : List ℕ) → Stands interface bytes m → ⊥
   no-kind z bytes s = omega (arith, kind-is, reads interface bytes m s .least)

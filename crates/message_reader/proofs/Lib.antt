@@ -4,3 +4,4 @@ pub mod Arguments
 pub mod Values
 pub mod Back
 pub mod Again
+pub mod RoundTrip

@@ -16,7 +16,7 @@ ghost use lib.ListN.{length};
 ghost use Rattle.event_messages.specs.Shape.{shapeOf};
 ghost use Rattle.event_messages.specs.Stands.{Stands, Turned};
 ghost use Rattle.event_messages.specs.declared.MessageError.{MessageError};
-ghost use Rattle.message_reader.specs.Read.{wordAt, doubleAt, textAt, stringSize, nameAt, withName, withText, withExplanation, argumentRead, Onward, valuesRead};
+ghost use Rattle.message_reader.specs.Read.{wordAt, doubleAt, textAt, nameAt, withName, withText, withExplanation, argumentRead, Onward, valuesRead};
 ghost use Rattle.message_reader.specs.Back.{Said, recordOf};
 
 // Numbers at a place of a message; 0 where it ends before.
@@ -72,14 +72,6 @@ fn text_at(message: &[u8], at: usize) -> Part
     }
 }
 
-// How many bytes a string has: its length, its bytes, a zero, and zeros up to a multiple of four.
-fn string_size(size: usize) -> usize
-    requires { ⌜ size ≤ 254 ⌝ }
-    ensures { λ r. ⌜ (r ≡ stringSize size) × (r ≤ 260) ⌝ }
-{
-    4 + (size + 4) / 4 * 4
-}
-
 // The number of the interface that a part of the message names, 0 for none.
 fn name_at(message: &[u8], part: Part) -> u64
     requires { ⌜ part .start + part .length ≤ length (now message) ⌝ }
@@ -107,7 +99,7 @@ fn with_name(message: &[u8], p: Progress) -> Progress
 {
     let part = text_at(message, p.at);
     Progress {
-        at: p.at + string_size(part.length),
+        at: p.at + message_writer::string_length(part.length),
         value: name_at(message, part),
         start: p.start,
         length: p.length,
@@ -120,7 +112,7 @@ fn with_text(message: &[u8], p: Progress, value: u64) -> Progress
 {
     let part = text_at(message, p.at);
     Progress {
-        at: p.at + string_size(part.length),
+        at: p.at + message_writer::string_length(part.length),
         value,
         start: part.start,
         length: part.length,

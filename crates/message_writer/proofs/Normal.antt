@@ -120,7 +120,7 @@ width-most Text = omega arith
 width-most Explanation = omega arith
 
 -- a message says of its object's id what a record can hold
-message-reduced : (object opcode : ℕ) (a : List ℕ) → message (object % 2 ^ 64) opcode a ≡ message object opcode a
+pub message-reduced : (object opcode : ℕ) (a : List ℕ) → message (object % 2 ^ 64) opcode a ≡ message object opcode a
 unfolding message
 message-reduced object opcode a = ap (λ (l : List ℕ). l ++ (uint32 (16 + length a) ++ (uint32 opcode ++ a))) (le-mod 8 object)
 

@@ -56,9 +56,9 @@ fn values_in(bytes: &[u8], s: Shape) -> Values
 }
 
 // How many bytes a string has: its length, its bytes, a zero, and zeros up to a multiple of four.
-fn string_length(size: usize) -> usize
+pub fn string_length(size: usize) -> usize
     requires { ⌜ size ≤ 254 ⌝ }
-    ensures { λ r. ⌜ r ≡ 4 + padded (size + 1) ⌝ }
+    ensures { λ r. ⌜ (r ≡ 4 + padded (size + 1)) × (r ≤ 260) ⌝ }
 {
     4 + (size + 4) / 4 * 4
 }

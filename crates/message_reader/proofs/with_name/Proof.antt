@@ -8,8 +8,8 @@ use Rattle.message_reader.proofs.with_name.Tie as tie
 text-at-requires : tie.Need-text-at-requires
 text-at-requires c κs = search needs
 
-string-size-requires : tie.Need-string-size-requires
-string-size-requires c κs = search needs
+string-length-requires : tie.Need-string-length-requires
+string-length-requires c κs = search needs
 
 add-t5 : tie.Need-add-t5
 add-t5 c = search needs
@@ -21,8 +21,8 @@ returns : tie.Need-returns
 unfolding withName
 returns c =
     let t = c .before .before .before .text-at .ensures in
-    record { is = rw (← t .0, c .before .before .string-size .ensures .0, c .name-at .ensures); near = omega arith; inside = omega arith }
+    record { is = rw (← t .0, c .before .before .string-length .ensures .0, c .name-at .ensures); near = omega arith; inside = omega arith }
 
 pub with-name-spec : {M : Type 1} → statement M
 with-name-spec =
-    tie.close (tie.spec text-at-requires string-size-requires add-t5 name-at-requires returns)
+    tie.close (tie.spec text-at-requires string-length-requires add-t5 name-at-requires returns)

@@ -9,13 +9,13 @@ returns : tie.Need-returns
 unfolding withText
 returns c =
     let t = c .before .before .text-at .ensures in
-    record { is = rw (← t .0, c .before .string-size .ensures .0); near = omega arith; inside = omega arith }
+    record { is = rw (← t .0, c .before .string-length .ensures .0); near = omega arith; inside = omega arith }
 
 pub with-text-spec : {M : Type 1} → statement M
 with-text-spec =
     tie.close
     (tie.spec
     (λ c κs. search needs)  -- text-at-requires
-    (λ c κs. search needs)  -- string-size-requires
+    (λ c κs. search needs)  -- string-length-requires
     (λ c. search needs)  -- add-t6
     returns)

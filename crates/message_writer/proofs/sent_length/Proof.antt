@@ -25,7 +25,7 @@ string-length-requires c κs = omega (arith, name-short (c .before .before .befo
 returns : tie.Need-returns
 unfolding sent
 returns c =
-    let e = c .string-length3 .ensures in
+    let e = c .string-length3 .ensures .0 in
     let t = c .before .before .before .before .before .args .text .now in
     (rw (c .before .before .enum-told8 .given .1, eq-eqb _ _ (c .before .if1 .taken), length-string t) e, omega arith)
 
@@ -44,7 +44,7 @@ returns-4 c = rw (c .enum-told3 .given .1) (refl, omega arith)
 returns-5 : tie.Need-returns-5
 unfolding sent
 returns-5 c =
-    let e = c .string-length .ensures in
+    let e = c .string-length .ensures .0 in
     let x = c .before .before .before .before .before .args .x in
     let n = c .before .name-len .ensures in
     (rw (c .before .before .enum-told4 .given .1, length-string (interfaceName x), ← n) e, omega (arith, name-short x))
@@ -60,7 +60,7 @@ returns-7 c = rw (c .enum-told6 .given .1) (refl, omega arith)
 returns-8 : tie.Need-returns-8
 unfolding sent
 returns-8 c =
-    let e = c .string-length2 .ensures in
+    let e = c .string-length2 .ensures .0 in
     let t = c .before .before .before .before .args .text .now in
     (rw (c .before .enum-told7 .given .1, length-string t) e, omega arith)
 

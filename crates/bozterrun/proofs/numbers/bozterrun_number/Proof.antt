@@ -9,7 +9,7 @@ use borrow.Author.Needs.{needs}
 use Rattle.bozterrun.proofs.numbers.bozterrun_number.Statement.{statement}
 use Rattle.bozterrun.proofs.numbers.bozterrun_number.Tie as tie
 
-numbers-long : length numbers ≡ 126
+numbers-long : length numbers ≡ 129
 unfolding numbers numberOf refusal
 numbers-long = refl
 
@@ -30,6 +30,7 @@ bozterrun-number-spec =
     (λ c. search needs)  -- cast-t6
     (λ c. search needs)  -- cast-t7
     (λ c. search needs)  -- cast-t8
+    (λ c. search needs)  -- cast-t9
     (λ c. search needs)  -- mul-result
     (λ c. search needs)  -- array-read-result
     returns
