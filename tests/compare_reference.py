@@ -13,7 +13,7 @@ import subprocess
 import sys
 
 # The change requests that have landed, and the kinds of random scripts that try what they have changed.
-LANDED = "1-4,10"
+LANDED = "1-5,10"
 PROFILES = ["release", "read", "messages"]
 
 
