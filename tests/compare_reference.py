@@ -5,8 +5,8 @@ usage: compare_reference.py REFERENCE FIRST LAST [CALLS [REPLAY]]     run at the
 
 REFERENCE is the reference's folder (check.py, against.py and what they need in it; Python alone is needed). Two things are compared, with the requests that
 have landed: its cases, whose lines are by hand, those that other requests are required for left out; and for each seed from FIRST to LAST one random script
-of about CALLS calls (400) of each of three kinds, which have seat and interface releases in them, whole reads, and a client's bytes. REPLAY is the program
-(target/bin/replay), which gets each script on standard input. What differs is printed with its call, and the last line has the counts.
+of about CALLS calls (400) of each of three kinds, which have seat and interface releases in them, whole reads, and a client's bytes with events written as
+messages and read back. REPLAY is the program (target/bin/replay), which gets each script on standard input. What differs is printed with its call, and the last line has the counts.
 """
 import os
 import subprocess

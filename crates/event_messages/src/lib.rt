@@ -3,7 +3,6 @@ ghost use Prim.Native.Nat.{_+_, _≤_, _<_};
 ghost use mathlib.Core.Bool.{_||_};
 ghost use mathlib.Core.Path.{_≡_};
 ghost use lib.Dec.{eqb};
-ghost use lib.ListN.{length};
 ghost use Rattle.event_messages.specs.Opcode.{HasOpcode};
 ghost use Rattle.event_messages.specs.Shape.{shapeOf, width, hasText, textual, fixedSize, explains, allowed, allowedAll};
 ghost use Rattle.event_messages.specs.Stands.{between, zeroFree, sendableText};

@@ -5,7 +5,6 @@ use mathlib.Core.List.{List, _++_}
 use mathlib.Core.Path.{_≡_}
 use native.Mathlib.Omega.{arith}
 use borrow.Author.Tests.{leb-true}
-use lib.Dec.{leb}
 use lib.ListN.{length, length-append}
 use Rattle.event_messages.specs.Stands.{sendableText}
 use Rattle.event_messages.specs.Shape.{sent, sentArguments}

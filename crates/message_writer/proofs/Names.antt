@@ -1,7 +1,6 @@
 -- Interfaces that can be sent by name. Assumes nothing.
-use Prim.Native.Nat.{ℕ, _+_, _≤_, _<_}
+use Prim.Native.Nat.{ℕ, _≤_}
 use mathlib.Core.Bool.{true}
-use mathlib.Core.List.{[]}
 use mathlib.Core.Logic.{dite}
 use mathlib.Core.Path.{_≡_, refl, ap}
 use native.Mathlib.Decide.{decLt}

@@ -1,7 +1,7 @@
 -- A record's parts tell what its message is: what a record that stands for a message has, and the other way round. Assumes nothing.
 use Prim.Native.Nat.{ℕ, _+_, _*_, _/_, _%_, _^_, _≤_, _<_}
 use mathlib.Core.Bool.{Bool, true, false, false≢true}
-use mathlib.Core.List.{List, [], _∷_, _++_, append-assoc}
+use mathlib.Core.List.{List, _++_, append-assoc}
 use mathlib.Core.Path.{_≡_, refl, sym, ap, _∙_}
 use native.Mathlib.Omega.{arith}
 use lib.ListN.{length, getD, take, drop, length-append, length-drop, take-append-drop}
@@ -13,7 +13,7 @@ use Rattle.wire.proofs.Bytes.{length-be}
 use Rattle.event_messages.specs.Fields.{fieldsOf}
 use Rattle.event_messages.specs.Message.{uint32, message}
 use Rattle.event_messages.specs.Opcode.{HasOpcode}
-use Rattle.event_messages.specs.Shape.{shapeOf, width, valuesOf, fixedSize, sentArguments, allowedAll}
+use Rattle.event_messages.specs.Shape.{shapeOf, width, fixedSize, sentArguments, allowedAll}
 use Rattle.event_messages.specs.Stands.{Stands}
 use Rattle.event_messages.specs.Table.{kindOf}
 use Rattle.event_messages.specs.declared.Argument.{Argument}
@@ -21,7 +21,7 @@ use Rattle.event_messages.specs.declared.Argument.the-variants.{None, Uint32, U
 use Rattle.event_messages.specs.declared.Opcode.{Opcode}
 use Rattle.event_messages.specs.declared.Shape.{Shape}
 use Rattle.event_messages.specs.declared.Values.{Values}
-use Rattle.event_messages.proofs.Events.{Same, every, some, kind-least, laid-by, parts}
+use Rattle.event_messages.proofs.Events.{every, some, kind-least, laid-by, parts}
 use Rattle.event_messages.proofs.Tables.{kind-most, only-opcode}
 use Rattle.message_writer.specs.Number.{bigAt, valuesIn}
 use Rattle.message_writer.proofs.Arguments.{text-short}

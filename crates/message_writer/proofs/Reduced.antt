@@ -1,8 +1,8 @@
 -- What can be sent is sent as a record can hold it: a value modulo its width. Assumes nothing.
-use Prim.Native.Nat.{ℕ, zero, suc, _+_, _*_, _/_, _%_, _^_, _≤_, _<_}
-use mathlib.Core.Bool.{Bool, true, false, _&&_, _||_, cond}
-use mathlib.Core.List.{List, [], _∷_, _++_}
-use mathlib.Core.Path.{_≡_, refl, sym, ap, ap₂, _∙_}
+use Prim.Native.Nat.{ℕ, zero, suc, _*_, _/_, _%_, _^_, _<_}
+use mathlib.Core.Bool.{Bool, true, false, _&&_}
+use mathlib.Core.List.{List}
+use mathlib.Core.Path.{_≡_, refl}
 use native.Mathlib.Nat.{mul-suc, mod-eq-of-lt}
 use native.Mathlib.Omega.{arith}
 use borrow.Author.Tests.{leb-true, eqb-true}
@@ -15,7 +15,7 @@ use Rattle.event_messages.specs.declared.Argument.{Argument}
 use Rattle.event_messages.specs.declared.Argument.the-variants.{None, Uint32, Uint64, Interface, Reason, DeviceType, Text, Explanation}
 use Rattle.event_messages.specs.declared.Shape.{Shape}
 use Rattle.event_messages.specs.declared.Values.{Values}
-use Rattle.event_messages.proofs.Events.{Allowed, parts}
+use Rattle.event_messages.proofs.Events.{parts}
 use Rattle.event_messages.proofs.Tests.{both-hold}
 
 abbrev pub reduced : Shape → Values → Values

@@ -1,5 +1,4 @@
 -- The two tests in turn. Assumes nothing.
-use mathlib.Core.Path.{sym}
 use borrow.Author.Tests.{lt-leb, le-leb}
 use Rattle.event_messages.proofs.between.Statement.{statement}
 use Rattle.event_messages.proofs.between.Tie as tie

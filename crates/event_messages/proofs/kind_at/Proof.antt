@@ -1,5 +1,4 @@
 -- The table that the code has is the definition, and past its ends there is none. Assumes nothing.
-use native.Mathlib.Omega.{arith}
 use borrow.Author.Needs.{needs}
 use Rattle.event_messages.proofs.Tables.{past-interfaces, past-opcodes, kind-in}
 use Rattle.event_messages.proofs.kind_at.Statement.{statement}

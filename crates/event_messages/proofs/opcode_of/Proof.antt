@@ -1,5 +1,5 @@
 -- The loop's invariant: no opcode before this one is the kind's. Assumes nothing.
-use Prim.Native.Nat.{ℕ, _+_, _-_, _≤_, _<_}
+use Prim.Native.Nat.{ℕ, _-_, _≤_, _<_}
 use mathlib.Core.Logic.{dite}
 use mathlib.Core.Path.{_≡_, sym, _∙_}
 use native.Mathlib.Decide.{decLt}

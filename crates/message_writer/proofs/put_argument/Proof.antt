@@ -1,5 +1,5 @@
 -- Each value by its own function. Assumes nothing.
-use Prim.Native.Nat.{ℕ, _+_, _≤_}
+use Prim.Native.Nat.{ℕ, _≤_}
 use mathlib.Core.List.{List, []}
 use mathlib.Core.Path.{_≡_, refl, sym, ap}
 use native.Mathlib.Nat.{add-zero}

@@ -1,10 +1,9 @@
 -- Each value has its own length. Assumes nothing.
 use Prim.Native.Nat.{_≤_}
-use mathlib.Core.Path.{_≡_, refl, sym, _∙_}
+use mathlib.Core.Path.{refl}
 use native.Mathlib.Omega.{arith}
 use borrow.Author.Needs.{needs}
 use borrow.Author.Tests.{eq-eqb, ne-eqb}
-use lib.ListN.{length}
 use Rattle.eiproto.specs.Interface.{interfaceName}
 use Rattle.event_messages.specs.Message.{le}
 use Rattle.event_messages.specs.Shape.{sent}

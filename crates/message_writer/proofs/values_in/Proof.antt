@@ -1,7 +1,5 @@
 -- Three numbers, each behind the one before. Assumes nothing.
-use mathlib.Core.Path.{_≡_}
 use borrow.Author.Needs.{needs}
-use Rattle.event_messages.specs.Shape.{valuesOf}
 use Rattle.message_writer.specs.Number.{valuesIn}
 use Rattle.message_writer.proofs.values_in.Statement.{statement}
 use Rattle.message_writer.proofs.values_in.Tie as tie
