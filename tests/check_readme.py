@@ -3,12 +3,17 @@
 
 usage: check_readme.py     run at the repository's root
 
-In the sections "From Rust", "From C" and "From Rattle" of README.md every fenced block has to stand in the program that the section is about, line for line
-and one line behind the other, and every indented line of the last in crates.txt. It says what does not, or how much was compared.
+In the sections "From Rust", "A server on a socket", "From C" and "From Rattle" of README.md every fenced block has to stand in the program that the section is
+about, line for line and one line behind the other, and every indented line of the last in crates.txt. It says what does not, or how much was compared.
 """
 import sys
 
-SECTIONS = {"## From Rust": "rust/examples/station.rs", "## From C": "examples/station.c", "## From Rattle": "crates/station/src/main.rt"}
+SECTIONS = {
+    "## From Rust": "rust/examples/station.rs",
+    "## A server on a socket": "rust/examples/server.rs",
+    "## From C": "examples/station.c",
+    "## From Rattle": "crates/station/src/main.rt",
+}
 
 
 def lines(path):
