@@ -3,6 +3,7 @@
 use eiproto::eiproto_eis;
 use eiproto::eiproto_eis::Found;
 use event_messages::Argument;
+use event_messages::EVENT_MESSAGE_LENGTH;
 use event_messages::MessageError;
 use event_messages::Shape;
 use event_messages::Values;
@@ -234,7 +235,7 @@ fn is_message(message: &[u8], object: u64, opcode: u32, kind: u8, v: Values, tex
         return false;
     }
     let length = message_writer::message_length(s, v, text);
-    let mut again = [0u8; 284];
+    let mut again = [0u8; EVENT_MESSAGE_LENGTH];
     message_writer::put_message(&mut again, object, opcode, s, v, text);
     check::same(message, &again[..length])
 }
