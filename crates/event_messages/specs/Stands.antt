@@ -54,8 +54,8 @@ sendable (Connection id serial version) text = true
 
 -- ---- record and message
 
--- the bytes are the record of an event, and the message is that event's on an object of the interface, which has it: document 01's "laid out"
--- and the protocol's, of one event
+-- of one event with its object and its text the bytes are the record and `sent` is the message, on an object of the interface, which has the event, and it
+-- can be sent
 pub record Stands (interface : ℕ) (bytes sent : List ℕ) : Type 0 where
   pub object : ℕ
   pub opcode : ℕ
