@@ -3,7 +3,7 @@ use Prim.Native.Nat.{ℕ, zero, suc, _+_, _-_, _*_, _/_, _%_, _^_, _≤_, _<_, m
 use mathlib.Core.Path.{_≡_, refl, ap, ap₂, sym, _∙_}
 use mathlib.Core.Bool.{Bool, true, false, cond, _&&_, false≢true}
 use mathlib.Core.List.{List, [], _∷_, _++_}
-use native.Mathlib.Nat.{add-zero, pow-succ', mod-le, mod-eq-of-lt}
+use native.Mathlib.Nat.{add-zero, mul-assoc, pow-succ', mod-le, mod-eq-of-lt, div-eq-of-lt}
 use mathlib.Core.Logic.{dite}
 use native.Mathlib.Decide.{decLt}
 use native.Mathlib.Omega.{arith}
@@ -13,7 +13,7 @@ use lib.Count.{trailingZeros, under, ones, ones-step, trailing-of-zero}
 use lib.Dec.{eqb, ltb}
 use lib.ListN.{length, getD}
 use lib.Pow.{pow-pos, pow-mono, shl-exact, shr-shr, field, mod-mod-pow}
-use Rattle.eiproto.specs.Bits.{bit, bitsFrom, bitsOf, lowestBit, withoutLowest, bitsBelow, every, contains, commonIn, common}
+use Rattle.eiproto.specs.Bits.{bit, bitsFrom, bitsOf, maskFrom, lowestBit, withoutLowest, bitsBelow, every, contains, commonIn, common}
 
 -- ---- how many
 
@@ -194,6 +194,88 @@ contains-is whole part h =
 -- a part is what it shares with the whole
 pub contains-common : (whole part : ℕ) → part < 2 ^ 64 → contains whole part ≡ true → common part whole ≡ part
 contains-common whole part h e = eqb-true (common part whole) part (sym (contains-is whole part h) ∙ e)
+
+-- the lowest bit and the others of what two masks share
+common-step : (k a b : ℕ) → (commonIn (suc k) a b % 2 ≡ (a % 2) * (b % 2)) × (commonIn (suc k) a b / 2 ≡ commonIn k (a / 2) (b / 2))
+unfolding commonIn
+common-step k a b = go (a % 2) (b % 2) (commonIn k (a / 2) (b / 2)) (omega arith) (omega arith)
+  where
+    go : (x y r : ℕ) → x < 2 → y < 2 → ((x * y + 2 * r) % 2 ≡ x * y) × ((x * y + 2 * r) / 2 ≡ r)
+    go zero y r h l = (omega arith, omega arith)
+    go (suc zero) zero r h l = (omega arith, omega arith)
+    go (suc zero) (suc zero) r h l = (omega arith, omega arith)
+    go (suc zero) (suc (suc y)) r h l = absurd (omega arith)
+    go (suc (suc x)) y r h l = absurd (omega arith)
+
+commonIn-small : (k a b : ℕ) → commonIn k a b < 2 ^ k
+unfolding commonIn
+commonIn-small zero a b = omega arith
+commonIn-small (suc k) a b =
+    let s = common-step k a b in
+    let r = commonIn-small k (a / 2) (b / 2) in
+    let z = pow-succ' 2 k in
+    omega (arith, s .1)
+
+commonIn-assoc : (k a b c : ℕ) → commonIn k (commonIn k a b) c ≡ commonIn k a (commonIn k b c)
+unfolding commonIn
+commonIn-assoc zero a b c = refl
+commonIn-assoc (suc k) a b c = joined (commonIn (suc k) a b) (commonIn (suc k) b c) (common-step k a b) (common-step k b c) (commonIn-assoc k (a / 2) (b / 2) (c / 2))
+  where
+    joined : (x y : ℕ) → (x % 2 ≡ (a % 2) * (b % 2)) × (x / 2 ≡ commonIn k (a / 2) (b / 2)) → (y % 2 ≡ (b % 2) * (c % 2)) × (y / 2 ≡ commonIn k (b / 2) (c / 2))
+        → commonIn k (commonIn k (a / 2) (b / 2)) (c / 2) ≡ commonIn k (a / 2) (commonIn k (b / 2) (c / 2)) → commonIn (suc k) x c ≡ commonIn (suc k) a y
+    joined x y p q e = rw (p .0, p .1, q .0, q .1, e, mul-assoc (a % 2) (b % 2) (c % 2))
+
+common-assoc : (a b c : ℕ) → common (common a b) c ≡ common a (common b c)
+unfolding common
+common-assoc a b c = commonIn-assoc 64 a b c
+
+pub common-small : (a b : ℕ) → common a b < 2 ^ 64
+unfolding common
+common-small a b = commonIn-small 64 a b
+
+-- what two masks share is a part of the second
+pub common-part : (a b : ℕ) → b < 2 ^ 64 → common (common a b) b ≡ common a b
+common-part a b h = common-assoc a b b ∙ ap (common a) (common-self b h)
+
+pub part-contained : (whole part : ℕ) → common part whole ≡ part → contains whole part ≡ true
+part-contained whole part e =
+    contains-is whole part (let z = common-small part whole in omega (arith, e)) ∙ eq-eqb (common part whole) part e
+
+-- what a part contains, the whole contains
+pub contains-more : (whole part small : ℕ) → common part whole ≡ part → small < 2 ^ 64 → contains part small ≡ true → contains whole small ≡ true
+contains-more whole part small e l q =
+    let s = contains-common part small l q in
+    part-contained whole small (ap (λ (x : ℕ). common x whole) (sym s) ∙ common-assoc small part whole ∙ ap (common small) e ∙ s)
+
+-- ---- those that pass a test
+
+pub mask-small : (k p : ℕ) (test : ℕ → Bool) → maskFrom k p test < 2 ^ k
+unfolding maskFrom
+mask-small zero p test = omega arith
+mask-small (suc k) p test = go (test p) (mask-small k (p + 1) test)
+  where
+    go : (t : Bool) → maskFrom k (p + 1) test < 2 ^ k → cond t 1 0 + 2 * maskFrom k (p + 1) test < 2 ^ suc k
+    go true h = let z = pow-succ' 2 k in omega arith
+    go false h = let z = pow-succ' 2 k in omega arith
+
+-- a bit that is set passed the test
+pub mask-tested : (k p b : ℕ) (test : ℕ → Bool) → bit b (maskFrom k p test) ≡ true → test (p + b) ≡ true
+unfolding maskFrom
+mask-tested zero p b test h = absurd (false≢true (sym (ap (λ (x : ℕ). eqb (x % 2) 1) (div-eq-of-lt (pow-pos b))) ∙ h))
+mask-tested (suc k) p zero test h = ap test (add-zero p) ∙ go (test p) h
+  where
+    go : (t : Bool) → bit 0 (cond t 1 0 + 2 * maskFrom k (p + 1) test) ≡ true → t ≡ true
+    go true e = refl
+    go false e = absurd (false≢true (sym (ne-eqb ((0 + 2 * maskFrom k (p + 1) test) / 2 ^ 0 % 2) 1 (λ z. omega arith)) ∙ e))
+mask-tested (suc k) p (suc b) test h =
+    let z : p + suc b ≡ p + 1 + b = omega arith in
+    let y : 1 + b ≡ suc b = omega arith in
+    let shifted = shr-shr (maskFrom (suc k) p test) 1 b ∙ ap (λ (x : ℕ). maskFrom (suc k) p test / 2 ^ x) y in
+    ap test z ∙ mask-tested k (p + 1) b test (ap (λ (x : ℕ). eqb (x % 2) 1) (ap (λ (x : ℕ). x / 2 ^ b) (sym (go (test p))) ∙ shifted) ∙ h)
+  where
+    go : (t : Bool) → (cond t 1 0 + 2 * maskFrom k (p + 1) test) / 2 ^ 1 ≡ maskFrom k (p + 1) test
+    go true = omega arith
+    go false = omega arith
 
 -- a bit is shared if both masks have it
 pub common-bit : (a b p : ℕ) → a < 2 ^ 64 → bit p (common a b) ≡ bit p a && bit p b

@@ -19,6 +19,11 @@ unfoldable pub bitsOf : ℕ → List ℕ
 unfolding bitsFrom
 bitsOf m = bitsFrom 64 0 m
 
+-- the mask of the k places from p on that pass a test, where p is the place of its lowest bit
+unfoldable pub maskFrom : (k p : ℕ) → (ℕ → Bool) → ℕ
+maskFrom zero p test = 0
+maskFrom (suc k) p test = cond (test p) 1 0 + 2 * maskFrom k (p + 1) test
+
 -- the lowest set bit, 64 where none is set: "trailing zeros give the next capability in ascending order"
 unfoldable pub lowestBit : ℕ → ℕ
 unfolding bitsOf
