@@ -4,7 +4,7 @@
 usage: equations.py SCRIPT TRAIL > NAME.antt
 
 TRAIL is what the oracle writes of SCRIPT (target/release/oracle in its folder, which `./build.sh` there builds; Rust is needed, and no network).
-From the first seat or interface release of a session on, the lines by hand of SCRIPT are taken in its stead (releases.py). A session begins with
+From where the crate does not decide a session, the lines by hand of SCRIPT are taken in its stead (releases.py). A session begins with
 each accepted handshake.finish; the handshake itself is no part of the definitions, and what it settled (connection, serial, versions) is read
 off the trail. An equation says that the trail of the session's calls, as the definitions compute it, is the given one: each call's answer, its
 event records as one number (0x1 and then the bytes, so that none is lost) and what next_request gave. antt checks it by computation, with the
@@ -12,6 +12,7 @@ trail as a literal on the right.
 """
 import sys
 
+import negotiation
 import releases
 
 INTERFACES = ["connection", "callback", "pingpong", "seat", "device", "pointer", "pointer_absolute", "scroll", "button", "keyboard",
@@ -246,7 +247,8 @@ use Rattle.model_cases.specs.Line.{{Line, line, f32, an, turn, computed}
 
 
 def module(title, script, trail):
-    source = "its trail: the oracle's, and by hand from the first release of a session on" if releases.within(script) else "the oracle's trail of it"
+    first = "seat of a session on that is given what was not negotiated" if any(map(negotiation.Negotiated().beyond, script)) else "release of a session on"
+    source = f"its trail: the oracle's, and by hand from the first {first}" if releases.within(script) else "the oracle's trail of it"
     parts = [USES.format(title=title, source=source)]
     for k, s in enumerate(sessions(script, trail), 1):
         connection, serial, following, versions = s["start"]

@@ -1,14 +1,14 @@
 #!/usr/bin/env python3
-"""Holds the definitions of the crate `model` to the oracle, on random call scripts or on the oracle's own cases and those of tests/released.
+"""Holds the definitions of the crate `model` to the oracle, on random call scripts or on the oracle's own cases and those of tests/released and tests/negotiated.
 
 usage: hold_model.py ORACLE FIRST LAST [N]     run at the repository's root
        hold_model.py ORACLE cases
 
 ORACLE is the oracle's folder (gen.py and cases/ in it; `./build.sh` there builds target/release/oracle; Rust is needed, and no network). For the seeds
 FIRST to LAST and every profile of gen.py a script of about N calls (300) is made, or each script of cases/ is taken, and run through the oracle; equations.py
-turns script and trail into closed equations, and antt checks these in a copy of the crates. Seat and interface releases are taken out of the random scripts;
-the cases with one are left out, and those of tests/released are taken, with what they have by hand (releases.py). It prints what was compared, and stops
-with 1 at the first batch that does not agree.
+turns script and trail into closed equations, and antt checks these in a copy of the crates. In the random scripts seats are given negotiated capabilities alone
+(negotiation.py), and seat and interface releases are taken out of them. The cases that the crate does not decide are left out, and those of tests/released and
+tests/negotiated are taken, with what they have by hand (releases.py). It prints what was compared, and stops with 1 at the first batch that does not agree.
 """
 import os
 import shutil
@@ -19,6 +19,7 @@ import tempfile
 HERE = os.path.dirname(os.path.abspath(__file__))
 sys.path.insert(0, HERE)
 import equations  # noqa: E402
+import negotiation  # noqa: E402
 import releases  # noqa: E402
 
 PROFILES = ["mixed", "limits", "touch", "text", "removal", "frames"]
@@ -26,10 +27,7 @@ BATCH = 30
 
 
 def made(oracle, seed, profile, calls):
-    # gen.py goes through sets of words, whose order hangs on the hash seed: with it fixed, a seed gives the same script at each run.
-    fixed = {**os.environ, "PYTHONHASHSEED": "0"}
-    done = subprocess.run([os.path.join(oracle, "gen.py"), str(seed), str(calls), "--profile", profile], capture_output=True, text=True, check=True, env=fixed)
-    return releases.without(done.stdout)
+    return releases.without(negotiation.script(oracle, seed, calls, "--profile", profile))
 
 
 def scripts_of(oracle, words):

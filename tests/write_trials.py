@@ -1,15 +1,17 @@
 #!/usr/bin/env python3
 """Writes the scripts that the gate runs and the trails that are expected of them. The trails are the oracle's, which is the crate's own Rust; from the first
-seat or interface release of a session on, or its first read or message, they are by hand, and so is each line of an event.
+seat or interface release of a session on, its first seat that is given what was not negotiated, or its first read or message, they are by hand, and so is each
+line of an event.
 
 usage: write_trials.py [--check] ORACLE [FOLDER]     run at the repository's root
 
 ORACLE is the oracle's folder (cases/ in it; `./build.sh` there builds target/release/oracle, for which Rust is needed, and no network; or the program is that
-of FOLDER). crates/trials gets the trial lines, the five false friends, the oracle's other cases and the scripts of tests/released, of tests/reads, of
-tests/messages and of tests/events, one session behind the other; crates/replay gets examples/token.script. Of that script and of rust/tests/every.script,
-the Rust crate's tests get the trails. The oracle's cases with a release are left out, and each has to have its like in tests/released. The lines `#= LINE`,
-by hand from the scope, stay in the script behind their calls. Before a release, a read or a message the oracle's trail is held to them here, and behind one
-every call has to have its own (releases.py). With --check nothing is written: the files have to be what would be written.
+of FOLDER). crates/trials gets the trial lines, the five false friends, the oracle's other cases and the scripts of tests/released, of tests/negotiated, of
+tests/reads, of tests/messages and of tests/events, one session behind the other; crates/replay gets examples/token.script. Of that script and of
+rust/tests/every.script, the Rust crate's tests get the trails. The oracle's cases that the crate does not decide are left out, and each has to have its like in
+tests/released or in tests/negotiated. The lines `#= LINE`, by hand from the scope, stay in the script behind their calls. Where the crate decides, the oracle's
+trail is held to them here, and where it does not, every call has to have its own (releases.py). With --check nothing is written: the files have to be what would
+be written.
 """
 import glob
 import os
@@ -24,6 +26,8 @@ PARTS = [
     ("False friends", lambda n: 20 <= n < 30),
     ("The oracle's other cases", lambda n: 30 <= n),
 ]
+# The folders of tests whose lines are by hand where the crate does not decide.
+OWN = {"Releases": "released", "Not negotiated": "negotiated", "Reads": "reads", "Messages": "messages", "Events": "events"}
 SETTINGS = ["now 0", "out 4096", "buffer 254"]
 
 
@@ -76,20 +80,21 @@ def main():
     folders = sys.argv[1 + check:]
     if len(folders) not in (1, 2):
         sys.exit(__doc__)
-    cases, own, reads = read(f"{folders[0]}/cases"), read(f"{HERE}/released"), read(f"{HERE}/reads")
-    messages, events = read(f"{HERE}/messages"), read(f"{HERE}/events")
+    cases = read(f"{folders[0]}/cases")
+    own = {part: read(f"{HERE}/{folder}") for part, folder in OWN.items()}
     oracle = f"{folders[-1]}/target/release/oracle"
     scripts = {number: open(path).read().splitlines() for number, path in cases.items()}
     for number in [number for number, script in scripts.items() if releases.within(script)]:
-        if os.path.basename(own.get(number, "")) != os.path.basename(cases[number]):
-            sys.exit(f"{cases[number]} has a release, and tests/released no script of that name")
+        if not any(os.path.basename(paths.get(number, "")) == os.path.basename(cases[number]) for paths in own.values()):
+            sys.exit(f"{cases[number]} is not the crate's to decide, and no folder of ours has a script of that name")
         del scripts[number]
     scripts[24] = held_ids(cases)
     parts = [(part, [(number, scripts[number]) for number in sorted(filter(chosen, scripts))]) for part, chosen in PARTS]
-    for part, paths in (("Releases", own), ("Reads", reads), ("Messages", messages), ("Events", events)):
+    for part, paths in own.items():
         parts.append((part, [(number, open(paths[number]).read().splitlines()) for number in sorted(paths)]))
     lines = ["# Written by tests/write_trials.py. A line that begins with #= is what the call above it answers, by hand from the scope; stdout is what the crate's own "
-             "Rust answers and, from the first seat or interface release of a session on, or its first read or message, and of an event, what these lines say."]
+             "Rust answers; from the first seat or interface release of a session on, its first seat that is given what was not negotiated, or its first read or "
+             "message, and of an event, it is what these lines say."]
     one_by_one = []
     for part, chosen in parts:
         lines += ["", f"# ---- {part}"]
@@ -113,7 +118,7 @@ def main():
         if not check:
             with open(path, "w") as f:
                 f.write(content)
-    print(f"{len(scripts) + len(own) + len(reads) + len(messages) + len(events)} scripts, {len(trail)} calls, {hand} lines by hand")
+    print(f"{len(scripts) + sum(map(len, own.values()))} scripts, {len(trail)} calls, {hand} lines by hand")
 
 
 main()

@@ -1,6 +1,6 @@
 -- The session that the turns of the benchmark begin with: a handshake, a seat, devices, each call as its contract has it. Assumes nothing.
 use Prim.Native.Nat.{ℕ, _+_}
-use mathlib.Core.List.{List}
+use mathlib.Core.List.{List, [], _∷_}
 use mathlib.Core.Option.{none}
 use lib.Ieee.{Float}
 use lib.ListN.{length}
@@ -20,11 +20,21 @@ use Rattle.converter.specs.Next.{Begins}
 pub data Knows (h : EisHandshaker) (name : List ℕ) : EisHandshaker → Type 0 where
   knows : {out later : List ℕ} {answer : HandshakeAnswer} → Handled h (paper.Message.InterfaceVersion name 9) out later answer → Knows h name (answer .handshaker)
 
--- a handshake from serial 7 on, with the three interfaces that a session needs, and the session that its Finish leaves in the control words
+-- one after another
+pub data KnowsAll (h : EisHandshaker) : List (List ℕ) → EisHandshaker → Type 0 where
+  nothing : KnowsAll h [] h
+  more : {m e : EisHandshaker} {name : List ℕ} {names : List (List ℕ)} → KnowsAll h names m → Knows m name e → KnowsAll h (name ∷ names) e
+
+-- the interfaces that a session needs, and those of the devices; the last one first
+unfoldable pub known : List (List ℕ)
+unfolding ascii
+known = ascii "ei_text" ∷ ascii "ei_touchscreen" ∷ ascii "ei_keyboard" ∷ ascii "ei_pingpong" ∷ ascii "ei_callback" ∷ ascii "ei_connection" ∷ []
+
+-- a handshake from serial 7 on, with these interfaces, and the session that its Finish leaves in the control words
 pub data Shaken : (c d : List ℕ) → Type 0 where
-  shaken : {out later last after c d : List ℕ} {started finished : HandshakeAnswer} {one two three : EisHandshaker} {answer : Answer}
-      → Meets out later (paper.start 7 (length out)) started → Knows (started .handshaker) (ascii "ei_connection") one → Knows one (ascii "ei_callback") two
-      → Knows two (ascii "ei_pingpong") three → Handled three paper.Message.Finish last after finished → Begins c d (finished .response) answer → Shaken c d
+  shaken : {out later last after c d : List ℕ} {started finished : HandshakeAnswer} {ready : EisHandshaker} {answer : Answer}
+      → Meets out later (paper.start 7 (length out)) started → KnowsAll (started .handshaker) known ready
+      → Handled ready paper.Message.Finish last after finished → Begins c d (finished .response) answer → Shaken c d
 
 -- a call of the station on the control words, whatever the other slices are
 abbrev pub Promised : (c d out later : List ℕ) → Plain → Answer → Type 0

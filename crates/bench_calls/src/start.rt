@@ -18,16 +18,20 @@ fn negotiated(h: EisHandshaker, name: &[u8]) -> EisHandshaker
     a.handshaker
 }
 
-// The handshake, in which the interfaces that a session needs are negotiated.
+// The handshake, in which the interfaces that a session needs are negotiated, and those that the benchmark's devices have.
 fn shaken(control: &mut [u64])
     ensures { λ _. ⌜ Shaken (now (control .entry)) (now (control .exit)) ⌝ }
 {
-    let mut out = [0u8; 4096];
+    let mut out = [0u8; 16];
     let mut h = EisHandshaker::new(7, &mut out).handshaker;
     h = negotiated(h, b"ei_connection");
     h = negotiated(h, b"ei_callback");
     h = negotiated(h, b"ei_pingpong");
-    let finished = h.handle_request(Shake::Finish, b"", &mut out);
+    h = negotiated(h, b"ei_keyboard");
+    h = negotiated(h, b"ei_touchscreen");
+    h = negotiated(h, b"ei_text");
+    let mut reports = [0u8; 4096];
+    let finished = h.handle_request(Shake::Finish, b"", &mut reports);
     request::new(control, finished.response);
 }
 

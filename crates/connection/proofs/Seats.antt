@@ -8,12 +8,12 @@ use native.Mathlib.Omega.{arith}
 use borrow.Author.Tests.{lt-leb}
 use lib.ListN.{length}
 use Rattle.eiproto.specs.Capability.{unknownBits}
-use Rattle.eiproto.specs.Interface.{eiSeat}
+use Rattle.eiproto.specs.Bits.{common}
 use Rattle.model.specs.Call.{Input, Load, Plain, Call, Split, mapCall, split}
 use Rattle.model.specs.Session.{Connection, View, view}
 use Rattle.model.specs.Edit.{Edit}
 use Rattle.model.specs.Plan.{Sent, records, refusal, refuse}
-use Rattle.model.specs.Decide.{version, versionOr1, checkCapabilities, seatEvents, seatPlan, addSeat, decidePlain, decide}
+use Rattle.model.specs.Decide.{negotiatedCapabilities, seatVersion, checkCapabilities, seatEvents, seatPlan, seatAdded, addSeat, decidePlain, decide}
 use Rattle.model.specs.Step.{refuses, step}
 use Rattle.model_steps.proofs.Steps.{step-seat-full, step-seat-spent, step-seat-short, step-seat}
 use Rattle.control.specs.Control.{seatCount, connectionOf}
@@ -32,7 +32,7 @@ use Rattle.answers.proofs.Meetings.{meets-done, whole-after, over-handled, told
 use Rattle.connection.specs.Seat.{Tested}
 
 seat-plan : (v : View) (name : Option (List ℕ)) (caps : ℕ) → Checks name Checked.Fine → caps < 128
-    → addSeat v name caps ≡ seatPlan (v .connection .nextId) caps (seatEvents (v .connection) (v .connection .nextId) (versionOr1 (version (v .connection) eiSeat)) name caps)
+    → addSeat v name caps ≡ seatAdded v name caps
 unfolding addSeat checkCapabilities
 seat-plan v name caps fine small = fine _ ∙ rw (lt-leb 128 caps small)
 
@@ -52,21 +52,25 @@ module _ (s : Store) (w : Whole s) (out : List ℕ) (clock : ℕ) (name : Option
   seat-unknown {r} fine unknown told =
       told-handled s out (Plain.addSeat name caps) clock (Outcome.Refused Error.BadCapabilities) r w (fine _ ∙ rw unknown) told
 
-  -- where both are fine, by the limits. The id and the version are the control words'
-  module _ (tested : Tested (s .control) name caps) (id ver : ℕ) (i : id ≡ connectionOf (s .control) .nextId)
-      (v : ver ≡ versionOr1 (version (connectionOf (s .control)) eiSeat)) where
+  -- where both are fine, by the limits. The id, the version and the set are the code's
+  module _ (tested : Tested (s .control) name caps) (id ver set : ℕ) (i : id ≡ connectionOf (s .control) .nextId)
+      (v : ver ≡ seatVersion (connectionOf (s .control))) (c : set ≡ common caps (negotiatedCapabilities (connectionOf (s .control)))) where
     abbrev told : List Sent
-    told = seatEvents (connectionOf (s .control)) id ver name caps
+    told = seatEvents (connectionOf (s .control)) id ver name set
 
     abbrev t : Split Load
     t = split (turn call clock out)
 
-    planned : decide (view (session s)) (t .now) (t .call) ≡ seatPlan id caps told
+    planned : decide (view (session s)) (t .now) (t .call) ≡ seatPlan id set told
     unfolding split mapCall decide decidePlain
     planned =
         seat-plan (view (session s)) name caps (tested .fine) (tested .known)
-        ∙ ap (λ (c : Connection). seatPlan (c .nextId) caps (seatEvents c (c .nextId) (versionOr1 (version c eiSeat)) name caps)) (view-connection s)
-        ∙ rw (i, v)
+        ∙ ap
+        (λ (n : Connection).
+        let cut = common caps (negotiatedCapabilities n) in
+        seatPlan (n .nextId) cut (seatEvents n (n .nextId) (seatVersion n) name cut))
+        (view-connection s)
+        ∙ rw (i, v, c)
 
     pub seat-full : {r : Answer} → 4 ≤ seatCount (s .control) → (r .outcome ≡ Outcome.Refused Error.FullSeats) × (r .count ≡ 0) → Handled s s out out call clock r
     seat-full {r} h = over-handled s out call clock (Outcome.Refused Error.FullSeats) r w (step-seat-full t (session s) planned (omega (arith, seats-length s)))
@@ -87,14 +91,14 @@ module _ (s : Store) (w : Whole s) (out : List ℕ) (clock : ℕ) (name : Option
             over-handled s out call clock (Outcome.Refused Error.ShortOut) r w
             (step-seat-short t (session s) planned (omega (arith, seats-length s)) (omega arith) h)
 
-        pub seat-done : {d later : List ℕ} {n : ℕ} → EnactedControl (s .control) d (Edit.addSeat caps ∷ []) → length (records told) ≤ length out → Sends out later 0 told n
+        pub seat-done : {d later : List ℕ} {n : ℕ} → EnactedControl (s .control) d (Edit.addSeat set ∷ []) → length (records told) ≤ length out → Sends out later 0 told n
             → Handled s (store d (s .words) (s .reals) (s .texts)) out later call clock (record { outcome = Outcome.Seat id; count = n })
         unfolding split refuses refusal
         seat-done {d} {later} {n} done room sends =
             let e : Store = store d (s .words) (s .reals) (s .texts) in
             let k = ap (λ (c : Connection). c .nextId) (connection-is s) in
             let enacted = done (s .words) (s .reals) (s .texts) (t .load) in
-            meets-done s e out later (step t (session s)) (seatPlan id caps told) (t .load) _
+            meets-done s e out later (step t (session s)) (seatPlan id set told) (t .load) _
             (whole-after s w (enacted .sound) refl refl)
             (step-seat t (session s) planned (omega (arith, seats-length s)) (omega arith) room)
             enacted refl refl (omega (arith, sends .next)) (sends .bytes) (TextsAfter.kept refl)

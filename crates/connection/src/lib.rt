@@ -28,7 +28,7 @@ ghost use Rattle.answers.specs.Check.{Checks};
 ghost use Rattle.answers.specs.Promise.{Promise, Reply, PromiseRows, HandlesControl, HandlesRows};
 ghost use Rattle.connection.specs.Seat.{Tested};
 
-// Behind the tests of the call: 14, then 20, then 19.
+// Behind the tests of the call: 14, then 20, then 19. "A seat's set is cut down to the negotiated capabilities".
 fn add_seat_at(
     control: &mut [u64],
     given: bool,
@@ -46,12 +46,14 @@ fn add_seat_at(
     let NewObjects::NextId(_) = backend::new_objects(id, 1) else {
         return Answer::refused(Error::IdsSpent);
     };
-    let version = control::version_or_1(control, eiproto_eis::SEAT);
-    if out.len() < events::seat_length(control, id, version, given, name, capabilities) {
+    let version = control::seat_version(control);
+    let negotiated = control::negotiated_capabilities(control);
+    let set = DeviceCapability::common(capabilities, negotiated);
+    if out.len() < events::seat_length(id, version, given, name, set) {
         return Answer::refused(Error::ShortOut);
     }
-    let count = events::announce_seat(control, id, version, given, name, capabilities, out);
-    session::add_seat(control, capabilities);
+    let count = events::announce_seat(control, id, version, given, name, set, out);
+    session::add_seat(control, set);
     Answer {
         outcome: Outcome::Seat(id),
         count,

@@ -1,12 +1,17 @@
--- The versions by place and by number. Assumes nothing.
-use Prim.Native.Nat.{ℕ, _+_, _-_, _%_, _^_, _<_}
-use mathlib.Core.Path.{_≡_, ap, sym, _∙_}
+-- The versions by place and by number, and the capabilities that have one. Assumes nothing.
+use Prim.Native.Nat.{ℕ, suc, _+_, _-_, _*_, _%_, _^_, _<_}
+use mathlib.Core.Path.{_≡_, refl, ap, sym, _∙_}
+use mathlib.Core.Bool.{Bool, cond}
 use mathlib.Core.List.{List}
 use mathlib.Core.Option.{none, some}
 use native.Mathlib.Omega.{arith}
 use borrow.Author.Tests.{eq-eqb, ne-eqb}
 use lib.ListN.{getD, List·getD-eq-default}
-use Rattle.model.specs.Decide.{version}
+use lib.Pow.{pow-mono}
+use Rattle.eiproto.specs.Bits.{maskFrom}
+use Rattle.eiproto.specs.Capability.{interfaceOfBit}
+use Rattle.eiproto.proofs.Bits.{mask-small}
+use Rattle.model.specs.Decide.{isSome, version, negotiatedCapabilities}
 use Rattle.control.specs.Table.{tab}
 use Rattle.control.specs.Control.{versionIn, versionsOf, connectionOf}
 use Rattle.control.proofs.Tables.{tab-at, tab-length}
@@ -33,3 +38,26 @@ module _ (c : List ℕ) where
   version-past i h =
       let n = tab-length 12 (λ i. versionIn (getD c (8 + i) 0)) in
       List·getD-eq-default (tab 12 (λ i. versionIn (getD c (8 + i) 0))) none {n = i - 1} (omega arith)
+
+  -- the negotiated capabilities from a bit up, as a mask whose lowest bit is that one
+  unfoldable pub negotiatedFrom : (bit : ℕ) → ℕ
+  unfolding maskFrom
+  negotiatedFrom b = maskFrom (7 - b) b (λ b. isSome (version (connectionOf c) (interfaceOfBit b)))
+
+  pub negotiated-past : negotiatedFrom 7 ≡ 0
+  unfolding negotiatedFrom maskFrom
+  negotiated-past = refl
+
+  pub negotiated-all : negotiatedFrom 0 ≡ negotiatedCapabilities (connectionOf c)
+  unfolding negotiatedFrom negotiatedCapabilities
+  negotiated-all = refl
+
+  pub negotiated-next : (b : ℕ) (t : Bool) → b < 7 → t ≡ isSome (version (connectionOf c) (interfaceOfBit b)) → negotiatedFrom b ≡ cond t 1 0 + 2 * negotiatedFrom (b + 1)
+  unfolding negotiatedFrom maskFrom
+  negotiated-next b t h e =
+      let z : 7 - b ≡ suc (7 - (b + 1)) = omega arith in rw (z, e)
+
+  pub negotiated-small : (b : ℕ) → negotiatedFrom b < 128
+  unfolding negotiatedFrom
+  negotiated-small b =
+      omega (arith, mask-small (7 - b) b (λ b. isSome (version (connectionOf c) (interfaceOfBit b))), pow-mono {i = 7 - b} {j = 7} (omega arith))

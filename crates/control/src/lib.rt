@@ -3,6 +3,7 @@
 pub mod edits;
 mod layout;
 
+use eiproto::eiproto_eis;
 use eiproto::event::DeviceCapability;
 use touches::EIS_MAX_TOUCHES;
 ghost use mathlib.Core.Path.{_≡_};
@@ -12,8 +13,9 @@ ghost use lib.Dec.{eqb};
 ghost use mathlib.Core.Option.{none};
 ghost use lib.ListN.{length, getD};
 ghost use Rattle.eiproto.specs.Bits.{bit};
+ghost use Rattle.eiproto.specs.Capability.{interfaceOfBit};
 ghost use Rattle.touches.specs.Touches.{member};
-ghost use Rattle.model.specs.Decide.{version, versionOr1, listsAs, lists};
+ghost use Rattle.model.specs.Decide.{isSome, version, stated, seatVersion, deviceVersion, negotiatedCapabilities, listsAs, lists};
 ghost use Rattle.control.specs.Table.{first};
 ghost use Rattle.control.specs.Control.{seatsLimit, devicesLimit, controlLength, seatCount, deviceCount, queueHead, queueLength, capabilitiesAt, listedAt};
 ghost use Rattle.control.specs.Control.{connectionOf, seatAt, interfaceId, coreAt, touchesAt, coresOf};
@@ -177,15 +179,56 @@ pub fn version(control: &[u64], interface: u8) -> Negotiated
     version_at(control, (interface as usize) - 1)
 }
 
-// "An interface with no negotiated version gets 1."
-pub fn version_or_1(control: &[u64], interface: u8) -> u32
-    requires { ⌜ length (now control) ≡ controlLength ⌝ }
-    ensures { λ r. ⌜ r ≡ versionOr1 (version (connectionOf (now (control .entry))) interface) ⌝ }
+// "Seats and devices without a negotiated version state 1 themselves."
+fn stated(negotiated: Negotiated) -> u32
+    ensures { λ r. ⌜ r ≡ stated (versionTold negotiated) ⌝ }
 {
-    match version(control, interface) {
+    match negotiated {
         Negotiated::Version(v) => v,
         Negotiated::Nothing => 1,
     }
+}
+
+pub fn seat_version(control: &[u64]) -> u32
+    requires { ⌜ length (now control) ≡ controlLength ⌝ }
+    ensures { λ r. ⌜ r ≡ seatVersion (connectionOf (now (control .entry))) ⌝ }
+{
+    stated(version(control, eiproto_eis::SEAT))
+}
+
+pub fn device_version(control: &[u64]) -> u32
+    requires { ⌜ length (now control) ≡ controlLength ⌝ }
+    ensures { λ r. ⌜ r ≡ deviceVersion (connectionOf (now (control .entry))) ⌝ }
+{
+    stated(version(control, eiproto_eis::DEVICE))
+}
+
+// Whether the interface of the capability at a bit was negotiated.
+fn is_negotiated(control: &[u64], bit: u32) -> bool
+    requires { ⌜ length (now control) ≡ controlLength ⌝ }
+    ensures { λ r. ⌜ r ≡ isSome (version (connectionOf (now (control .entry))) (interfaceOfBit bit)) ⌝ }
+{
+    match version(control, DeviceCapability::interface_of_bit(bit)) {
+        Negotiated::Version(_) => true,
+        Negotiated::Nothing => false,
+    }
+}
+
+// The mask of the capabilities whose interface was negotiated.
+pub fn negotiated_capabilities(control: &[u64]) -> u64
+    requires { ⌜ length (now control) ≡ controlLength ⌝ }
+    ensures { λ r. ⌜ r ≡ negotiatedCapabilities (connectionOf (now (control .entry))) ⌝ }
+{
+    let mut mask: u64 = 0;
+    let mut bit: u32 = 7;
+    while 0 < bit {
+        bit -= 1;
+        mask = mask * 2;
+        if is_negotiated(control, bit) {
+            mask += 1;
+        }
+    }
+    mask
 }
 
 // ---- the queue: the place of the oldest request in its ring, and how many there are

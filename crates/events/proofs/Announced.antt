@@ -1,11 +1,11 @@
 -- What a new seat and a new device announce, bit by bit: what is done, then what is left. Assumes nothing.
-use Prim.Native.Nat.{ℕ, suc, _+_, _*_, _%_, _^_, _≤_, _<_}
-use mathlib.Core.Path.{_≡_, refl, ap, _∙_}
-use mathlib.Core.Bool.{Bool, true, false, cond}
+use Prim.Native.Nat.{ℕ, _+_, _*_, _%_, _^_, _≤_, _<_}
+use mathlib.Core.Path.{_≡_, refl, ap, sym, _∙_}
 use mathlib.Core.List.{List, [], _∷_, _++_}
+use mathlib.Core.Option.{none, some}
 use native.Mathlib.Omega.{arith}
 use lib.ListN.{length}
-use Rattle.eiproto.specs.Bits.{bitsOf, lowestBit, withoutLowest}
+use Rattle.eiproto.specs.Bits.{bit, bitsOf, every, common, lowestBit, withoutLowest}
 use Rattle.eiproto.specs.Capability.{interfaceOfBit}
 use Rattle.eiproto.proofs.Bits.{bits-none, lowest, one-shl}
 use Rattle.wire.specs.declared.event.Event.{Event}
@@ -14,11 +14,13 @@ use Rattle.wire.specs.Record.{layout, textOf, fixedLength, recordLength}
 use Rattle.model.specs.Session.{Interface, Connection}
 use Rattle.model.specs.Edit.{interfacesFrom, newInterfaces}
 use Rattle.model.specs.Plan.{Sent, on, records}
-use Rattle.model.specs.Decide.{isSome, version, versionOr1, capabilityEvents, interfaceEvents}
+use Rattle.model.specs.Decide.{version, negotiatedCapabilities, capabilityEvents, interfaceEvent, interfaceEvents}
+use Rattle.model.proofs.ReachableHeld.{both}
+use Rattle.model.proofs.Cut.{has-version, Among, new-among}
 use Rattle.control.proofs.Interfaces.{new-length}
 use Rattle.events.specs.Events.{Sends}
-use Rattle.events.proofs.Writes.{cons-length, Partly, partly-room}
-use Rattle.events.proofs.Objects.{bits-most, bits-more}
+use Rattle.events.proofs.Writes.{one-length, cons-length}
+use Rattle.events.proofs.Objects.{bits-more}
 
 -- ---- capabilities
 
@@ -29,10 +31,10 @@ capability-room mask interface text = refl
 abbrev pub capabilityEvent : ℕ → Event
 capabilityEvent b = Event.Capability (2 ^ b) (interfaceOfBit b)
 
-pub capability-fits : {out mid : List ℕ} {from at seat : ℕ} {all left rest : List Sent} (b mask interface : ℕ) (text : List ℕ)
-    → left ≡ on seat (capabilityEvent b) ∷ rest → Partly out mid from at all left → at + recordLength (Event.Capability mask interface) text ≤ length mid
-capability-fits b mask interface text next p =
-    omega (arith, partly-room next p, capability-room mask interface text, capability-room (2 ^ b) (interfaceOfBit b) [])
+pub capability-fits : {n : ℕ} (at seat b mask interface : ℕ) (text : List ℕ) → at + length (records (on seat (capabilityEvent b) ∷ [])) ≤ n
+    → at + recordLength (Event.Capability mask interface) text ≤ n
+capability-fits at seat b mask interface text h =
+    omega (arith, one-length seat (capabilityEvent b) [], capability-room mask interface text, capability-room (2 ^ b) (interfaceOfBit b) [])
 
 -- the mask that the code shifts is the bit's
 pub capability-sent : {out later : List ℕ} {at interface r : ℕ} (seat m b : ℕ) → 0 < m → m < 128 → b ≡ lowestBit m → interface ≡ interfaceOfBit b
@@ -40,52 +42,25 @@ pub capability-sent : {out later : List ℕ} {at interface r : ℕ} (seat m b : 
 capability-sent seat m b p h l i s =
     rw (one-shl b (omega (arith, lowest m p (omega arith) .small)), i) at s
 
-module _ (c : Connection) (seat : ℕ) where
-  -- the events of a mask's bits, and their bytes
+module _ (seat : ℕ) where
+  -- the events of a mask's bits
   abbrev pub announced : ℕ → List Sent
-  announced m = capabilityEvents c seat (bitsOf m)
-
-  abbrev pub room : ℕ → ℕ
-  room m = length (records (announced m))
+  announced m = capabilityEvents seat (bitsOf m)
 
   pub announced-none : (m : ℕ) → m ≡ 0 → announced m ≡ []
   unfolding capabilityEvents
-  announced-none m z = ap announced z ∙ ap (capabilityEvents c seat) bits-none
+  announced-none m z = ap announced z ∙ ap (capabilityEvents seat) bits-none
 
-  pub room-none : (m : ℕ) → m ≡ 0 → room m ≡ 0
-  unfolding records
-  room-none m z = ap (λ (l : List Sent). length (records l)) (announced-none m z)
-
-  first : (m b later : ℕ) → 0 < m → m < 128 → b ≡ lowestBit m → later ≡ withoutLowest m
-      → announced m ≡ cond (isSome (version c (interfaceOfBit b))) (on seat (capabilityEvent b) ∷ []) [] ++ announced later
+  pub announced-more : (m b later : ℕ) → 0 < m → m < 128 → b ≡ lowestBit m → later ≡ withoutLowest m
+      → announced m ≡ on seat (capabilityEvent b) ∷ announced later
   unfolding capabilityEvents
-  first m b later p h l w = ap (capabilityEvents c seat) (bits-more m later p h w b l)
+  announced-more m b later p h l w = ap (capabilityEvents seat) (bits-more m later p h w b l)
 
-  module _ (m b later : ℕ) (p : 0 < m) (h : m < 128) (l : b ≡ lowestBit m) (w : later ≡ withoutLowest m) where
-    -- the lowest bit's event, where its interface was negotiated, then the others'
-    pub announced-hit : isSome (version c (interfaceOfBit b)) ≡ true → announced m ≡ on seat (capabilityEvent b) ∷ announced later
-    announced-hit e = first m b later p h l w ∙ rw e
-
-    pub announced-miss : isSome (version c (interfaceOfBit b)) ≡ false → announced m ≡ announced later
-    announced-miss e = first m b later p h l w ∙ rw e
-
-    pub room-hit : isSome (version c (interfaceOfBit b)) ≡ true → room m ≡ 19 + room later
-    room-hit e =
-        ap (λ (l : List Sent). length (records l)) (announced-hit e)
-        ∙ cons-length seat (capabilityEvent b) 19 (announced later) (capability-room (2 ^ b) (interfaceOfBit b) [])
-
-  room-le : (bs : List ℕ) → length (records (capabilityEvents c seat bs)) ≤ 19 * length bs
+  pub capabilities-length : (bs : List ℕ) → length (records (capabilityEvents seat bs)) ≡ 19 * length bs
   unfolding capabilityEvents records
-  room-le [] = omega arith
-  room-le (b ∷ bs) = go (isSome (version c (interfaceOfBit b))) (room-le bs)
-    where
-      go : (t : Bool) → length (records (capabilityEvents c seat bs)) ≤ 19 * length bs
-          → length (records (cond t (on seat (capabilityEvent b) ∷ []) [] ++ capabilityEvents c seat bs)) ≤ 19 * suc (length bs)
-      go true r = omega (arith, cons-length seat (capabilityEvent b) 19 (capabilityEvents c seat bs) (capability-room (2 ^ b) (interfaceOfBit b) []))
-      go false r = omega arith
-
-  pub room-most : (m : ℕ) → m < 128 → room m ≤ 133
-  room-most m h = omega (arith, room-le (bitsOf m), bits-most m h)
+  capabilities-length [] = refl
+  capabilities-length (b ∷ bs) =
+      cons-length seat (capabilityEvent b) 19 (capabilityEvents seat bs) (capability-room (2 ^ b) (interfaceOfBit b) []) ∙ omega (arith, capabilities-length bs)
 
 -- ---- interfaces
 
@@ -94,28 +69,42 @@ unfolding recordLength fixedLength textOf layout widths
 interface-room id interface version text = refl
 
 module _ (c : Connection) (device : ℕ) where
-  abbrev pub interfaceEvent : (id bit : ℕ) → Event
-  interfaceEvent id b = Event.Interface id (interfaceOfBit b) (versionOr1 (version c (interfaceOfBit b)))
+  events-length : (is : List Interface) → Among (negotiatedCapabilities c) is → length (records (interfaceEvents c device is)) ≡ 23 * length is
+  unfolding interfaceEvents interfaceEvent records every
+  events-length [] a = refl
+  events-length (i ∷ is) a =
+      let m = negotiatedCapabilities c in
+      let p = both (bit (i .capability) m) (every (λ j. bit (j .capability) m) is) a in
+      let v = has-version c (i .capability) (p .0) in
+      rw (v .1)
+      (cons-length device (Event.Interface (i .id) (interfaceOfBit (i .capability)) (v .0)) 23 (interfaceEvents c device is)
+      (interface-room (i .id) (interfaceOfBit (i .capability)) (v .0) [])
+      ∙ omega (arith, events-length is (p .1)))
 
-  pub interface-fits : {out mid : List ℕ} {from at n : ℕ} {all left rest : List Sent} (b id interface ver : ℕ) (text : List ℕ)
-      → left ≡ on device (interfaceEvent n b) ∷ rest → Partly out mid from at all left → at + recordLength (Event.Interface id interface ver) text ≤ length mid
-  interface-fits {n = n} b id interface ver text next p =
-      omega (arith, partly-room next p, interface-room id interface ver text, interface-room n (interfaceOfBit b) (versionOr1 (version c (interfaceOfBit b))) [])
+  -- where each was negotiated, each is told
+  pub interfaces-length : (caps : ℕ) → common caps (negotiatedCapabilities c) ≡ caps
+      → length (records (interfaceEvents c device (newInterfaces device caps))) ≡ 23 * length (bitsOf caps)
+  interfaces-length caps h =
+      events-length (newInterfaces device caps) (new-among (negotiatedCapabilities c) device caps h) ∙ ap (λ (n : ℕ). 23 * n) (new-length device caps)
 
-  pub interface-sent : {out later : List ℕ} {at interface ver r : ℕ} (id b : ℕ) → interface ≡ interfaceOfBit b → ver ≡ versionOr1 (version c interface)
-      → Sends out later at (on device (Event.Interface id interface ver) ∷ []) r → Sends out later at (on device (interfaceEvent id b) ∷ []) r
-  interface-sent id b i v s = rw (v, i) at s
+  -- the interface of a bit, by what its lookup says
+  module _ {interface : ℕ} (b id : ℕ) (i : interface ≡ interfaceOfBit b) where
+    abbrev offer : List Sent
+    offer = interfaceEvent device (record { capability = b; id = id }) (version c (interfaceOfBit b))
 
-  events-length : (is : List Interface) → length (records (interfaceEvents c device is)) ≡ 23 * length is
-  unfolding interfaceEvents records
-  events-length [] = refl
-  events-length (i ∷ is) =
-      cons-length device (interfaceEvent (i .id) (i .capability)) 23 (interfaceEvents c device is)
-      (interface-room (i .id) (interfaceOfBit (i .capability)) (versionOr1 (version c (interfaceOfBit (i .capability)))) [])
-      ∙ omega (arith, events-length is)
+    pub offer-some : {v : ℕ} → some v ≡ version c interface → offer ≡ on device (Event.Interface id interface v) ∷ []
+    unfolding interfaceEvent
+    offer-some {v} e =
+        ap (interfaceEvent device (record { capability = b; id = id })) (ap (version c) (sym i) ∙ sym e)
+        ∙ ap (λ (x : ℕ). on device (Event.Interface id x v) ∷ []) (sym i)
 
-  pub interfaces-length : (caps : ℕ) → length (records (interfaceEvents c device (newInterfaces device caps))) ≡ 23 * length (bitsOf caps)
-  interfaces-length caps = events-length (newInterfaces device caps) ∙ ap (λ (n : ℕ). 23 * n) (new-length device caps)
+    pub offer-none : none ≡ version c interface → offer ≡ []
+    unfolding interfaceEvent
+    offer-none e = ap (interfaceEvent device (record { capability = b; id = id })) (ap (version c) (sym i) ∙ sym e)
+
+    pub offer-room : (v at n : ℕ) (text : List ℕ) → some v ≡ version c interface → at + length (records offer) ≤ n → at + recordLength (Event.Interface id interface v) text ≤ n
+    offer-room v at n text e h =
+        omega (arith, ap (λ (l : List Sent). length (records l)) (offer-some e), one-length device (Event.Interface id interface v) [], interface-room id interface v [], interface-room id interface v text)
 
   -- of the bits that are left, with the ids from here on
   abbrev pub coming : (id m : ℕ) → List Sent
@@ -129,7 +118,8 @@ module _ (c : Connection) (device : ℕ) where
   unfolding interfaceEvents interfacesFrom
   coming-none id m z = ap (coming id) z ∙ ap (λ (l : List ℕ). interfaceEvents c device (interfacesFrom id l)) bits-none
 
+  -- the lowest bit's event, if its interface has a version, then the others'
   pub coming-more : (id m b later : ℕ) → 0 < m → m < 128 → b ≡ lowestBit m → later ≡ withoutLowest m
-      → coming id m ≡ on device (interfaceEvent id b) ∷ coming (id + 1) later
+      → coming id m ≡ interfaceEvent device (record { capability = b; id = id }) (version c (interfaceOfBit b)) ++ coming (id + 1) later
   unfolding interfaceEvents interfacesFrom
   coming-more id m b later p h l w = ap (λ (bs : List ℕ). interfaceEvents c device (interfacesFrom id bs)) (bits-more m later p h w b l)

@@ -1,11 +1,10 @@
 -- The events of a new device, each behind those before it. Assumes nothing.
-use Prim.Native.Nat.{ℕ, _+_, _*_, _≤_}
+use Prim.Native.Nat.{ℕ, _+_, _≤_}
 use mathlib.Core.Path.{_≡_, refl, _∙_}
 use mathlib.Core.List.{List, [], _∷_, _++_}
 use mathlib.Core.Option.{Option}
 use native.Mathlib.Omega.{arith}
 use lib.ListN.{length}
-use Rattle.eiproto.specs.Bits.{bitsOf}
 use Rattle.wire.specs.declared.event.Event.{Event}
 use Rattle.wire.specs.Bits.{widths}
 use Rattle.wire.specs.Record.{layout, textOf, fixedLength, recordLength}
@@ -17,7 +16,6 @@ use Rattle.control.specs.Control.{connectionOf}
 use Rattle.events.specs.Events.{Sends}
 use Rattle.events.specs.Announce.{CanAnnounceInterfaces, CanAnnounceDevice}
 use Rattle.events.proofs.Writes.{append-length, one-length, cons-length, sends-join}
-use Rattle.events.proofs.Announced.{interfaces-length}
 use Rattle.events.proofs.Named.{done-text}
 
 device-text : (id version : ℕ) (text : List ℕ) → recordLength (Event.Device id version) text ≡ fixedLength (Event.Device id version)
@@ -53,18 +51,18 @@ module _ (c : Connection) (seat id version : ℕ) (name : Option (List ℕ)) (ki
   last-bytes : length (records last) ≡ fixedLength Event.Done
   last-bytes = one-length id Event.Done [] ∙ done-text []
 
-  listed-bytes : length (records (listed ++ last)) ≡ 23 * length (bitsOf caps) + fixedLength Event.Done
-  listed-bytes = omega (arith, append-length listed last, interfaces-length c id caps, last-bytes)
+  listed-bytes : length (records (listed ++ last)) ≡ length (records listed) + fixedLength Event.Done
+  listed-bytes = omega (arith, append-length listed last, last-bytes)
 
-  typed-bytes : length (records (on id (Event.DeviceType kind) ∷ listed ++ last)) ≡ fixedLength (Event.DeviceType 0) + 23 * length (bitsOf caps) + fixedLength Event.Done
+  typed-bytes : length (records (on id (Event.DeviceType kind) ∷ listed ++ last)) ≡ fixedLength (Event.DeviceType 0) + length (records listed) + fixedLength Event.Done
   typed-bytes = omega (arith, cons-length id (Event.DeviceType kind) (fixedLength (Event.DeviceType 0)) (listed ++ last) (type-text kind []), listed-bytes)
 
   named-bytes : length (records (nameEvents id name ++ (on id (Event.DeviceType kind) ∷ listed ++ last)))
-      ≡ named + fixedLength (Event.DeviceType 0) + 23 * length (bitsOf caps) + fixedLength Event.Done
+      ≡ named + fixedLength (Event.DeviceType 0) + length (records listed) + fixedLength Event.Done
   named-bytes = omega (arith, append-length (nameEvents id name) (on id (Event.DeviceType kind) ∷ listed ++ last), typed-bytes)
 
   pub device-bytes : length (records all)
-      ≡ fixedLength (Event.Device id version) + named + fixedLength (Event.DeviceType 0) + 23 * length (bitsOf caps) + fixedLength Event.Done
+      ≡ fixedLength (Event.Device id version) + named + fixedLength (Event.DeviceType 0) + length (records listed) + fixedLength Event.Done
   device-bytes =
       omega (
         arith,
@@ -78,7 +76,7 @@ module _ {control : List ℕ} {seat id version : ℕ} {name : Option (List ℕ)}
   abbrev n : Connection
   n = connectionOf control
 
-  bytes : length (records (nameEvents id name)) + 23 * length (bitsOf caps) + fixedLength (Event.Device id version) + fixedLength (Event.DeviceType 0) + fixedLength Event.Done
+  bytes : length (records (nameEvents id name)) + length (records (interfaceEvents n id (newInterfaces id caps))) + fixedLength (Event.Device id version) + fixedLength (Event.DeviceType 0) + fixedLength Event.Done
       ≤ length out
   bytes = omega (arith, can .room, device-bytes n seat id version name kind caps)
 
@@ -106,7 +104,7 @@ module _ {control : List ℕ} {seat id version : ℕ} {name : Option (List ℕ)}
 
         module _ {f : List ℕ} {e : ℕ} (t : Sends j f d (interfaceEvents n id (newInterfaces id caps)) e) (g : length f ≡ length j) where
           pub done-room : (text : List ℕ) → e + recordLength Event.Done text ≤ length f
-          done-room text = omega (arith, at-name, q .next, at-interfaces, t .next, interfaces-length n id caps, bytes, done-text text)
+          done-room text = omega (arith, at-name, q .next, at-interfaces, t .next, bytes, done-text text)
 
           pub device-sends : {later : List ℕ} {r : ℕ} → Sends f later e (on id Event.Done ∷ []) r
               → Sends out later 0 (deviceEvents n seat id version name kind caps) r
@@ -114,7 +112,6 @@ module _ {control : List ℕ} {seat id version : ℕ} {name : Option (List ℕ)}
               let z = at-name in
               let y = at-interfaces in
               let w = bytes in
-              let x = interfaces-length n id caps in
               sends-join (omega (arith, named-bytes n seat id version name kind caps))
               p
               (sends-join (omega (arith, q .next, typed-bytes n seat id version name kind caps))

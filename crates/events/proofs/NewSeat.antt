@@ -30,20 +30,20 @@ module _ (c : Connection) (id version : ℕ) (name : Option (List ℕ)) (caps : 
   named = length (records (nameEvents id name))
 
   abbrev announced : ℕ
-  announced = length (records (capabilityEvents c id (bitsOf caps)))
+  announced = length (records (capabilityEvents id (bitsOf caps)))
 
   pub seat-bytes : length (records all) ≡ fixedLength (Event.Seat id version) + named + announced + fixedLength Event.Done
   seat-bytes =
-      let a = cons-length (c .id) (Event.Seat id version) (fixedLength (Event.Seat id version)) (nameEvents id name ++ (capabilityEvents c id (bitsOf caps) ++ (on id Event.Done ∷ []))) (seat-text id version []) in
-      let b = append-length (nameEvents id name) (capabilityEvents c id (bitsOf caps) ++ (on id Event.Done ∷ [])) in
-      let d = append-length (capabilityEvents c id (bitsOf caps)) (on id Event.Done ∷ []) in
+      let a = cons-length (c .id) (Event.Seat id version) (fixedLength (Event.Seat id version)) (nameEvents id name ++ (capabilityEvents id (bitsOf caps) ++ (on id Event.Done ∷ []))) (seat-text id version []) in
+      let b = append-length (nameEvents id name) (capabilityEvents id (bitsOf caps) ++ (on id Event.Done ∷ [])) in
+      let d = append-length (capabilityEvents id (bitsOf caps)) (on id Event.Done ∷ []) in
       let e = one-length id Event.Done [] ∙ done-text [] in
       omega arith
 
 -- each event behind those before it
 module _ {control : List ℕ} {id version : ℕ} {name : Option (List ℕ)} {caps : ℕ} {out : List ℕ} (can : CanAnnounceSeat control id version name caps out) where
   abbrev capabilities : List Sent
-  capabilities = capabilityEvents (connectionOf control) id (bitsOf caps)
+  capabilities = capabilityEvents id (bitsOf caps)
 
   abbrev last : List Sent
   last = on id Event.Done ∷ []

@@ -77,21 +77,16 @@ pub record Partly (out later : List ℕ) (from at : ℕ) (all rest : List Sent) 
 pub partly-none : (out : List ℕ) (from : ℕ) {all rest : List Sent} → all ≡ rest → from + length (records rest) ≤ length out → Partly out out from from all rest
 partly-none out from e room = record { done = []; split = e; sends = sends-none out from; room = room; long = refl }
 
-pub partly-same : {out later : List ℕ} {from at : ℕ} {all rest left : List Sent} → left ≡ rest → Partly out later from at all left → Partly out later from at all rest
-partly-same e p = rw e at p
+module _ {out mid : List ℕ} {from at : ℕ} {all left : List Sent} (es rest : List Sent) (next : left ≡ es ++ rest) (p : Partly out mid from at all left) where
+  pub partly-room : at + length (records es) ≤ length mid
+  partly-room = omega (arith, p .room, p .long, ap (λ (l : List Sent). length (records l)) next, append-length es rest)
 
-module _ {out mid : List ℕ} {from at object : ℕ} {e : Event} {all left rest : List Sent} (next : left ≡ on object e ∷ rest) (p : Partly out mid from at all left) where
-  pub partly-room : at + recordLength e [] ≤ length mid
-  partly-room =
-      omega (arith, p .room, p .long, ap (λ (l : List Sent). length (records l)) next, cons-length object e (recordLength e []) rest refl)
-
-  pub partly-more : {later : List ℕ} {r : ℕ} → length later ≡ length mid → Sends mid later at (on object e ∷ []) r → Partly out later from r all rest
+  pub partly-more : {later : List ℕ} {r : ℕ} → length later ≡ length mid → Sends mid later at es r → Partly out later from r all rest
   partly-more l s =
-      let n = one-length object e [] in
-      let k = ap (λ (l : List Sent). length (records l)) next ∙ cons-length object e (recordLength e []) rest refl in
+      let k = ap (λ (l : List Sent). length (records l)) next ∙ append-length es rest in
       record {
-        done = p .done ++ (on object e ∷ []);
-        split = p .split ∙ ap (λ (l : List Sent). p .done ++ l) next ∙ sym (append-assoc (p .done) (on object e ∷ []) rest);
+        done = p .done ++ es;
+        split = p .split ∙ ap (λ (l : List Sent). p .done ++ l) next ∙ sym (append-assoc (p .done) es rest);
         sends = sends-join (omega (arith, p .room)) (p .sends) s;
         room = omega (arith, p .room, s .next);
         long = l ∙ p .long;

@@ -9,18 +9,17 @@ ghost use mathlib.Core.Path.{_≡_};
 ghost use mathlib.Core.List.{[], _∷_};
 ghost use Prim.Native.Nat.{ℕ, _+_, _*_, _≤_, _<_};
 ghost use lib.ListN.{length};
-ghost use Rattle.eiproto.specs.Bits.{bitsOf};
-ghost use Rattle.eiproto.specs.Capability.{interfaceOfBit};
+ghost use Rattle.eiproto.specs.Bits.{bitsOf, common};
 ghost use Rattle.wire.specs.Record.{recordLength};
 ghost use Rattle.model.specs.Session.{Connection};
 ghost use Rattle.model.specs.Edit.{nextSerial, newInterfaces};
 ghost use Rattle.model.specs.Plan.{records};
-ghost use Rattle.model.specs.Decide.{isSome, version, nameEvents, capabilityEvents, interfaceEvents, objectsOf, devicesObjects, seatObjects, seatsObjects, seatEvents, deviceEvents};
+ghost use Rattle.model.specs.Decide.{negotiatedCapabilities, nameEvents, capabilityEvents, interfaceEvents, objectsOf, devicesObjects, seatObjects, seatsObjects, seatEvents, deviceEvents};
 ghost use Rattle.control.specs.Control.{controlLength, connectionOf, coreAt};
 ghost use Rattle.control.specs.Sound.{Sound};
 ghost use Rattle.session.specs.Slices.{optional, text};
 ghost use Rattle.events.specs.Events.{Writes, WritesDestroyed, bare, bareDevices};
-ghost use Rattle.events.specs.Announce.{CanAnnounceInterfaces, CanAnnounceSeat, CanAnnounceDevice};
+ghost use Rattle.events.specs.Announce.{offered, CanAnnounceInterfaces, CanAnnounceSeat, CanAnnounceDevice};
 
 // A place in `out`, and the last serial so far.
 pub struct Mark {
@@ -164,64 +163,58 @@ pub fn destroy_seats(control: &[u64], out: &mut [u8], mark: Mark) -> Mark
 
 // ---- what is new is announced
 
-fn negotiated(control: &[u64], bit: u32) -> bool
-    requires { ⌜ length (now control) ≡ controlLength ⌝ }
-    ensures { λ r. ⌜ r ≡ isSome (version (connectionOf (now (control .entry))) (interfaceOfBit bit)) ⌝ }
-{
-    match control::version(control, DeviceCapability::interface_of_bit(bit)) {
-        Negotiated::Version(_) => true,
-        Negotiated::Nothing => false,
-    }
-}
-
-// The bytes of the capability events of a seat.
-fn capabilities_length(control: &[u64], seat: u64, capabilities: u64) -> usize
-    requires { ⌜ Sound (now control) × (capabilities < 128) ⌝ }
-    ensures { λ r. ⌜ (r ≡ length (records (capabilityEvents (connectionOf (now (control .entry))) seat (bitsOf capabilities)))) × (r ≤ 133) ⌝ }
-{
-    let mut total: usize = 0;
-    let mut left = capabilities;
-    while left != 0 {
-        let bit = DeviceCapability::lowest(left);
-        left = DeviceCapability::without_lowest(left);
-        if negotiated(control, bit) {
-            total += CAPABILITY_LENGTH;
-        }
-    }
-    total
-}
-
-// "A seat .. announces the negotiated ones only."
-fn announce_capabilities(
-    control: &[u64],
-    seat: u64,
-    capabilities: u64,
-    out: &mut [u8],
-    from: usize,
-) -> usize
-    requires { ⌜ Sound (now control) × ((capabilities < 128) × (from + length (records (capabilityEvents (connectionOf (now control)) seat (bitsOf capabilities))) ≤ length (now out))) ⌝ }
-    ensures { λ r. ⌜ Writes out from (capabilityEvents (connectionOf (now (control .entry))) seat (bitsOf capabilities)) r ⌝ }
+// The capabilities of a new seat, by bit.
+fn announce_capabilities(seat: u64, capabilities: u64, out: &mut [u8], from: usize) -> usize
+    requires { ⌜ (capabilities < 128) × (from + length (records (capabilityEvents seat (bitsOf capabilities))) ≤ length (now out)) ⌝ }
+    ensures { λ r. ⌜ Writes out from (capabilityEvents seat (bitsOf capabilities)) r ⌝ }
 {
     let mut at = from;
     let mut left = capabilities;
     while left != 0 {
         let bit = DeviceCapability::lowest(left);
         left = DeviceCapability::without_lowest(left);
-        if negotiated(control, bit) {
-            let interface = DeviceCapability::interface_of_bit(bit);
-            at = send(
-                out,
-                at,
-                seat,
-                Event::Capability {
-                    mask: 1u64 << bit,
-                    interface,
-                },
-                b"",
-            );
-        }
+        let interface = DeviceCapability::interface_of_bit(bit);
+        at = send(
+            out,
+            at,
+            seat,
+            Event::Capability {
+                mask: 1u64 << bit,
+                interface,
+            },
+            b"",
+        );
     }
     at
+}
+
+// The interface of a bit, with the version that was negotiated for it, at a place that has room for it; none without one. The place behind it.
+fn announce_interface(
+    control: &[u64],
+    device: u64,
+    bit: u32,
+    id: u64,
+    out: &mut [u8],
+    at: usize,
+) -> usize
+    requires { ⌜ (length (now control) ≡ controlLength) × (at + length (records (offered (now control) device bit id)) ≤ length (now out)) ⌝ }
+    ensures { λ r. ⌜ Writes out at (offered (now (control .entry)) device bit id) r ⌝ }
+{
+    let interface = DeviceCapability::interface_of_bit(bit);
+    match control::version(control, interface) {
+        Negotiated::Version(version) => send(
+            out,
+            at,
+            device,
+            Event::Interface {
+                id,
+                interface,
+                version,
+            },
+            b"",
+        ),
+        Negotiated::Nothing => at,
+    }
 }
 
 // The interfaces of a new device, by capability bit, with the ids behind its own.
@@ -241,19 +234,7 @@ fn announce_interfaces(
     while left != 0 {
         let bit = DeviceCapability::lowest(left);
         left = DeviceCapability::without_lowest(left);
-        let interface = DeviceCapability::interface_of_bit(bit);
-        let version = control::version_or_1(control, interface);
-        at = send(
-            out,
-            at,
-            device,
-            Event::Interface {
-                id,
-                interface,
-                version,
-            },
-            b"",
-        );
+        at = announce_interface(control, device, bit, id, out, at);
         id += 1;
     }
     at
@@ -283,20 +264,14 @@ fn announce_name(out: &mut [u8], at: usize, object: u64, given: bool, name: &[u8
 }
 
 // A seat's events: itself, its name, its capabilities, done.
-pub fn seat_length(
-    control: &[u64],
-    id: u64,
-    version: u32,
-    given: bool,
-    name: &[u8],
-    capabilities: u64,
-) -> usize
-    requires { ⌜ Sound (now control) × (capabilities < 128) ⌝ }
-    ensures { λ r. ⌜ r ≡ length (records (seatEvents (connectionOf (now (control .entry))) id version (text given name) capabilities)) ⌝ }
+pub fn seat_length(id: u64, version: u32, given: bool, name: &[u8], capabilities: u64) -> usize
+    requires { ⌜ capabilities < 128 ⌝ }
+    ensures { λ r. ⌜ ((c : Connection) → r ≡ length (records (seatEvents c id version (text given name) capabilities))) ⌝ }
 {
     let seat = event::fixed_length(Event::Seat { id, version });
+    let announced = CAPABILITY_LENGTH * (DeviceCapability::count(capabilities) as usize);
     let done = event::fixed_length(Event::Done);
-    seat + name_length(given, name) + capabilities_length(control, id, capabilities) + done
+    seat + name_length(given, name) + announced + done
 }
 
 // At the start of `out`; how many bytes were written.
@@ -315,14 +290,14 @@ pub fn announce_seat(
     let connection = control::connection_id(control);
     let seat = send(out, 0, connection, Event::Seat { id, version }, b"");
     let named = announce_name(out, seat, id, given, name);
-    let announced = announce_capabilities(control, id, capabilities, out, named);
+    let announced = announce_capabilities(id, capabilities, out, named);
     send(out, announced, id, Event::Done, b"")
 }
 
-// A device's events: itself, its name, its type, its interfaces, done.
+// A device's events: itself, its name, its type, its interfaces, done, where each of these was negotiated.
 pub fn device_length(id: u64, version: u32, given: bool, name: &[u8], capabilities: u64) -> usize
     requires { ⌜ capabilities < 128 ⌝ }
-    ensures { λ r. ⌜ ((c : Connection) (seat kind : ℕ) → r ≡ length (records (deviceEvents c seat id version (text given name) kind capabilities))) ⌝ }
+    ensures { λ r. ⌜ ((c : Connection) (seat kind : ℕ) → common capabilities (negotiatedCapabilities c) ≡ capabilities → r ≡ length (records (deviceEvents c seat id version (text given name) kind capabilities))) ⌝ }
 {
     let device = event::fixed_length(Event::Device { id, version });
     let kind = event::fixed_length(Event::DeviceType { value: 0 });

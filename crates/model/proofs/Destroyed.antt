@@ -1,6 +1,6 @@
 -- At every call the ids that are given and those that stood before are those that are destroyed and those that stand after it. So an id, which is given
 -- once, is destroyed at most once, and stands until then. By the plans that there are (Walk), then by induction on the calls. Assumes nothing.
-use Prim.Native.Nat.{ℕ, zero, suc, _+_, _^_, _<_}
+use Prim.Native.Nat.{ℕ, zero, suc, _+_, _<_}
 use mathlib.Core.Path.{_≡_, refl, ap, sym, _∙_}
 use mathlib.Core.Bool.{Bool, true, false, _&&_, _||_, cond, false≢true}
 use mathlib.Core.List.{List, [], _∷_, _++_, map, map-append, append-assoc, append-nil}
@@ -9,9 +9,8 @@ use native.Mathlib.Omega.{arith}
 use lib.Dec.{eqb}
 use lib.ListN.{length}
 use borrow.Author.Tests.{eq-eqb, ne-eqb, eqb-true}
-use Rattle.eiproto.specs.Bits.{bitsOf}
+use Rattle.eiproto.specs.Bits.{bitsOf, common}
 use Rattle.eiproto.specs.Capability.{interfaceOfBit}
-use Rattle.eiproto.specs.Interface.{eiDevice}
 use Rattle.utf8.proofs.Rules.{never-some}
 use Rattle.wire.specs.declared.event.Event.{Event}
 use Rattle.wire.specs.Record.{layout}
@@ -19,7 +18,7 @@ use Rattle.model.specs.Call.{Load, Sight, Call, Split, split}
 use Rattle.model.specs.Session.{Interface, Seat, Device, Connection, Session, fresh, mapDevice, blank, view}
 use Rattle.model.specs.Edit.{Amend, Edit, nextSerial, newInterfaces, interfacesWithout, seatsWithout, amended, item, pended, emptied, newDevice, at, withoutSlot, withoutSeat, enact, enactAll}
 use Rattle.model.specs.Plan.{Sent, on, Result, Plan, answer, ignore, edit, send}
-use Rattle.model.specs.Decide.{Found, isSome, version, versionOr1, later, find, deviceOf, listsAs, deviceForInterface, seatIn, seatOf, pendAfter, sendNext, nameEvents, capabilityEvents, interfaceEvents, destroyed, objectsOf, devicesObjects, seatObjects, seatsObjects, sendDestroyed, deviceAdded, removeSeats}
+use Rattle.model.specs.Decide.{Found, version, negotiatedCapabilities, deviceVersion, later, find, deviceOf, listsAs, deviceForInterface, seatIn, seatOf, pendAfter, sendNext, nameEvents, capabilityEvents, interfaceEvent, interfaceEvents, destroyed, objectsOf, devicesObjects, seatObjects, seatsObjects, sendDestroyed, deviceAdded, removeSeats}
 use Rattle.model.specs.Step.{carriedOut, source, unchanged, step, run}
 use Rattle.model.specs.Demand3.{trail}
 use Rattle.model.specs.Reachable.{countOf, seatIds, deviceIds, interfaceIdsIn, sessionAfter, newIds, idsIn}
@@ -32,6 +31,7 @@ use Rattle.model.proofs.ReachableBits.{bitsIn, ByBit}
 use Rattle.model.proofs.ReachableHeld.{both}
 use Rattle.model.proofs.ReachablePlans.{device-ids, modest-ids}
 use Rattle.model.proofs.Reachable.{refusal-ids, Sound, step-sound, run-ids, fresh-sound}
+use Rattle.model.proofs.Cut.{added-among}
 use Rattle.model.proofs.Walk.{Noted, Touched, Leaf, walk}
 use Rattle.model.proofs.Within.{step-by}
 use Rattle.model.proofs.Lists.{count-append}
@@ -62,20 +62,19 @@ unfolding nameEvents destroyedOf
 name-mild object none es = refl
 name-mild object (some text) es = refl
 
-capabilities-mild : (c : Connection) (seat : ℕ) (bs : List ℕ) (es : List Sent) → destroyedOf (capabilityEvents c seat bs ++ es) ≡ destroyedOf es
+capabilities-mild : (seat : ℕ) (bs : List ℕ) (es : List Sent) → destroyedOf (capabilityEvents seat bs ++ es) ≡ destroyedOf es
 unfolding capabilityEvents destroyedOf
-capabilities-mild c seat [] es = refl
-capabilities-mild c seat (b ∷ bs) es = go (isSome (version c (interfaceOfBit b))) (capabilities-mild c seat bs es)
-  where
-    go : (t : Bool) → destroyedOf (capabilityEvents c seat bs ++ es) ≡ destroyedOf es →
-        destroyedOf ((cond t (on seat (Event.Capability (2 ^ b) (interfaceOfBit b)) ∷ []) [] ++ capabilityEvents c seat bs) ++ es) ≡ destroyedOf es
-    go true h = h
-    go false h = h
+capabilities-mild seat [] es = refl
+capabilities-mild seat (b ∷ bs) es = capabilities-mild seat bs es
 
 interfaces-mild : (c : Connection) (d : ℕ) (is : List Interface) (es : List Sent) → destroyedOf (interfaceEvents c d is ++ es) ≡ destroyedOf es
-unfolding interfaceEvents destroyedOf
+unfolding interfaceEvents interfaceEvent destroyedOf
 interfaces-mild c d [] es = refl
-interfaces-mild c d (i ∷ is) es = interfaces-mild c d is es
+interfaces-mild c d (i ∷ is) es = go (version c (interfaceOfBit (i .capability))) (interfaces-mild c d is es)
+  where
+    go : (o : Option ℕ) → destroyedOf (interfaceEvents c d is ++ es) ≡ destroyedOf es → destroyedOf ((interfaceEvent d i o ++ interfaceEvents c d is) ++ es) ≡ destroyedOf es
+    go none h = h
+    go (some v) h = h
 
 device-mild : (id seat ver type : ℕ) (name : Option (List ℕ)) (c : Connection) (is : List Interface) →
     destroyedOf (on seat (Event.Device id ver) ∷ nameEvents id name ++ (on id (Event.DeviceType type) ∷ interfaceEvents c id is ++ (on id Event.Done ∷ []))) ≡ []
@@ -344,10 +343,12 @@ module _ {P : Type 0} (x : ℕ) where
     device-adds seat name type caps =
         let c = s .connection in
         let id = c .nextId in
-        let ver = versionOr1 (version c eiDevice) in
-        let is = newInterfaces id caps in
+        let ver = deviceVersion c in
+        let made = common caps (negotiatedCapabilities c) in
+        let is = newInterfaces id made in
         record {
-          sum = rw (device-ids id seat ver type name c is, device-mild id seat ver type name c is) (omega (arith, ap (countOf x) (objects-new (s .devices) (newDevice id seat caps)), count-append x (objectIds (s .devices)) (id ∷ idsOf is)));
+          sum = rw (device-ids id seat ver type name c is (added-among c id caps), device-mild id seat ver type name c is)
+              (omega (arith, ap (countOf x) (objects-new (s .devices) (newDevice id seat made)), count-append x (objectIds (s .devices)) (id ∷ idsOf is)));
         }
 
     leaf-adds : {now : ℕ} {c : Call Sight} {plan : Plan} → Leaf (view s) now c plan → AddsUp plan
@@ -358,7 +359,7 @@ module _ {P : Type 0} (x : ℕ) where
     leaf-adds (Leaf.answered o m) = answer-adds o (modest-ids o m)
     leaf-adds (Leaf.synced callback) = calm _ refl refl refl
     leaf-adds (Leaf.syncedMessage callback) = calm _ refl refl refl
-    leaf-adds (Leaf.noted object event edits m h) = calm _ refl (rw (m _ .0)) (noted-still h)
+    leaf-adds (Leaf.noted object event edits m h) = calm _ refl (rw (m _ .destroys)) (noted-still h)
     leaf-adds (Leaf.released cap id f e) =
         record { sum = omega (arith, found-unlisted x cap id (s .devices) f (ok .bits) e) }
     leaf-adds (Leaf.deviceGone id f r e) =
@@ -382,7 +383,7 @@ module _ {P : Type 0} (x : ℕ) where
     leaf-adds (Leaf.newSeat name caps) =
         let c = s .connection in
         record {
-          sum = rw (name-mild (c .nextId) name, capabilities-mild c (c .nextId) (bitsOf caps), map-append (λ y. y .id) (c .seats))
+          sum = rw (name-mild (c .nextId) name, capabilities-mild (c .nextId) (bitsOf (common caps (negotiatedCapabilities c))), map-append (λ y. y .id) (c .seats))
               (omega (arith, count-append x (map (λ y. y .id) (c .seats)) (c .nextId ∷ [])));
         }
     leaf-adds (Leaf.newDevice seat name type caps) = device-adds seat name type caps

@@ -3,6 +3,7 @@ pub mod Payload
 pub mod Commute
 pub mod EqualTrails
 pub mod Walk
+pub mod Cut
 pub mod Plans
 pub mod Sorted
 pub mod Within
@@ -29,3 +30,4 @@ pub mod Numbers
 pub mod Framed
 pub mod Released
 pub mod Live
+pub mod Negotiated

@@ -1,6 +1,6 @@
 -- An id lives exactly when it was announced and its end was not sent: what the finds find is what stands in the tables (Destroyed), and the connection is gone
 -- once `disconnected` was sent, which is its plan's alone (Walk). Assumes nothing.
-use Prim.Native.Nat.{ℕ, zero, suc, _+_, _^_, _≤_}
+use Prim.Native.Nat.{ℕ, zero, suc, _+_, _≤_}
 use mathlib.Core.Path.{_≡_, refl, ap, ap₂, sym, _∙_}
 use mathlib.Core.Bool.{Bool, true, false, _&&_, _||_, not, cond}
 use mathlib.Core.List.{List, [], _∷_, _++_, map}
@@ -8,22 +8,23 @@ use mathlib.Core.Option.{Option, none, some}
 use native.Mathlib.Omega.{arith}
 use lib.Dec.{eqb, ltb}
 use borrow.Author.Tests.{lt-ltb, eq-eqb, ne-eqb}
-use Rattle.eiproto.specs.Bits.{bitsOf}
+use Rattle.eiproto.specs.Bits.{bit, bitsOf, every, common}
 use Rattle.eiproto.specs.Capability.{interfaceOfBit}
-use Rattle.eiproto.specs.Interface.{eiSeat, eiDevice}
 use Rattle.wire.specs.declared.event.Event.{Event}
 use Rattle.model.specs.Call.{Load, Sight, Call, Split, split}
 use Rattle.model.specs.Session.{Interface, Seat, Device, Connection, Session, View, fresh, mapSession, mapDevice, blank, view}
-use Rattle.model.specs.Edit.{Amend, Edit, nextSerial, newInterfaces, enact, enactAll}
+use Rattle.model.specs.Edit.{Amend, Edit, nextSerial, enact, enactAll}
 use Rattle.model.specs.Plan.{Sent, on, Plan, answer, ignore, edit, send}
-use Rattle.model.specs.Decide.{Found, isSome, version, later, find, deviceOf, seatIn, seatOf, pendAfter, sendNext, nameEvents, capabilityEvents, interfaceEvents, destroyed, objectsOf, seatObjects, sendDestroyed, decide}
+use Rattle.model.specs.Decide.{Found, version, negotiatedCapabilities, later, find, deviceOf, seatIn, seatOf, pendAfter, sendNext, nameEvents, capabilityEvents, interfaceEvent, interfaceEvents, destroyed, objectsOf, seatObjects, sendDestroyed, decide}
 use Rattle.model.specs.Step.{carriedOut, source, unchanged, step, run}
 use Rattle.model.specs.Demand3.{trail}
 use Rattle.model.specs.Reachable.{countOf, seatIds, deviceIds, interfaceIdsIn, sessionAfter, idsIn}
 use Rattle.model.specs.Destroyed.{destroyedIn, standing, Lives-standing}
 use Rattle.model.specs.Live.{Object, isFound, listedAs, orElse, listedIn, objectOf, interfaceObject, live, hasDisconnected, disconnectedIn, Live-is-announced}
 use Rattle.model.proofs.Ascending.{once}
-use Rattle.model.proofs.Reachable.{run-ids}
+use Rattle.model.proofs.ReachableHeld.{both}
+use Rattle.model.proofs.Cut.{has-version, Among, Negotiated}
+use Rattle.model.proofs.Reachable.{run-ids, after-sound, fresh-sound}
 use Rattle.model.proofs.Destroyed.{lives-standing}
 use Rattle.model.proofs.Lists.{count-append}
 use Rattle.model.proofs.Walk.{Noted, Touched, Leaf, walk}
@@ -57,14 +58,41 @@ unfolding isFound orElse
 orElse-found none other = refl
 orElse-found (some b) other = refl
 
-any-found : (a b d : Bool) (o : Option ℕ) (c : Connection) (x y z : Object) →
-    isFound (cond a (some x) (cond b (some y) (cond d (some z) (interfaceObject c o)))) ≡ a || (b || (d || isFound o))
-unfolding isFound interfaceObject
-any-found true b d o c x y z = refl
-any-found false true d o c x y z = refl
-any-found false false true o c x y z = refl
-any-found false false false none c x y z = refl
-any-found false false false (some b) c x y z = refl
+any-found : (a b d : Bool) (o : Option Object) (x y z : Object) →
+    isFound (cond a (some x) (cond b (some y) (cond d (some z) o))) ≡ a || (b || (d || isFound o))
+unfolding isFound
+any-found true b d o x y z = refl
+any-found false true d o x y z = refl
+any-found false false true o x y z = refl
+any-found false false false o x y z = refl
+
+-- ---- what a device lists was negotiated, and so has a version
+
+-- an answer that is among the capabilities of a mask, if there is one
+unfoldable AmongOf : (mask : ℕ) → Option ℕ → Type 0
+AmongOf m none = Unit {0}
+AmongOf m (some b) = bit b m ≡ true
+
+orElse-among : (m : ℕ) (o other : Option ℕ) → AmongOf m o → AmongOf m other → AmongOf m (orElse o other)
+unfolding orElse AmongOf
+orElse-among m none other h k = k
+orElse-among m (some b) other h k = h
+
+listed-among : (m id : ℕ) (is : List Interface) → Among m is → AmongOf m (listedAs id is)
+unfolding listedAs AmongOf every
+listed-among m id [] a = tt
+listed-among m id (i ∷ is) a =
+    let p = both (bit (i .capability) m) (every (λ j. bit (j .capability) m) is) a in
+    go (eqb (i .id) id) (p .0) (listed-among m id is (p .1))
+  where
+    go : (t : Bool) → bit (i .capability) m ≡ true → AmongOf m (listedAs id is) → AmongOf m (cond t (some (i .capability)) (listedAs id is))
+    go true h k = h
+    go false h k = k
+
+interface-found : (c : Connection) (o : Option ℕ) → AmongOf (negotiatedCapabilities c) o → isFound (interfaceObject c o) ≡ isFound o
+unfolding AmongOf isFound interfaceObject objectOf
+interface-found c none a = refl
+interface-found c (some b) a = rw (has-version c b a .1)
 
 module _ (id : ℕ) where
   seat-stands : (ss : List Seat) → isFound (seatIn id ss) ≡ ltb 0 (countOf id (map (λ s. s .id) ss))
@@ -98,18 +126,27 @@ module _ (id : ℕ) where
         orElse-found (listedAs id (d .interfaces)) (listedIn id (map (mapDevice blank) ds)) ∙ ap₂ (λ t u. t || u) (listed-stands (d .interfaces)) (interface-stands ds)
         ∙ sym (ap (ltb 0) (count-append id own (interfaceIdsIn ds)) ∙ either-some (countOf id own) (countOf id (interfaceIdsIn ds)))
 
+    devices-among : (m : ℕ) (ds : List (Device P)) → every (λ d. every (λ i. bit (i .capability) m) (d .interfaces)) ds ≡ true →
+        AmongOf m (listedIn id (map (mapDevice blank) ds))
+    unfolding listedIn mapDevice AmongOf every
+    devices-among m [] a = tt
+    devices-among m (d ∷ ds) a =
+        let p = both (every (λ i. bit (i .capability) m) (d .interfaces)) (every (λ d. every (λ i. bit (i .capability) m) (d .interfaces)) ds) a in
+        orElse-among m (listedAs id (d .interfaces)) (listedIn id (map (mapDevice blank) ds)) (listed-among m id (d .interfaces) (p .0)) (devices-among m ds (p .1))
+
     -- the connection that is not gone, or what stands
-    live-stands : (s : Session P) → let c = s .connection in isFound (live (view s) id) ≡ (eqb (c .id) id && not (c .gone)) || ltb 0 (standing id s)
+    live-stands : (s : Session P) → Negotiated s → let c = s .connection in isFound (live (view s) id) ≡ (eqb (c .id) id && not (c .gone)) || ltb 0 (standing id s)
     unfolding live view mapSession seatOf deviceOf standing seatIds deviceIds
-    live-stands s =
+    live-stands s w =
         let c = s .connection in
         let ds = map (mapDevice blank) (s .devices) in
         let devices = countOf id (deviceIds s) in
         let interfaces = countOf id (interfaceIdsIn (s .devices)) in
-        any-found (eqb (c .id) id && not (c .gone)) (isFound (seatIn id (c .seats))) (isFound (find (λ d. eqb (d .id) id) ds)) (listedIn id ds) c _ (objectOf c eiSeat) (objectOf c eiDevice)
+        let listed = interface-found c (listedIn id ds) (devices-among (negotiatedCapabilities c) (s .devices) (w .devices)) ∙ interface-stands (s .devices) in
+        any-found (eqb (c .id) id && not (c .gone)) (isFound (seatIn id (c .seats))) (isFound (find (λ d. eqb (d .id) id) ds)) (interfaceObject c (listedIn id ds)) _ _ _
         ∙ ap (λ t. (eqb (c .id) id && not (c .gone)) || t)
         (ap₂ (λ t u. t || u) (seat-stands (c .seats))
-        (ap₂ (λ t u. t || u) (device-stands (s .devices)) (interface-stands (s .devices)) ∙ sym (either-some devices interfaces))
+        (ap₂ (λ t u. t || u) (device-stands (s .devices)) listed ∙ sym (either-some devices interfaces))
         ∙ sym (either-some (countOf id (seatIds s)) (devices + interfaces)))
 
 -- ---- the connection's end
@@ -194,20 +231,19 @@ unfolding nameEvents hasDisconnected
 name-mild object none es = refl
 name-mild object (some text) es = refl
 
-capabilities-mild : (c : Connection) (seat : ℕ) (bs : List ℕ) (es : List Sent) → hasDisconnected (capabilityEvents c seat bs ++ es) ≡ hasDisconnected es
+capabilities-mild : (seat : ℕ) (bs : List ℕ) (es : List Sent) → hasDisconnected (capabilityEvents seat bs ++ es) ≡ hasDisconnected es
 unfolding capabilityEvents hasDisconnected
-capabilities-mild c seat [] es = refl
-capabilities-mild c seat (b ∷ bs) es = go (isSome (version c (interfaceOfBit b))) (capabilities-mild c seat bs es)
-  where
-    go : (t : Bool) → hasDisconnected (capabilityEvents c seat bs ++ es) ≡ hasDisconnected es →
-        hasDisconnected ((cond t (on seat (Event.Capability (2 ^ b) (interfaceOfBit b)) ∷ []) [] ++ capabilityEvents c seat bs) ++ es) ≡ hasDisconnected es
-    go true h = h
-    go false h = h
+capabilities-mild seat [] es = refl
+capabilities-mild seat (b ∷ bs) es = capabilities-mild seat bs es
 
 interfaces-mild : (c : Connection) (d : ℕ) (is : List Interface) (es : List Sent) → hasDisconnected (interfaceEvents c d is ++ es) ≡ hasDisconnected es
-unfolding interfaceEvents hasDisconnected
+unfolding interfaceEvents interfaceEvent hasDisconnected
 interfaces-mild c d [] es = refl
-interfaces-mild c d (i ∷ is) es = interfaces-mild c d is es
+interfaces-mild c d (i ∷ is) es = go (version c (interfaceOfBit (i .capability))) (interfaces-mild c d is es)
+  where
+    go : (o : Option ℕ) → hasDisconnected (interfaceEvents c d is ++ es) ≡ hasDisconnected es → hasDisconnected ((interfaceEvent d i o ++ interfaceEvents c d is) ++ es) ≡ hasDisconnected es
+    go none h = h
+    go (some v) h = h
 
 destroyed-only : (s : ℕ) (os : List ℕ) → hasDisconnected (destroyed s os) ≡ false
 unfolding hasDisconnected destroyed
@@ -237,7 +273,7 @@ leaf-told (Leaf.pended {x = y} f amends e g t) = pend-told f y t
 leaf-told (Leaf.answered o m) = refl
 leaf-told (Leaf.synced callback) = refl
 leaf-told (Leaf.syncedMessage callback) = refl
-leaf-told (Leaf.noted object event edits m h) = rw (m _ .1) (noted-told h)
+leaf-told (Leaf.noted object event edits m h) = rw (m _ .disconnects) (noted-told h)
 leaf-told (Leaf.released cap id f e) = refl
 leaf-told {v} (Leaf.deviceGone id f r e) = sym (destroyed-only (v .connection .lastSerial) (objectsOf (f .device)))
 leaf-told {v} (Leaf.seatGone id y r e) = sym (destroyed-only (v .connection .lastSerial) (seatObjects id (v .devices)))
@@ -247,10 +283,11 @@ leaf-told (Leaf.flushed id f u n k e) = refl
 leaf-told (Leaf.closed id serial time f k e) = refl
 leaf-told Leaf.handed = refl
 leaf-told {v} (Leaf.newSeat name caps) =
-    let c = v .connection in sym (name-mild (c .nextId) name _ ∙ capabilities-mild c (c .nextId) (bitsOf caps) (on (c .nextId) Event.Done ∷ []))
+    let c = v .connection in
+    sym (name-mild (c .nextId) name _ ∙ capabilities-mild (c .nextId) (bitsOf (common caps (negotiatedCapabilities c))) (on (c .nextId) Event.Done ∷ []))
 leaf-told {v} (Leaf.newDevice seat name type caps) =
     let c = v .connection in
-    sym (name-mild (c .nextId) name _ ∙ interfaces-mild c (c .nextId) (newInterfaces (c .nextId) caps) (on (c .nextId) Event.Done ∷ []))
+    sym (name-mild (c .nextId) name _ ∙ interfaces-mild c (c .nextId) _ (on (c .nextId) Event.Done ∷ []))
 
 -- ---- the calls
 
@@ -285,6 +322,6 @@ live-is-announced c s n vs ts id =
     let after = sessionAfter (map split ts) start in
     let goes = run-goes (map split ts) start in
     let steps = trail c s n vs ts in
-    live-stands id after
+    live-stands id after (after-sound (map split ts) start (fresh-sound c s n vs) .negotiated)
     ∙ ap₂ (λ t u. t || u) (ap₂ (λ i g. eqb i id && not g) (goes .same) (goes .gone))
     (given-stands (countOf id (idsIn steps)) (countOf id (destroyedIn steps)) (standing id after) (lives-standing c s n vs ts id) (once id (run-ids (map split ts) start)))

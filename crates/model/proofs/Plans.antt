@@ -2,17 +2,20 @@
 use Prim.Native.Nat.{ℕ}
 use mathlib.Core.Path.{_≡_, refl, ap, sym, _∙_}
 use mathlib.Core.Bool.{Bool, true, false, _&&_, true≢false, false≢true}
-use mathlib.Core.List.{List, [], _∷_, _++_}
+use mathlib.Core.List.{List, [], _∷_, _++_, append-nil}
 use mathlib.Core.Option.{Option, none, some}
+use Rattle.eiproto.specs.Bits.{bit, every}
 use Rattle.wire.specs.declared.event.Event.{Event}
 use Rattle.model.specs.Call.{Sight, Call}
 use Rattle.model.specs.Session.{Interface, Seat, Connection, View}
 use Rattle.model.specs.Edit.{Amend, Edit, newInterfaces}
 use Rattle.model.specs.Plan.{Sent, on, Result, Plan, answer, ignore, edit, send}
-use Rattle.model.specs.Decide.{Found, sendNext, pendAfter, nameEvents, interfaceEvents, sendDestroyed, removeSeats, decide}
+use Rattle.model.specs.Decide.{Found, negotiatedCapabilities, sendNext, pendAfter, nameEvents, interfaceEvent, interfaceEvents, sendDestroyed, removeSeats, decide}
 use Rattle.model.specs.Step.{refuses}
 use Rattle.model.specs.Demand3.{MadeInterface, madeOn, made}
+use Rattle.model.proofs.ReachableHeld.{both}
 use Rattle.model.proofs.Walk.{Noted, Leaf, walk, isTimed}
+use Rattle.model.proofs.Cut.{has-version, Among, added-among}
 
 -- whether a plan that adds no device may have an edit: a request is pended by a timed one only
 unfoldable pub allows : (timed : Bool) → Edit → Bool
@@ -74,15 +77,20 @@ noted-allowed Noted.nothing = refl
 noted-allowed (Noted.clears k) = refl
 
 -- the events of a new device that tell no interface
-name-made : (d object : ℕ) (name : Option (List ℕ)) (es : List Sent) → madeOn d (nameEvents object name ++ es) ≡ madeOn d es
+pub name-made : (d object : ℕ) (name : Option (List ℕ)) (es : List Sent) → madeOn d (nameEvents object name ++ es) ≡ madeOn d es
 unfolding nameEvents madeOn
 name-made d object none es = refl
 name-made d object (some text) es = refl
 
-interface-made : (c : Connection) (d : ℕ) (is : List Interface) → madeOn d (interfaceEvents c d is ++ (on d Event.Done ∷ [])) ≡ madeWith d is
-unfolding interfaceEvents madeOn madeWith
-interface-made c d [] = refl
-interface-made c d (i ∷ is) = ap (λ r. record { interface = i .id; device = d } ∷ r) (interface-made c d is)
+-- one that tells each interface, where each was negotiated
+pub interfaces-made : (c : Connection) (d object : ℕ) (is : List Interface) (es : List Sent) → Among (negotiatedCapabilities c) is →
+    madeOn d (interfaceEvents c object is ++ es) ≡ madeWith d is ++ madeOn d es
+unfolding interfaceEvents interfaceEvent madeOn madeWith every
+interfaces-made c d object [] es a = refl
+interfaces-made c d object (i ∷ is) es a =
+    let m = negotiatedCapabilities c in
+    let p = both (bit (i .capability) m) (every (λ j. bit (j .capability) m) is) a in
+    rw (has-version c (i .capability) (p .0) .1) (ap (λ r. record { interface = i .id; device = d } ∷ r) (interfaces-made c d object is es (p .1)))
 
 leaf-formed : {v : View} {now : ℕ} {c : Call Sight} {plan : Plan} → Leaf v now c plan → Formed (isTimed c) (v .connection .nextId) plan
 unfolding isTimed answer ignore pendAfter edit send sendNext sendDestroyed refuses made allowsAll madeOn
@@ -104,7 +112,8 @@ leaf-formed Leaf.handed = acts Result.given _ _ refl refl refl
 leaf-formed {v = v} (Leaf.newSeat name caps) = acts (Result.seat (v .connection .nextId)) _ _ refl refl refl
 leaf-formed {v = v} (Leaf.newDevice seat name type both) =
     let id = v .connection .nextId in
-    adds _ seat both (name-made id id name _ ∙ interface-made (v .connection) id (newInterfaces id both))
+    let c = v .connection in
+    adds _ seat _ (name-made id id name _ ∙ interfaces-made c id id _ (on id Event.Done ∷ []) (added-among c id both) ∙ append-nil _)
 
 pub decide-formed : (v : View) (now : ℕ) (c : Call Sight) → Formed (isTimed c) (v .connection .nextId) (decide v now c)
 decide-formed v now c = leaf-formed (walk v now c)

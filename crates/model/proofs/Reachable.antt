@@ -6,6 +6,7 @@ use mathlib.Core.Bool.{true, false≢true}
 use mathlib.Core.List.{List, [], _∷_, map}
 use mathlib.Core.Option.{Option}
 use native.Mathlib.Nat.{le-refl}
+use Rattle.eiproto.specs.Bits.{every}
 use Rattle.model.specs.Call.{Split, split}
 use Rattle.model.specs.Session.{Session, fresh, view}
 use Rattle.model.specs.Plan.{Result}
@@ -14,6 +15,7 @@ use Rattle.model.specs.Step.{refuses, carriedOut, source, unchanged, ste
 use Rattle.model.specs.Demand3.{trail}
 use Rattle.model.specs.Reachable.{seatIds, deviceIds, Orderly, sessionAfter, Reachable-orderly, newIds, idsIn, Ids-ascend}
 use Rattle.model.proofs.All.{All, none}
+use Rattle.model.proofs.Cut.{Negotiated, decided-negotiated}
 use Rattle.model.proofs.Ascending.{Between, end, joined, left-out, ascends, below, once}
 use Rattle.model.proofs.ReachableOrder.{objectIds, Ordered, deviceIds-sub, interfaceIds-sub, edits-ordered}
 use Rattle.model.proofs.ReachableBits.{ByBit, edits-by-bit, by-bit-ascends}
@@ -40,6 +42,7 @@ module _ {P : Type 0} where
     pub ordered : Ordered s
     pub bits : All ByBit (s .devices)
     pub held : Held (s .devices)
+    pub negotiated : Negotiated s
 
   pub step-sound : (t : Split P) (s : Session P) → Sound s → Sound (step t s .session)
   unfolding source carriedOut unchanged
@@ -50,6 +53,7 @@ module _ {P : Type 0} where
         ordered = edits-ordered (plan .edits) (t .load) s (h .ordered);
         bits = edits-by-bit (plan .edits) (t .load) s (h .bits);
         held = decide-fits s (t .load) (t .now) (t .call) .held (h .held);
+        negotiated = decided-negotiated (t .now) (t .call) (t .load) s (h .negotiated);
       })
 
   pub after-sound : (ts : List (Split P)) (s : Session P) → Sound s → Sound (sessionAfter ts s)
@@ -89,8 +93,8 @@ module _ {P : Type 0} where
       }
 
 pub fresh-sound : {P : Type 0} (c s n : ℕ) (vs : List (Option ℕ)) → Sound (fresh {P = P} c s n vs)
-unfolding fresh seatIds objectIds Held
-fresh-sound c s n vs = record { ordered = record { seats = end zero-le; objects = end zero-le }; bits = none; held = tt }
+unfolding fresh seatIds objectIds Held every
+fresh-sound c s n vs = record { ordered = record { seats = end zero-le; objects = end zero-le }; bits = none; held = tt; negotiated = record { seats = refl; devices = refl } }
 
 pub reachable-orderly : Reachable-orderly
 unfolding Reachable-orderly

@@ -3,52 +3,48 @@
 use Prim.Native.Nat.{ℕ, _+_, _<_}
 use mathlib.Core.Path.{_≡_, refl, ap}
 use mathlib.Core.Bool.{true, false, false≢true}
-use mathlib.Core.List.{List, [], _∷_, _++_, map, append-nil}
+use mathlib.Core.List.{List, [], _∷_, _++_, map}
 use mathlib.Core.Option.{Option, none, some}
 use native.Mathlib.Nat.{le-refl}
 use lib.ListN.{length}
 use Rattle.eiproto.specs.Capability.{capabilityIndex}
-use Rattle.eiproto.specs.Interface.{eiDevice}
+use Rattle.eiproto.specs.Bits.{common}
 use Rattle.wire.specs.declared.event.Event.{Event}
 use Rattle.model.specs.Call.{Sight, Call}
 use Rattle.model.specs.Session.{Interface, Seat, Device, Connection, Session, mapDevice, view}
 use Rattle.model.specs.Edit.{Amend, Edit, newInterfaces, enact, enactAll}
-use Rattle.model.specs.Plan.{Sent, on, Result, Plan, answer, ignore, edit, send}
-use Rattle.model.specs.Decide.{Found, version, versionOr1, listsAs, pendAfter, handler, deviceForInterface, nameEvents, interfaceEvents, removeSeats, sendNext, sendDestroyed, decide}
+use Rattle.model.specs.Plan.{on, Result, Plan, answer, ignore, edit, send}
+use Rattle.model.specs.Decide.{Found, negotiatedCapabilities, deviceVersion, listsAs, pendAfter, handler, deviceForInterface, nameEvents, interfaceEvents, removeSeats, sendNext, sendDestroyed, decide}
 use Rattle.model.specs.Demand3.{madeOn}
 use Rattle.model.specs.Reachable.{newIds}
 use Rattle.model.proofs.Finding.{found-holds}
 use Rattle.model.proofs.Ascending.{Between, end, next}
+use Rattle.model.proofs.Cut.{Among, added-among}
+use Rattle.model.proofs.Plans.{madeWith, name-made, interfaces-made}
 use Rattle.model.proofs.ReachableOrder.{idsOf, new-between, edits-nextId}
 use Rattle.model.proofs.ReachableHeld.{allQuiet, Held, touchesAt, edits-held, down-held}
 use Rattle.model.proofs.Walk.{modest, Noted, Touched, Leaf, walk}
 
 -- ---- the ids that the events of a new device tell
 
-made-name : (d object : ℕ) (name : Option (List ℕ)) (es : List Sent) → madeOn d (nameEvents object name ++ es) ≡ madeOn d es
-unfolding madeOn nameEvents
-made-name d object none es = refl
-made-name d object (some text) es = refl
-
-made-interfaces : (d object : ℕ) (c : Connection) (is : List Interface) (es : List Sent) →
-    map (λ m. m .interface) (madeOn d (interfaceEvents c object is ++ es)) ≡ idsOf is ++ map (λ m. m .interface) (madeOn d es)
-unfolding madeOn interfaceEvents
-made-interfaces d object c [] es = refl
-made-interfaces d object c (i ∷ is) es = ap (λ r. i .id ∷ r) (made-interfaces d object c is es)
+made-ids : (d : ℕ) (is : List Interface) → map (λ m. m .interface) (madeWith d is ++ []) ≡ idsOf is
+unfolding madeWith
+made-ids d [] = refl
+made-ids d (i ∷ is) = ap (λ r. i .id ∷ r) (made-ids d is)
 
 -- stated over any interfaces, so that those of a new device stay uncomputed
-pub device-ids : (id seat ver type : ℕ) (name : Option (List ℕ)) (c : Connection) (is : List Interface) →
+pub device-ids : (id seat ver type : ℕ) (name : Option (List ℕ)) (c : Connection) (is : List Interface) → Among (negotiatedCapabilities c) is →
     newIds (Result.device id) (on seat (Event.Device id ver) ∷ nameEvents id name ++ (on id (Event.DeviceType type) ∷ interfaceEvents c id is ++ (on id Event.Done ∷ [])))
     ≡ id ∷ idsOf is
 unfolding newIds madeOn
-device-ids id seat ver type name c is = rw (made-name id id name, made-interfaces id id c is, append-nil (idsOf is))
+device-ids id seat ver type name c is a = rw (name-made id id name, interfaces-made c id id is (on id Event.Done ∷ []) a) (ap (λ r. id ∷ r) (made-ids id is))
 
-device-told : (id seat ver type : ℕ) (name : Option (List ℕ)) (c : Connection) (is : List Interface) (high : ℕ) →
+device-told : (id seat ver type : ℕ) (name : Option (List ℕ)) (c : Connection) (is : List Interface) (high : ℕ) → Among (negotiatedCapabilities c) is →
     Between id (id ∷ idsOf is) high →
     Between id
     (newIds (Result.device id) (on seat (Event.Device id ver) ∷ nameEvents id name ++ (on id (Event.DeviceType type) ∷ interfaceEvents c id is ++ (on id Event.Done ∷ []))))
     high
-device-told id seat ver type name c is high b = rw (device-ids id seat ver type name c is) b
+device-told id seat ver type name c is high a b = rw (device-ids id seat ver type name c is a) b
 
 removeSeats-quiet : (ss : List Seat) → allQuiet (removeSeats ss) ≡ true
 unfolding removeSeats allQuiet
@@ -130,10 +126,12 @@ module _ {P : Type 0} (s : Session P) (p : P) where
       let id = s .connection .nextId in
       record { held = λ h. h; ids = next (le-refl id) (end (le-refl (id + 1))) }
   leaf-fits (Leaf.newDevice seat name type both) =
-      let id = s .connection .nextId in
+      let c = s .connection in
+      let id = c .nextId in
+      let made = common both (negotiatedCapabilities c) in
       record {
-        held = edits-held (Edit.addDevice seat both ∷ []) p s refl;
-        ids = device-told id seat (versionOr1 (version (s .connection) eiDevice)) type name (s .connection) (newInterfaces id both) _ (new-between id both);
+        held = edits-held (Edit.addDevice seat made ∷ []) p s refl;
+        ids = device-told id seat (deviceVersion c) type name c (newInterfaces id made) _ (added-among c id both) (new-between id made);
       }
 
   pub decide-fits : (now : ℕ) (c : Call Sight) → Fits (decide (view s) now c)

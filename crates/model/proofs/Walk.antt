@@ -39,9 +39,17 @@ modest (Result.truth b) = true
 modest Result.none = true
 modest Result.given = false
 
--- an event that destroys nothing: no `destroyed`, and not `disconnected`
+-- an event that destroys nothing, no `destroyed` and not `disconnected`, and makes no interface
+pub record MildKind (kind : ℕ) : Type 0 where
+  pub destroys : eqb kind 5 ≡ false
+  pub disconnects : eqb kind 14 ≡ false
+  pub makes : eqb kind 8 ≡ false
+
 abbrev pub Mild : (ℕ → Event) → Type 0
-Mild event = (serial : ℕ) → let kind = layout (event serial) .kind in (eqb kind 5 ≡ false) × (eqb kind 14 ≡ false)
+Mild event = (serial : ℕ) → MildKind (layout (event serial) .kind)
+
+mild : {kind : ℕ} → eqb kind 5 ≡ false → eqb kind 14 ≡ false → eqb kind 8 ≡ false → MildKind kind
+mild d e m = record { destroys = d; disconnects = e; makes = m }
 
 -- what such an event may change besides
 pub data Noted : List Edit → Type 0 where
@@ -241,11 +249,11 @@ plain-leaf v now (Plain.addDevice seat name type caps) =
     (checkCapabilities-leaf caps (onFound-leaf (seatOf seat v) (refuse-leaf 12 refl) λ s e. newDevice seat name (deviceTypeNumber type) (common caps (s .capabilities))))
 plain-leaf v now (Plain.removeSeat seat) = onFound-leaf (seatOf seat v) (refuse-leaf 12 refl) λ x e. seatGone seat x (Removes.removeSeat seat) e
 plain-leaf v now (Plain.removeDevice d) = onFound-leaf (deviceOf d v) (refuse-leaf 12 refl) λ f e. deviceGone d f (Removes.removeDevice d) e
-plain-leaf v now (Plain.resumed d) = notify-leaf d (λ s. Event.Resumed s) (λ k. []) (λ s. (refl, refl)) (λ k. Noted.nothing)
-plain-leaf v now (Plain.paused d) = notify-leaf d (λ s. Event.Paused s) (λ k. Edit.amend k Amend.clearTouches ∷ []) (λ s. (refl, refl)) (λ k. Noted.clears k)
-plain-leaf v now (Plain.startEmulating d q) = notify-leaf d (λ s. Event.StartEmulating s q) (λ k. []) (λ s. (refl, refl)) (λ k. Noted.nothing)
-plain-leaf v now (Plain.stopEmulating d) = notify-leaf d (λ s. Event.StopEmulating s) (λ k. []) (λ s. (refl, refl)) (λ k. Noted.nothing)
-plain-leaf v now (Plain.frame d t) = notify-leaf d (λ s. Event.Frame s t) (λ k. []) (λ s. (refl, refl)) (λ k. Noted.nothing)
+plain-leaf v now (Plain.resumed d) = notify-leaf d (λ s. Event.Resumed s) (λ k. []) (λ s. mild refl refl refl) (λ k. Noted.nothing)
+plain-leaf v now (Plain.paused d) = notify-leaf d (λ s. Event.Paused s) (λ k. Edit.amend k Amend.clearTouches ∷ []) (λ s. mild refl refl refl) (λ k. Noted.clears k)
+plain-leaf v now (Plain.startEmulating d q) = notify-leaf d (λ s. Event.StartEmulating s q) (λ k. []) (λ s. mild refl refl refl) (λ k. Noted.nothing)
+plain-leaf v now (Plain.stopEmulating d) = notify-leaf d (λ s. Event.StopEmulating s) (λ k. []) (λ s. mild refl refl refl) (λ k. Noted.nothing)
+plain-leaf v now (Plain.frame d t) = notify-leaf d (λ s. Event.Frame s t) (λ k. []) (λ s. mild refl refl refl) (λ k. Noted.nothing)
 plain-leaf v now (Plain.disconnected reason explanation) = checkOptional-leaf explanation (allGone (disconnectReasonNumber reason) explanation (Removes.disconnected reason explanation))
 plain-leaf v now Plain.lastSerial = answered (Result.value (v .connection .lastSerial)) refl
 plain-leaf v now (Plain.hasInterface name) = checkUtf8-leaf name (answered _ refl)

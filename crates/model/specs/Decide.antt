@@ -7,7 +7,7 @@ use mathlib.Core.Option.{Option, none, some}
 use lib.Dec.{leb, ltb, eqb}
 use lib.ListN.{length, getD}
 use Rattle.eiproto.specs.Enum.{deviceTypeNumber, disconnectReasonNumber}
-use Rattle.eiproto.specs.Bits.{bitsOf, common, contains}
+use Rattle.eiproto.specs.Bits.{bitsOf, maskFrom, common, contains}
 use Rattle.eiproto.specs.Capability.{capabilityIndex, interfaceOfBit, unknownBits}
 use Rattle.eiproto.specs.Interface.{eiCallback, eiSeat, eiDevice, eiTouchscreen, lookup}
 use Rattle.eiproto.specs.declared.event.DeviceCapability.{DeviceCapability}
@@ -49,10 +49,23 @@ unfoldable pub isSome : Option ℕ → Bool
 isSome none = false
 isSome (some v) = true
 
--- "An interface with no negotiated version gets 1."
-unfoldable pub versionOr1 : Option ℕ → ℕ
-versionOr1 none = 1
-versionOr1 (some v) = v
+-- the mask of the negotiated capabilities: those whose interface has a version, which may be 0
+unfoldable pub negotiatedCapabilities : Connection → ℕ
+unfolding maskFrom isSome version interfaceOfBit
+negotiatedCapabilities c = maskFrom 7 0 (λ b. isSome (version c (interfaceOfBit b)))
+
+-- "Seats and devices without a negotiated version state 1 themselves."
+unfoldable pub stated : Option ℕ → ℕ
+stated none = 1
+stated (some v) = v
+
+unfoldable pub seatVersion : Connection → ℕ
+unfolding stated version
+seatVersion c = stated (version c eiSeat)
+
+unfoldable pub deviceVersion : Connection → ℕ
+unfolding stated version
+deviceVersion c = stated (version c eiDevice)
 
 -- `negotiated_interfaces.get(name)`
 unfoldable pub negotiated : Connection → Option ℕ → Option ℕ
@@ -239,37 +252,40 @@ unfoldable pub nameEvents : ℕ → Option (List ℕ) → List Sent
 nameEvents object none = []
 nameEvents object (some text) = record { object = object; event = Event.Name; text = text } ∷ []
 
--- "A seat keeps every capability it was given, negotiated or not, but announces the negotiated ones only."
-unfoldable pub capabilityEvents : Connection → (seat : ℕ) → List ℕ → List Sent
-unfolding version isSome interfaceOfBit
-capabilityEvents c seat [] = []
-capabilityEvents c seat (b ∷ bs) =
-    cond (isSome (version c (interfaceOfBit b))) (on seat (Event.Capability (2 ^ b) (interfaceOfBit b)) ∷ []) []
-    ++ capabilityEvents c seat bs
+unfoldable pub capabilityEvents : (seat : ℕ) → List ℕ → List Sent
+unfolding interfaceOfBit
+capabilityEvents seat [] = []
+capabilityEvents seat (b ∷ bs) = on seat (Event.Capability (2 ^ b) (interfaceOfBit b)) ∷ capabilityEvents seat bs
 
--- a new seat: itself on the connection, then on it its name, the negotiated capabilities, done
+-- a new seat: itself on the connection, then on it its name, its capabilities, done
 abbrev pub seatEvents : Connection → (id version : ℕ) → Option (List ℕ) → (capabilities : ℕ) → List Sent
 seatEvents c id version name caps =
-    on (c .id) (Event.Seat id version) ∷ nameEvents id name ++ (capabilityEvents c id (bitsOf caps) ++ (on id Event.Done ∷ []))
+    on (c .id) (Event.Seat id version) ∷ nameEvents id name ++ (capabilityEvents id (bitsOf caps) ++ (on id Event.Done ∷ []))
 
 abbrev pub seatPlan : (id capabilities : ℕ) → List Sent → Plan
 seatPlan id caps events = record { outcome = Result.seat id; events = events; edits = Edit.addSeat caps ∷ [] }
 
+-- "A seat's set is cut down to the negotiated capabilities"
 abbrev pub seatAdded : View → Option (List ℕ) → (capabilities : ℕ) → Plan
 seatAdded v name caps =
     let c = v .connection in
-    seatPlan (c .nextId) caps (seatEvents c (c .nextId) (versionOr1 (version c eiSeat)) name caps)
+    let set = common caps (negotiatedCapabilities c) in
+    seatPlan (c .nextId) set (seatEvents c (c .nextId) (seatVersion c) name set)
 
 unfoldable pub addSeat : View → Option (List ℕ) → (capabilities : ℕ) → Plan
-unfolding checkOptional checkCapabilities nameEvents capabilityEvents bitsOf versionOr1 version
+unfolding checkOptional checkCapabilities nameEvents capabilityEvents bitsOf common negotiatedCapabilities seatVersion
 addSeat v name caps = checkOptional name (checkCapabilities caps (seatAdded v name caps))
 
+-- an interface with the version that was negotiated for it; none without one
+unfoldable pub interfaceEvent : (device : ℕ) → Interface → (version : Option ℕ) → List Sent
+unfolding interfaceOfBit
+interfaceEvent device i none = []
+interfaceEvent device i (some v) = on device (Event.Interface (i .id) (interfaceOfBit (i .capability)) v) ∷ []
+
 unfoldable pub interfaceEvents : Connection → (device : ℕ) → List Interface → List Sent
-unfolding versionOr1 version interfaceOfBit
+unfolding interfaceEvent version interfaceOfBit
 interfaceEvents c device [] = []
-interfaceEvents c device (i ∷ is) =
-    on device (Event.Interface (i .id) (interfaceOfBit (i .capability)) (versionOr1 (version c (interfaceOfBit (i .capability)))))
-    ∷ interfaceEvents c device is
+interfaceEvents c device (i ∷ is) = interfaceEvent device i (version c (interfaceOfBit (i .capability))) ++ interfaceEvents c device is
 
 -- a new device: itself on its seat, then on it its name, its type, its interfaces, done
 abbrev pub deviceEvents : Connection → (seat id version : ℕ) → Option (List ℕ) → (type capabilities : ℕ) → List Sent
@@ -281,14 +297,16 @@ deviceEvents c seat id version name type caps =
 abbrev pub devicePlan : (id seat capabilities : ℕ) → List Sent → Plan
 devicePlan id seat caps events = record { outcome = Result.device id; events = events; edits = Edit.addDevice seat caps ∷ [] }
 
+-- "and a device gets no interface for one not negotiated", whatever its seat's set says
 abbrev pub deviceAdded : View → (seat : ℕ) → Option (List ℕ) → (type capabilities : ℕ) → Plan
 deviceAdded v seat name type caps =
     let c = v .connection in
-    devicePlan (c .nextId) seat caps (deviceEvents c seat (c .nextId) (versionOr1 (version c eiDevice)) name type caps)
+    let made = common caps (negotiatedCapabilities c) in
+    devicePlan (c .nextId) seat made (deviceEvents c seat (c .nextId) (deviceVersion c) name type made)
 
 -- "Capabilities that were not advertised on the seat will be ignored." (`Seat::add_device`)
 unfoldable pub addDevice : View → (seat : ℕ) → Option (List ℕ) → (type capabilities : ℕ) → Plan
-unfolding checkOptional checkCapabilities onFound seatOf refuse common nameEvents interfaceEvents newInterfaces versionOr1 version
+unfolding checkOptional checkCapabilities onFound seatOf refuse common negotiatedCapabilities nameEvents interfaceEvents newInterfaces deviceVersion
 addDevice v seat name type caps =
     checkOptional name
     (checkCapabilities caps (onFound (seatOf seat v) (refuse 12) λ s. deviceAdded v seat name type (common caps (s .capabilities))))

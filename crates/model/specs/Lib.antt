@@ -14,3 +14,4 @@ pub mod Framed
 pub mod Destroyed
 pub mod Trials
 pub mod Live
+pub mod Negotiated

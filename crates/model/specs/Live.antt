@@ -12,7 +12,7 @@ use Rattle.wire.specs.Record.{layout}
 use Rattle.model.specs.Call.{Load, Turn, split}
 use Rattle.model.specs.Session.{Interface, Device, Connection, View, fresh, view}
 use Rattle.model.specs.Plan.{Sent}
-use Rattle.model.specs.Decide.{version, versionOr1, deviceOf, seatOf}
+use Rattle.model.specs.Decide.{version, seatVersion, deviceVersion, deviceOf, seatOf}
 use Rattle.model.specs.Step.{Step}
 use Rattle.model.specs.Demand3.{trail}
 use Rattle.model.specs.Reachable.{countOf, sessionAfter, idsIn}
@@ -42,25 +42,25 @@ unfolding listedAs orElse
 listedIn id [] = none
 listedIn id (d ∷ ds) = orElse (listedAs id (d .interfaces)) (listedIn id ds)
 
--- "An interface with no negotiated version gets 1."
-unfoldable pub objectOf : Connection → (interface : ℕ) → Object
-unfolding versionOr1 version
-objectOf c i = record { interface = i; version = versionOr1 (version c i) }
+-- an object of an interface, if that has a version
+unfoldable pub objectOf : (interface : ℕ) → (version : Option ℕ) → Option Object
+objectOf i none = none
+objectOf i (some v) = some (record { interface = i; version = v })
 
 unfoldable pub interfaceObject : Connection → Option ℕ → Option Object
-unfolding objectOf interfaceOfBit
+unfolding objectOf version interfaceOfBit
 interfaceObject c none = none
-interfaceObject c (some b) = some (objectOf c (interfaceOfBit b))
+interfaceObject c (some b) = objectOf (interfaceOfBit b) (version c (interfaceOfBit b))
 
 -- THE OBJECT OF AN ID: the connection until its `disconnected`, a seat, a device, an interface that a device lists. (A callback is destroyed by the call that it is
 -- made by, and a pingpong is never made)
 unfoldable pub live : View → (id : ℕ) → Option Object
-unfolding isFound objectOf seatOf deviceOf interfaceObject listedIn
+unfolding isFound seatVersion deviceVersion seatOf deviceOf interfaceObject listedIn
 live v id =
     let c = v .connection in
     cond (eqb (c .id) id && not (c .gone)) (some (record { interface = eiConnection; version = 1 }))
-    (cond (isFound (seatOf id v)) (some (objectOf c eiSeat))
-    (cond (isFound (deviceOf id v)) (some (objectOf c eiDevice)) (interfaceObject c (listedIn id (v .devices)))))
+    (cond (isFound (seatOf id v)) (some (record { interface = eiSeat; version = seatVersion c }))
+    (cond (isFound (deviceOf id v)) (some (record { interface = eiDevice; version = deviceVersion c })) (interfaceObject c (listedIn id (v .devices)))))
 
 -- ---- an id is alive exactly when an event of the trail announced it and none of its own destroyed it
 

@@ -21,3 +21,6 @@ pub mod ReleasedPlaces
 pub mod ReleasedTouch
 pub mod ReleaseSerials
 pub mod Framed
+pub mod CutSeat
+pub mod CutDevice
+pub mod VersionZero

@@ -8,7 +8,7 @@ use borrow.Author.Tests.{eq-eqb, ne-eqb}
 use Rattle.eiproto.specs.Capability.{interfaceOfBit}
 use Rattle.eiproto.specs.Interface.{eiConnection, eiSeat, eiDevice}
 use Rattle.model.specs.Session.{Seat, Connection, View}
-use Rattle.model.specs.Decide.{Found, deviceOf, seatOf}
+use Rattle.model.specs.Decide.{Found, version, seatVersion, deviceVersion, deviceOf, seatOf}
 use Rattle.model.specs.Live.{isFound, listedIn, objectOf, interfaceObject, live}
 
 -- the id is not the connection's, or the connection is gone
@@ -32,17 +32,17 @@ module _ (v : View) (id : ℕ) (n : Connection) (e : v .connection ≡ n) where
   live-connection q g = rw (e, eq-eqb (n .id) id q, g)
 
   module _ (p : Passed n id) where
-    pub live-seat : {x : Seat} → seatOf id v ≡ some x → live v id ≡ some (objectOf n eiSeat)
+    pub live-seat : {x : Seat} → seatOf id v ≡ some x → live v id ≡ some (record { interface = eiSeat; version = seatVersion n })
     unfolding live isFound
     live-seat f = rw (f, e, p)
 
     module _ (no-seat : seatOf id v ≡ none) where
-      pub live-device : {x : Found} → deviceOf id v ≡ some x → live v id ≡ some (objectOf n eiDevice)
+      pub live-device : {x : Found} → deviceOf id v ≡ some x → live v id ≡ some (record { interface = eiDevice; version = deviceVersion n })
       unfolding live isFound
       live-device f = rw (no-seat, f, e, p)
 
       module _ (no-device : deviceOf id v ≡ none) where
-        pub live-interface : {b : ℕ} → listedIn id (v .devices) ≡ some b → live v id ≡ some (objectOf n (interfaceOfBit b))
+        pub live-interface : {b : ℕ} → listedIn id (v .devices) ≡ some b → live v id ≡ objectOf (interfaceOfBit b) (version n (interfaceOfBit b))
         unfolding live isFound interfaceObject
         live-interface f = rw (no-seat, no-device, f, e, p)
 

@@ -1,14 +1,15 @@
 // Which objects live, and of which interface and version each is: read off the control words where they are, nothing is stored for it.
+use control::Negotiated;
 use control::Slot;
 use eiproto::eiproto_eis;
 use eiproto::event::DeviceCapability;
 ghost use mathlib.Core.Path.{_≡_};
 ghost use Prim.Native.Nat.{ℕ, _<_};
 ghost use mathlib.Core.List.{List};
-ghost use mathlib.Core.Option.{some};
 ghost use lib.Ieee.{Float};
 ghost use lib.ListN.{length};
 ghost use Rattle.model.specs.Session.{view};
+ghost use Rattle.model.specs.Decide.{version};
 ghost use Rattle.model.specs.Live.{listedAs, listedIn, objectOf, live};
 ghost use Rattle.control.specs.Control.{devicesLimit, controlLength, connectionOf, interfacesOn, coreAt};
 ghost use Rattle.control.specs.Sound.{Sound};
@@ -78,13 +79,15 @@ pub fn find_listed(control: &[u64], id: u64) -> Listed
     Listed::Nothing
 }
 
-// An object of the interface, with the version that was negotiated for it.
+// An object of the interface, with the version that was negotiated for it; none without one.
 fn object_of(control: &[u64], interface: u8) -> Object
     requires { ⌜ length (now control) ≡ controlLength ⌝ }
-    ensures { λ r. ⌜ objectTold r ≡ some (objectOf (connectionOf (now (control .entry))) interface) ⌝ }
+    ensures { λ r. ⌜ objectTold r ≡ objectOf interface (version (connectionOf (now (control .entry))) interface) ⌝ }
 {
-    let version = control::version_or_1(control, interface);
-    Object::Alive { interface, version }
+    match control::version(control, interface) {
+        Negotiated::Version(version) => Object::Alive { interface, version },
+        Negotiated::Nothing => Object::Unknown,
+    }
 }
 
 // The object of an id: the connection until its `disconnected`, a seat, a device, an interface that a device lists.
@@ -101,9 +104,15 @@ pub fn find_object(control: &[u64], id: u64) -> Object
         }
     }
     match control::find_seat(control, id) {
-        Slot::At(_) => object_of(control, eiproto_eis::SEAT),
+        Slot::At(_) => Object::Alive {
+            interface: eiproto_eis::SEAT,
+            version: control::seat_version(control),
+        },
         Slot::Unknown => match control::find_device(control, id) {
-            Slot::At(_) => object_of(control, eiproto_eis::DEVICE),
+            Slot::At(_) => Object::Alive {
+                interface: eiproto_eis::DEVICE,
+                version: control::device_version(control),
+            },
             Slot::Unknown => match find_listed(control, id) {
                 Listed::For(bit) => object_of(control, DeviceCapability::interface_of_bit(bit)),
                 Listed::Nothing => Object::Unknown,

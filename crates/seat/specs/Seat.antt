@@ -5,10 +5,16 @@ use mathlib.Core.List.{List}
 use mathlib.Core.Option.{Option, some}
 use lib.Dec.{eqb}
 use Rattle.control.specs.Table.{first}
-use Rattle.control.specs.Control.{connectionOf}
+use Rattle.eiproto.specs.Bits.{common}
+use Rattle.model.specs.Decide.{negotiatedCapabilities}
+use Rattle.control.specs.Control.{seatAt, connectionOf}
 use Rattle.control.specs.Sound.{Sound}
 use Rattle.answers.specs.Check.{Checks}
 use Rattle.answers.specs.declared.Checked.{Checked}
+
+-- what a device on the seat in slot k is made with: capabilities that the seat has too, and that were negotiated
+abbrev pub madeWith : (control : List ℕ) (k capabilities : ℕ) → ℕ
+madeWith control k capabilities = common (common capabilities (seatAt control k .capabilities)) (negotiatedCapabilities (connectionOf control))
 
 -- neither 21, nor 10 or 11, nor 13, nor 12: the seat is in slot k
 pub record Tested (control : List ℕ) (k seat : ℕ) (name : Option (List ℕ)) (capabilities : ℕ) : Type 0 where

@@ -4,18 +4,30 @@ use answers::Checked;
 use answers::Error;
 use answers::Outcome;
 use control::Slot;
-use eiproto::eiproto_eis;
 use eiproto::eiproto_enum::DeviceType;
 use eiproto::event::DeviceCapability;
 use wire::backend;
 use wire::backend::NewObjects;
-ghost use Prim.Native.Nat.{ℕ};
+ghost use mathlib.Core.Path.{_≡_};
+ghost use Prim.Native.Nat.{ℕ, _<_};
+ghost use lib.ListN.{length};
 ghost use Rattle.model.specs.Call.{Plain, Call};
 ghost use Rattle.session.specs.Slices.{optional, text};
 ghost use Rattle.answers.specs.Promise.{Promise, PromiseRows, HandlesControl};
-ghost use Rattle.seat.specs.Seat.{Tested};
+ghost use Rattle.control.specs.Control.{seatsLimit, controlLength};
+ghost use Rattle.seat.specs.Seat.{madeWith, Tested};
 
-// On the seat in slot k, behind the tests of the call: 15, then 20, then 19. "Capabilities that were not advertised on the seat will be ignored."
+// The capabilities that a device on the seat in slot k is made with: "Capabilities that were not advertised on the seat will be ignored.", and "a
+// device gets no interface for one not negotiated", whatever the seat's set says.
+fn made_with(control: &[u64], k: usize, capabilities: u64) -> u64
+    requires { ⌜ (length (now control) ≡ controlLength) × (k < seatsLimit) ⌝ }
+    ensures { λ r. ⌜ r ≡ madeWith (now (control .entry)) k capabilities ⌝ }
+{
+    let both = DeviceCapability::common(capabilities, control::seat_capabilities(control, k));
+    DeviceCapability::common(both, control::negotiated_capabilities(control))
+}
+
+// On the seat in slot k, behind the tests of the call: 15, then 20, then 19.
 fn add_device_at(
     control: &mut [u64],
     k: usize,
@@ -32,19 +44,19 @@ fn add_device_at(
     if control::DEVICES_LIMIT <= control::device_count(control) {
         return Answer::refused(Error::FullDevices);
     }
-    let both = DeviceCapability::common(capabilities, control::seat_capabilities(control, k));
+    let made = made_with(control, k, capabilities);
     let id = control::next_id(control);
-    let more = 1 + DeviceCapability::count(both) as u64;
+    let more = 1 + DeviceCapability::count(made) as u64;
     let NewObjects::NextId(_) = backend::new_objects(id, more) else {
         return Answer::refused(Error::IdsSpent);
     };
-    let version = control::version_or_1(control, eiproto_eis::DEVICE);
-    if out.len() < events::device_length(id, version, given, name, both) {
+    let version = control::device_version(control);
+    if out.len() < events::device_length(id, version, given, name, made) {
         return Answer::refused(Error::ShortOut);
     }
     let number = kind.number();
-    let count = events::announce_device(control, seat, id, version, given, name, number, both, out);
-    session::add_device(control, seat, both);
+    let count = events::announce_device(control, seat, id, version, given, name, number, made, out);
+    session::add_device(control, seat, made);
     Answer {
         outcome: Outcome::Device(id),
         count,

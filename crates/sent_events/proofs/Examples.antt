@@ -37,8 +37,12 @@ keyboardId = 0xff00_0000_0000_0003
 abbrev plainly : Plain → Turn
 plainly c = record { call = Call.plain c; now = 0; room = 4096 }
 
+-- the keyboard alone is negotiated: number 10
+abbrev versions : List (Option ℕ)
+versions = none ∷ none ∷ none ∷ none ∷ none ∷ none ∷ none ∷ none ∷ none ∷ some 1 ∷ []
+
 abbrev after : List Plain → View
-after cs = view (sessionAfter (map split (map plainly cs)) (fresh {P = Load} 0xff00_0000_0000_0000 7 seatId []))
+after cs = view (sessionAfter (map split (map plainly cs)) (fresh {P = Load} 0xff00_0000_0000_0000 7 seatId versions))
 
 -- before the seat, before the device, and with both
 abbrev bare : View
@@ -76,7 +80,9 @@ keyboard-message =
     record { object = keyboardId; opcode = 0; event = Event.Destroyed 8; text = []; has = refl; fits = refl; laid = refl; told = refl }
 
 -- a seat's `done` is on 4
-pub seat-added : decide bare 0 (addSeat none) .events ≡ on 0xff00_0000_0000_0000 (Event.Seat seatId 1) ∷ on seatId Event.Done ∷ []
+pub seat-added :
+    decide bare 0 (addSeat none) .events
+    ≡ on 0xff00_0000_0000_0000 (Event.Seat seatId 1) ∷ on seatId (Event.Capability 4 10) ∷ on seatId Event.Done ∷ []
 unfolding decide view sessionAfter split fresh
 seat-added = refl
 
@@ -112,7 +118,8 @@ zeroed = 0x61 ∷ 0 ∷ 0x62 ∷ []
 
 pub named :
     decide bare 0 (addSeat (some zeroed)) .events
-    ≡ on 0xff00_0000_0000_0000 (Event.Seat seatId 1) ∷ record { object = seatId; event = Event.Name; text = zeroed } ∷ on seatId Event.Done ∷ []
+    ≡ on 0xff00_0000_0000_0000 (Event.Seat seatId 1) ∷ record { object = seatId; event = Event.Name; text = zeroed } ∷ on seatId (Event.Capability 4 10)
+    ∷ on seatId Event.Done ∷ []
 unfolding decide view sessionAfter split fresh
 named = refl
 

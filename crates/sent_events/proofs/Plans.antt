@@ -27,7 +27,7 @@ use Rattle.model.specs.Call.{Sight, HandshakeRequest, Plain, Call}
 use Rattle.model.specs.Session.{Untimed, Queued, Interface, Seat, Device, Connection, View}
 use Rattle.model.specs.Edit.{Amend, Edit, nextSerial, interfacesFrom, newInterfaces}
 use Rattle.model.specs.Plan.{Sent, on, Result, Plan, answer, refuse, ignore, edit, send}
-use Rattle.model.specs.Decide.{Found, isSome, version, later, find, listsAs, deviceOf, deviceForInterface, seatIn, seatOf, checkUtf8, checkName, checkOptional, checkCapabilities, onFound, sendNext, pendAfter, handleHandshake, handleSync, isPeerId, handleSyncMessage, handleSeat, handleDevice, handleFrame, handleRelease, handleSeatRelease, nextOf, nameEvents, capabilityEvents, seatAdded, addSeat, interfaceEvents, deviceAdded, addDevice, destroyed, objectsOf, devicesObjects, seatObjects, seatsObjects, sendDestroyed, removeDevice, retireSeat, removeSeat, removeSeats, explained, explanationText, disconnected, notify, decidePlain, decide}
+use Rattle.model.specs.Decide.{Found, version, negotiatedCapabilities, seatVersion, deviceVersion, later, find, listsAs, deviceOf, deviceForInterface, seatIn, seatOf, checkUtf8, checkName, checkOptional, checkCapabilities, onFound, sendNext, pendAfter, handleHandshake, handleSync, isPeerId, handleSyncMessage, handleSeat, handleDevice, handleFrame, handleRelease, handleSeatRelease, nextOf, nameEvents, capabilityEvents, seatEvents, seatPlan, seatAdded, addSeat, interfaceEvent, interfaceEvents, deviceEvents, devicePlan, deviceAdded, addDevice, destroyed, objectsOf, devicesObjects, seatObjects, seatsObjects, sendDestroyed, removeDevice, retireSeat, removeSeat, removeSeats, explained, explanationText, disconnected, notify, decidePlain, decide}
 use Rattle.model.specs.Live.{isFound}
 use Rattle.model.proofs.All.{All, none as nil, more, all-append}
 use Rattle.model.proofs.ReachableHeld.{both}
@@ -193,23 +193,22 @@ module _ {v : View} {c : Call Sight} where
   name-has m k none p = nil
   name-has m k (some text) p = more (record { interface = _; opcode = 1; maker = m; has = k; fits = p }) nil
 
-  capabilities-have : {id : ℕ} → Maker v c eiSeat id → (conn : Connection) (bs : List ℕ) → small bs ≡ true → Has v c (capabilityEvents conn id bs)
+  capabilities-have : {id : ℕ} → Maker v c eiSeat id → (bs : List ℕ) → small bs ≡ true → Has v c (capabilityEvents id bs)
   unfolding capabilityEvents every kindOf layout sendable
-  capabilities-have m conn [] h = nil
-  capabilities-have {id} m conn (b ∷ bs) h =
-      let q = both (ltb b 7) (small bs) h in
-      all-append (go (isSome (version conn (interfaceOfBit b))) (served b (ltb-true b 7 (q .0)))) (capabilities-have m conn bs (q .1))
-    where
-      go : (t : Bool) → Served b → Has v c (cond t (on id (Event.Capability (2 ^ b) (interfaceOfBit b)) ∷ []) [])
-      go true x = more (on-has 2 m refl (x .numbered)) nil
-      go false x = nil
+  capabilities-have m [] h = nil
+  capabilities-have m (b ∷ bs) h =
+      let q = both (ltb b 7) (small bs) h in more (on-has 2 m refl (served b (ltb-true b 7 (q .0)) .numbered)) (capabilities-have m bs (q .1))
 
   interfaces-have : {id : ℕ} → Maker v c eiDevice id → (conn : Connection) (is : List Interface) → listsKnown is ≡ true → Has v c (interfaceEvents conn id is)
-  unfolding interfaceEvents every kindOf layout sendable
+  unfolding interfaceEvents interfaceEvent every kindOf layout sendable
   interfaces-have m conn [] h = nil
-  interfaces-have m conn (i ∷ is) h =
+  interfaces-have {id} m conn (i ∷ is) h =
       let q = both (ltb (i .capability) 7) (listsKnown is) h in
-      more (on-has 5 m refl (served (i .capability) (ltb-true (i .capability) 7 (q .0)) .numbered)) (interfaces-have m conn is (q .1))
+      all-append (go (version conn (interfaceOfBit (i .capability))) (served (i .capability) (ltb-true (i .capability) 7 (q .0)))) (interfaces-have m conn is (q .1))
+    where
+      go : (o : Option ℕ) → Served (i .capability) → Has v c (interfaceEvent id i o)
+      go none x = nil
+      go (some ver) x = more (on-has 5 m refl (x .numbered)) nil
 
   -- ---- what goes
 
@@ -362,34 +361,54 @@ release-fine {v} k id =
     let b = capabilityIndex k in
     record { events = more (on-has 0 (Maker.interface b (some-found e)) (served b (index-small k) .has) refl) nil; edits = refl }
 
-newSeat-fine : {v : View} (name : Option (List ℕ)) (caps : ℕ) → Proper name → caps < 2 ^ 7 → Fine v (Call.plain (Plain.addSeat name caps)) (seatAdded v name caps)
+-- a seat with a set of known capabilities
+seat-fine : {v : View} (name : Option (List ℕ)) (given set ver : ℕ) → Proper name → small (bitsOf set) ≡ true →
+    Fine v (Call.plain (Plain.addSeat name given)) (seatPlan (v .connection .nextId) set (seatEvents (v .connection) (v .connection .nextId) ver name set))
 unfolding every addsKnown kindOf layout sendable
-newSeat-fine {v} name caps p l =
-    let announced = capabilities-have Maker.newSeat (v .connection) (bitsOf caps) (bits-small 7 caps l) in
+seat-fine {v} name given set ver p few =
+    let announced = capabilities-have Maker.newSeat (bitsOf set) few in
     let done = more (on-has 3 Maker.newSeat refl refl) nil in
     record {
       events = more (on-has 1 Maker.connection refl refl) (all-append (name-has Maker.newSeat refl name p) (all-append announced done));
       edits = refl;
     }
 
+-- what is cut down is known
+cut-known : (m caps : ℕ) → caps < 2 ^ 7 → small (bitsOf (common caps m)) ≡ true
+cut-known m caps l = bits-small 7 (common caps m) (omega (arith, common-le caps m (omega arith)))
+
+newSeat-fine : {v : View} (name : Option (List ℕ)) (caps : ℕ) → Proper name → caps < 2 ^ 7 → Fine v (Call.plain (Plain.addSeat name caps)) (seatAdded v name caps)
+newSeat-fine {v} name caps p l =
+    let m = negotiatedCapabilities (v .connection) in
+    seat-fine name caps (common caps m) (seatVersion (v .connection)) p (cut-known m caps l)
+
 type-fits : (t : DeviceType) → sendable (Event.DeviceType (deviceTypeNumber t)) [] ≡ true
 unfolding sendable
 type-fits DeviceType.Virtual = refl
 type-fits DeviceType.Physical = refl
 
-newDevice-fine : {v : View} (seat : ℕ) (s : Seat) (name : Option (List ℕ)) (t : DeviceType) (caps : ℕ) → seatOf seat v ≡ some s → Proper name → caps < 2 ^ 7 →
-    Fine v (Call.plain (Plain.addDevice seat name t caps)) (deviceAdded v seat name (deviceTypeNumber t) (common caps (s .capabilities)))
+-- a device that is made with known capabilities
+device-fine : {v : View} (seat : ℕ) (s : Seat) (name : Option (List ℕ)) (t : DeviceType) (given made ver : ℕ) → seatOf seat v ≡ some s → Proper name →
+    small (bitsOf made) ≡ true →
+    Fine v (Call.plain (Plain.addDevice seat name t given))
+    (devicePlan (v .connection .nextId) seat made (deviceEvents (v .connection) seat (v .connection .nextId) ver name (deviceTypeNumber t) made))
 unfolding every addsKnown kindOf layout sendable
-newDevice-fine {v} seat s name t caps e p l =
-    let shared = common caps (s .capabilities) in
-    let few = bits-small 7 shared (omega (arith, common-le caps (s .capabilities) (omega arith))) in
+device-fine {v} seat s name t given made ver e p few =
     let id = v .connection .nextId in
-    let listed = interfaces-have Maker.newDevice (v .connection) (newInterfaces id shared) (new-known id shared few) in
+    let listed = interfaces-have Maker.newDevice (v .connection) (newInterfaces id made) (new-known id made few) in
     let done = more (on-has 6 Maker.newDevice refl refl) nil in
     record {
       events = more (on-has 4 (Maker.seat (some-found e)) refl refl) (all-append (name-has Maker.newDevice refl name p) (more (on-has 2 Maker.newDevice refl (type-fits t)) (all-append listed done)));
       edits = rw few;
     }
+
+newDevice-fine : {v : View} (seat : ℕ) (s : Seat) (name : Option (List ℕ)) (t : DeviceType) (caps : ℕ) → seatOf seat v ≡ some s → Proper name → caps < 2 ^ 7 →
+    Fine v (Call.plain (Plain.addDevice seat name t caps)) (deviceAdded v seat name (deviceTypeNumber t) (common caps (s .capabilities)))
+newDevice-fine {v} seat s name t caps e p l =
+    let m = negotiatedCapabilities (v .connection) in
+    let shared = common caps (s .capabilities) in
+    let few = cut-known m shared (omega (arith, common-le caps (s .capabilities) (omega arith))) in
+    device-fine seat s name t caps (common shared m) (deviceVersion (v .connection)) e p few
 
 reason-fits : (r : DisconnectReason) → between 0 5 (disconnectReasonNumber r) ≡ true
 reason-fits DisconnectReason.Disconnected = refl

@@ -19,7 +19,7 @@ announce-capabilities-requires c κs =
     let at-seat = at-name .before .before .before .before in
     let at-connection = at-seat .before .before .before in
     let p = at-connection .before .before .before .before .pre in
-    (p .sound, (p .known, capabilities-room p (at-connection .connection-id .ensures) (at-seat .send .ensures) (at-seat .send .kept .0) (at-name .announce-name .ensures) (at-name .announce-name .kept .0)))
+    (p .known, capabilities-room p (at-connection .connection-id .ensures) (at-seat .send .ensures) (at-seat .send .kept .0) (at-name .announce-name .ensures) (at-name .announce-name .kept .0))
 
 send-requires-2 : tie.Need-send-requires-2
 send-requires-2 c κs =
@@ -28,7 +28,7 @@ send-requires-2 c κs =
     let at-seat = at-name .before .before .before .before in
     let at-connection = at-seat .before .before .before in
     done-room (at-connection .before .before .before .before .pre) (at-connection .connection-id .ensures) (at-seat .send .ensures) (at-seat .send .kept .0) (at-name .announce-name .ensures)
-    (at-name .announce-name .kept .0) (at-capabilities .announce-capabilities .ensures) (at-capabilities .announce-capabilities .kept .1 .1 .1 .0) _
+    (at-name .announce-name .kept .0) (at-capabilities .announce-capabilities .ensures) (at-capabilities .announce-capabilities .kept .1 .1 .0) _
 
 returns : tie.Need-returns
 returns c =
@@ -37,7 +37,7 @@ returns c =
     let at-seat = at-name .before .before .before .before in
     let at-connection = at-seat .before .before .before in
     seat-sends (at-connection .before .before .before .before .pre) (at-connection .connection-id .ensures) (at-seat .send .ensures) (at-seat .send .kept .0) (at-name .announce-name .ensures)
-    (at-name .announce-name .kept .0) (at-capabilities .announce-capabilities .ensures) (at-capabilities .announce-capabilities .kept .1 .1 .1 .0) (c .before .before .send2 .ensures)
+    (at-name .announce-name .kept .0) (at-capabilities .announce-capabilities .ensures) (at-capabilities .announce-capabilities .kept .1 .1 .0) (c .before .before .send2 .ensures)
 
 pub announce-seat-spec : {M : Type 1} → statement M
 announce-seat-spec =

@@ -3,6 +3,7 @@ use native.Mathlib.Omega.{arith}
 use borrow.Author.Needs.{needs}
 use Rattle.events.proofs.Objects.{bits-most}
 use Rattle.session.specs.Slices.{optional}
+use Rattle.events.proofs.Announced.{interfaces-length}
 use Rattle.events.proofs.Named.{done-fixed}
 use Rattle.events.proofs.NewDevice.{device-fixed, type-fixed, device-bytes}
 use Rattle.events.proofs.device_length.Statement.{statement}
@@ -37,8 +38,8 @@ add-result-4 c =
 returns : tie.Need-returns
 returns c =
     let a = c .before .before .before .before .before .before .args in
-    λ k seat kind.
-    omega (arith, c .name-length .ensures .0 (a .id), c .before .before .before .before .fixed-length .ensures, c .before .before .before .fixed-length2 .ensures, c .before .before .count .ensures, c .before .fixed-length3 .ensures, device-bytes k seat (a .id) (a .version) (optional (a .given) (a .name .now)) kind (a .capabilities))
+    λ k seat kind made.
+    omega (arith, interfaces-length k (a .id) (a .capabilities) made, c .name-length .ensures .0 (a .id), c .before .before .before .before .fixed-length .ensures, c .before .before .before .fixed-length2 .ensures, c .before .before .count .ensures, c .before .fixed-length3 .ensures, device-bytes k seat (a .id) (a .version) (optional (a .given) (a .name .now)) kind (a .capabilities))
 
 pub device-length-spec : {M : Type 1} → statement M
 device-length-spec =

@@ -5,7 +5,9 @@ use mathlib.Core.Logic.{⊎-elim}
 use mathlib.Core.Option.{none, some}
 use lib.Dec.{eqb}
 use borrow.Author.Tests.{not-true, not-false}
+use Rattle.eiproto.specs.Interface.{eiSeat, eiDevice}
 use Rattle.model.specs.Session.{view}
+use Rattle.model.specs.Decide.{version}
 use Rattle.model.specs.Live.{objectOf}
 use Rattle.control.specs.Table.{first}
 use Rattle.control.specs.Answer.{slotTold}
@@ -41,7 +43,7 @@ returns-2 c w q t =
     let at-join = at-seat .before in
     let a = at-join .before .before .before .args in
     let s = store (a .control .now) w q t in
-    c .object-of .ensures
+    ap (λ (v : ℕ). some (record { interface = eiSeat; version = v })) (c .seat-version .ensures)
     ∙ sym (live-seat (view (session s)) (a .id) (connectionOf (a .control .now)) (view-connection s) (passed at-join)
     (found-seat s (a .id) (sym (at-seat .find-seat .ensures) ∙ ap slotTold (c .before .enum-told .given .1))))
 
@@ -58,7 +60,7 @@ returns-3 c w q t =
     let at-join = at-told .before .before .before in
     let a = at-join .before .before .before .args in
     let s = store (a .control .now) w q t in
-    c .object-of2 .ensures
+    ap (λ (v : ℕ). some (record { interface = eiDevice; version = v })) (c .device-version .ensures)
     ∙ sym (live-device (view (session s)) (a .id) (connectionOf (a .control .now)) (view-connection s) (passed at-join)
     (no-seat s (a .id) (unseated at-told))
     (found-device s (a .id) (sym (at-device .find-device .ensures) ∙ ap slotTold (c .before .enum-told3 .given .1))))
@@ -74,7 +76,7 @@ returns-4 c w q t =
     let a = at-join .before .before .before .args in
     let s = store (a .control .now) w q t in
     let n = connectionOf (a .control .now) in
-    c .object-of3 .ensures ∙ ap (λ (i : ℕ). some (objectOf n i)) (c .before .interface-of-bit .ensures)
+    c .object-of .ensures ∙ ap (λ (i : ℕ). objectOf i (version n i)) (c .before .interface-of-bit .ensures)
     ∙ sym (live-interface (view (session s)) (a .id) n (view-connection s) (passed at-join) (no-seat s (a .id) (unseated at-told))
     (no-device s (a .id) (sym (at-device .find-device .ensures) ∙ ap slotTold (at-none .enum-told4 .given .1)))
     (sym (at-listed .find-listed .ensures w q t) ∙ ap listedTold (c .before .before .before .bit .given .1)))
@@ -102,16 +104,16 @@ find-object-spec =
     returns
     (λ c κs. search needs)  -- find-seat-requires
     (λ c. search needs)  -- enum-told
-    (λ c κs. search needs)  -- object-of-requires
+    (λ c κs. search needs)  -- seat-version-requires
     (λ c. search needs)  -- enum-told-2
     (λ c κs. search needs)  -- find-device-requires
     (λ c. search needs)  -- enum-told-3
-    (λ c κs. search needs)  -- object-of-requires-2
+    (λ c κs. search needs)  -- device-version-requires
     (λ c. search needs)  -- enum-told-4
     (λ c κs. search needs)  -- find-listed-requires
     (λ c. search needs)  -- enum-known-bit
     (λ c κs. search needs)  -- interface-of-bit-requires
-    (λ c κs. search needs)  -- object-of-requires-3
+    (λ c κs. search needs)  -- object-of-requires
     (λ c. search needs)  -- enum-told-5
     returns-2
     returns-3

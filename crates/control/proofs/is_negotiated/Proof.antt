@@ -2,10 +2,10 @@
 use mathlib.Core.Path.{ap, sym, _∙_}
 use borrow.Author.Needs.{needs}
 use Rattle.model.specs.Decide.{isSome, version}
 use Rattle.control.specs.Control.{connectionOf}
 use Rattle.control.specs.Answer.{versionTold}
-use Rattle.events.proofs.negotiated.Statement.{statement}
-use Rattle.events.proofs.negotiated.Tie as tie
+use Rattle.control.proofs.is_negotiated.Statement.{statement}
+use Rattle.control.proofs.is_negotiated.Tie as tie
 
 interface-of-bit-requires : tie.Need-interface-of-bit-requires
 interface-of-bit-requires c κs = search needs
@@ -31,7 +31,7 @@ returns-2 c =
     let a = c .before .before .before .before .before .args in
     ap isSome (ap versionTold (sym (c .enum-told2 .given .1)) ∙ c .before .before .version .ensures ∙ ap (version (connectionOf (a .control .now))) (c .before .before .before .interface-of-bit .ensures))
 
-pub negotiated-spec : {M : Type 1} → statement M
-negotiated-spec =
+pub is-negotiated-spec : {M : Type 1} → statement M
+is-negotiated-spec =
     tie.close
     (tie.spec interface-of-bit-requires version-requires enum-told enum-told-2 returns returns-2)
