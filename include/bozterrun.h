@@ -977,7 +977,7 @@ static inline uint32_t bz_device_stop_emulating(bozterrun_session *session, uint
 }
 
 /*
- * The client binds capabilities of a seat, or asks for a device with them.
+ * The client binds capabilities of a seat, or asks for a device with them. A seat has none that was not negotiated.
  * Each refuses BOZTERRUN_INVALID_CAPABILITIES; BOZTERRUN_FULL_QUEUE.
  */
 uint32_t bozterrun_seat_bind(uint64_t *control, size_t control_length, uint64_t *words, size_t words_length,
@@ -1561,9 +1561,10 @@ static inline uint32_t bz_request_kind(const bozterrun_request *request)
 /* ---------------------------------------------------------------------------------------------------------------- */
 
 /*
- * Adds a seat with these capabilities; `id` is what it is called from then on. In the library's own function the name
- * counts where `given` is 1. Writes the seat, its name, the capabilities whose interfaces were negotiated, done: 429
- * bytes at most.
+ * Adds a seat with those of these capabilities whose interfaces were negotiated, if only with version 0; `id` is what
+ * it is called from then on. Others are left out, so that a client that binds them is refused; a seat may be left none.
+ * In the library's own function the name counts where `given` is 1. Writes the seat, its name, its capabilities, done:
+ * 429 bytes at most. The seat says version 1 where ei_seat was not negotiated.
  * The library's function answers BOZTERRUN_BAD_ARGUMENT where `given` is above 1. Refuses BOZTERRUN_BAD_UTF8;
  * BOZTERRUN_NAME_LONG; BOZTERRUN_BAD_CAPABILITIES; BOZTERRUN_FULL_SEATS; BOZTERRUN_IDS_SPENT; BOZTERRUN_SHORT_OUT.
  */
@@ -1585,9 +1586,10 @@ static inline uint32_t bz_add_seat(bozterrun_session *session, const void *name,
 }
 
 /*
- * Adds a device to a seat, with an interface for each of these capabilities that the seat has too. `id` is what it is
- * called from then on; the ids of its interfaces follow. In the library's own function the name counts where `given`
- * is 1. Writes the device, its name, its type, its interfaces, done: 471 bytes at most.
+ * Adds a device to a seat, with an interface for each of these capabilities that the seat has too, and so for none
+ * that was not negotiated. `id` is what it is called from then on; the ids of its interfaces follow. In the library's
+ * own function the name counts where `given` is 1. Writes the device, its name, its type, its interfaces, done: 471
+ * bytes at most. The device says version 1 where ei_device was not negotiated.
  * Answers BOZTERRUN_BAD_ARGUMENT for a type that is no BOZTERRUN_DEVICE_TYPE_.., the library's function also where
  * `given` is above 1. Refuses BOZTERRUN_BAD_UTF8; BOZTERRUN_NAME_LONG; BOZTERRUN_BAD_CAPABILITIES;
  * BOZTERRUN_UNKNOWN_HANDLE; BOZTERRUN_FULL_DEVICES; BOZTERRUN_IDS_SPENT; BOZTERRUN_SHORT_OUT.

@@ -14,8 +14,8 @@ docs/CALL-SCRIPTS.md:
 
 Every script has to be named in docs/DIFFERENCES.md or docs/DECISIONS.md, and every script that is named there has to exist. With ORACLE, the oracle's folder
 (`./build.sh` in it builds target/release/oracle; Rust is needed, and no network), the oracle has to give the same answers, and with `--source-only` the
-answers `#~`, which it has to give without that too where a script has a seat or interface release (releases.py); and each quotation of DIFFERENCES.md has to
-stand in the crate's files (ORACLE/../docs/src/src) from the line that it is given with.
+answers `#~`, which it has to give without that too where a script has a session that the crate does not decide (releases.py); and each quotation of
+DIFFERENCES.md has to stand in the crate's files (ORACLE/../docs/src/src) from the line that it is given with.
 """
 import os
 import re

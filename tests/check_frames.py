@@ -4,8 +4,8 @@
 usage: check_frames.py ORACLE REFERENCE FIRST LAST [CALLS [REPLAY]]     run at the repository's root, after `rt check replay`
 
 ORACLE and REFERENCE are the folders of the oracle and of the reference (compare_sessions.py, compare_reference.py). For each seed from FIRST to LAST one random
-script of about CALLS calls (400) of each of the oracle's six kinds, without releases, played by both programs, and of each of the reference's kinds that have
-releases, whole reads and a client's bytes, played by replay. In each script the payloads are numbers that no other request has, where they have room for one;
+script of about CALLS calls (400) of each of the oracle's six kinds, as compare_sessions.py has them, played by both programs, and of each of the reference's kinds
+that have releases, whole reads, a client's bytes and interfaces left out of the handshake, played by replay. In each script the payloads are numbers that no other request has, where they have room for one;
 those of a client's bytes stay as they are. Of a script three beginnings, each with its session begun, are played too, since the property is to hold
 after every call.
 
@@ -29,6 +29,7 @@ import subprocess
 import sys
 
 import compare_reference
+import negotiation
 import releases
 
 BASE = ["mixed", "limits", "touch", "text", "removal", "frames"]
@@ -356,10 +357,12 @@ def main():
     for seed in range(first, last + 1):
         for kind in BASE + ADDED:
             base = kind in BASE
-            words = [f"{oracle}/gen.py", str(seed), count, "--profile", kind] if base else \
-                [f"{reference}/gen02.py", str(seed), count, "--profile", kind, "--requests", compare_reference.LANDED]
-            script = subprocess.run([sys.executable, *words], env=env, capture_output=True, check=True).stdout.decode()
-            lines = numbered(releases.without(script) if base else script)
+            if base:
+                script = releases.without(negotiation.script(oracle, seed, count, "--profile", kind))
+            else:
+                words = [f"{reference}/gen02.py", str(seed), count, "--profile", kind, "--requests", compare_reference.LANDED]
+                script = subprocess.run([sys.executable, *words], env=env, capture_output=True, check=True).stdout.decode()
+            lines = numbered(script)
             rng = random.Random(f"{seed}/{kind}")
             running = next(i for i, line in enumerate(lines) if line.startswith("add_seat "))
             ends = [len(lines)] + [rng.randrange(running, len(lines)) + 1 for _ in range(BEGINNINGS)]

@@ -1,11 +1,11 @@
 #!/usr/bin/env python3
-"""Holds a program to the oracle's cases and to the scripts of tests/released.
+"""Holds a program to the oracle's cases and to the scripts of tests/released and of tests/negotiated.
 
 usage: compare_cases.py ORACLE [PROGRAM [ARG ...]]     run at the repository's root, after `rt check replay`
 
 ORACLE is the oracle's folder (cases/ in it; `./build.sh` there builds target/release/oracle; Rust is needed, and no network). PROGRAM, target/bin/replay
-where none is named, gets each script on standard input. Its trail has to be the oracle's, and from the first seat or interface release of a session on what
-the script has by hand; the oracle's cases with a release are left out (releases.py).
+where none is named, gets each script on standard input. Its trail has to be the oracle's, and what the script has by hand from the first seat or interface
+release of a session on, or the first seat that is given what was not negotiated; the oracle's cases with one of these are left out (releases.py).
 """
 import subprocess
 import sys

@@ -27,6 +27,8 @@ import struct
 import subprocess
 import sys
 
+import compare_reference
+
 FIRST = 0xFF00000000000000
 IDS = 64                                # the oracle's parser knows so many ids of a server
 HEADER = struct.Struct("<QII")
@@ -47,7 +49,7 @@ class Script:
 
     def __init__(self, seed, reference):
         self.r = random.Random(f"messages/{seed}")
-        self.reference, self.runner = reference, reference.Runner({1, 2, 3})
+        self.reference, self.runner = reference, reference.Runner(reference.read_requests(compare_reference.LANDED))
         self.lines, self.trail, self.of = [], [], []      # of: the line of each answer
         self.messages = 0
         self.begin()
@@ -139,10 +141,11 @@ class Script:
                 return
             self.emit("out 4096")
             room = self.runner.state.next_id + 9 <= FIRST + IDS
-            if not room or FIRST not in self.live():
+            made = interface <= 5 or interface in self.runner.state.negotiated      # else none is made in this session
+            if not room or not made or FIRST not in self.live():
                 self.emit(f"start {self.r.getrandbits(32)}")
                 continue
-            wide = [ident for ident, seat in self.runner.state.seats.items() if seat.capabilities == 127]
+            wide = [ident for ident, seat in self.runner.state.seats.items() if seat.capabilities == self.runner.state.negotiated_mask()]
             if not wide:
                 if len(self.runner.state.seats) == 4:
                     self.emit(f"remove_seat {min(self.runner.state.seats):#x}")

@@ -5,16 +5,17 @@ usage: compare_reference.py REFERENCE FIRST LAST [CALLS [REPLAY]]     run at the
 
 REFERENCE is the reference's folder (check.py, against.py and what they need in it; Python alone is needed). Two things are compared, with the requests that
 have landed: its cases, whose lines are by hand, those that other requests are required for left out; and for each seed from FIRST to LAST one random script
-of about CALLS calls (400) of each of three kinds, which have seat and interface releases in them, whole reads, and a client's bytes with events written as
-messages and read back. REPLAY is the program (target/bin/replay), which gets each script on standard input. What differs is printed with its call, and the last line has the counts.
+of about CALLS calls (400) of each of four kinds, which have seat and interface releases in them, whole reads, a client's bytes with events written as messages
+and read back, and handshakes that leave many interfaces out, with seats that are given them all the same. REPLAY is the program (target/bin/replay), which gets
+each script on standard input. What differs is printed with its call, and the last line has the counts.
 """
 import os
 import subprocess
 import sys
 
 # The change requests that have landed, and the kinds of random scripts that try what they have changed.
-LANDED = "1-5,10"
-PROFILES = ["release", "read", "messages"]
+LANDED = "1-6,10"
+PROFILES = ["release", "read", "messages", "versions"]
 
 
 def main():

@@ -4,15 +4,15 @@
 usage: compare_sessions.py ORACLE FIRST LAST [CALLS [REPLAY]]     run at the repository's root, after `rt check replay`
 
 ORACLE is the oracle's folder (gen.py in it; `./build.sh` there builds target/release/oracle; Rust is needed, and no network). For each seed from FIRST to
-LAST, one script of about CALLS calls (400) for each of gen.py's six profiles, without its seat and interface releases (releases.py). Trails are compared line
-by line; the first line that differs of each script is printed with its call. What the answers were is counted, so that it can be seen what the scripts reached.
-gen.py goes through sets, so its scripts are the same at each run only with PYTHONHASHSEED=0, which is set here.
+LAST, one script of about CALLS calls (400) for each of gen.py's six profiles, with seats that are given negotiated capabilities alone (negotiation.py) and
+without its seat and interface releases (releases.py). Trails are compared line by line; the first line that differs of each script is printed with its call.
+What the answers were is counted, so that it can be seen what the scripts reached.
 """
 import collections
-import os
 import subprocess
 import sys
 
+import negotiation
 import releases
 
 PROFILES = ["mixed", "limits", "touch", "text", "removal", "frames"]
@@ -24,13 +24,11 @@ def main():
     oracle, first, last = sys.argv[1], int(sys.argv[2]), int(sys.argv[3])
     count = sys.argv[4] if len(sys.argv) > 4 else "400"
     replay = sys.argv[5] if len(sys.argv) > 5 else "target/bin/replay"
-    env = dict(os.environ, PYTHONHASHSEED="0")
     answers = collections.Counter()
     scripts = calls = different = 0
     for seed in range(first, last + 1):
         for profile in PROFILES:
-            made = subprocess.run([f"{oracle}/gen.py", str(seed), count, "--profile", profile], env=env, capture_output=True, check=True)
-            script = releases.without(made.stdout.decode())
+            script = releases.without(negotiation.script(oracle, seed, count, "--profile", profile))
             theirs = subprocess.run([f"{oracle}/target/release/oracle"], input=script.encode(), capture_output=True)
             ours = subprocess.run([replay], input=script.encode(), capture_output=True)
             if theirs.returncode:

@@ -159,7 +159,9 @@ impl Connection {
         self.session.interface_version(name)
     }
 
-    /// Adds a seat with these capabilities.
+    /// Adds a seat with those of these capabilities whose interfaces were negotiated: they are announced to the client,
+    /// and Bind or RequestDevice of any other is [`Refusal::InvalidCapabilities`]. Where `ei_seat` itself was not
+    /// negotiated, the seat says version 1.
     ///
     /// # Errors
     ///
@@ -192,7 +194,8 @@ impl Connection {
         answer(status, out, count).map(|events| (Seat(id), events))
     }
 
-    /// Adds a device to a seat, with an interface for each capability that the seat has too.
+    /// Adds a device to a seat, with an interface for each capability that the seat has too: for none that was not
+    /// negotiated. Where `ei_device` itself was not, the device says version 1.
     ///
     /// # Errors
     ///
@@ -512,9 +515,9 @@ impl Connection {
         }
         let lower = self.session.made_with(device) & (capability.bits() - 1);
         let id = device.id().wrapping_add(1 + u64::from(lower.count_ones()));
-        // An interface with no negotiated version gets version 1.
+        // A device has an interface only where a version was negotiated for it, and with that version.
         let version = self.interface_version(capability.interface().name().as_bytes())?;
-        Ok(Some(Object::new(id, version.unwrap_or(1))))
+        Ok(version.map(|version| Object::new(id, version)))
     }
 
     /// The session's memory, for tests that look at it or write to it.

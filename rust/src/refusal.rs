@@ -30,7 +30,7 @@ pub enum Refusal {
         /// The version that the request had.
         version: u32,
     },
-    /// 3: Bind or RequestDevice with a capability that the seat does not have.
+    /// 3: Bind or RequestDevice with a capability that the seat does not have: not given to it, or not negotiated.
     InvalidCapabilities,
     /// 4: a touch goes down while 16 are held.
     TooManyTouches,

@@ -524,13 +524,8 @@ fn the_originals_messages_are_these() {
     let mut sent = 0;
     let profiles = ["mixed", "text", "removal", "frames"];
     for (seed, profile) in (1..=3).flat_map(|seed| profiles.map(|profile| (seed, profile))) {
-        let mut generator = Command::new(oracle.join("gen.py"));
-        generator
-            .args([&format!("{seed}"), "400", "--profile", profile])
-            .env("PYTHONHASHSEED", "0");
-        let script = generator.output().expect("it can be run").stdout;
-        let script = String::from_utf8(script).expect("a script is ASCII");
-        fs::write(&path, releases::without_releases(&script)).expect("it can be written");
+        let script = releases::random_script(&oracle, seed, profile);
+        fs::write(&path, script).expect("it can be written");
         let mut program = Command::new(oracle.join("target/release/oracle"));
         let told = program.arg("--wire").arg(&path).output().expect("it can be run");
         assert!(told.status.success(), "seed {seed}, {profile}");
