@@ -362,10 +362,10 @@ release-fine {v} k id =
     record { events = more (on-has 0 (Maker.interface b (some-found e)) (served b (index-small k) .has) refl) nil; edits = refl }
 
 -- a seat with a set of known capabilities
-seat-fine : {v : View} (name : Option (List ℕ)) (given set ver : ℕ) → Proper name → small (bitsOf set) ≡ true →
+seatPlan-fine : {v : View} (name : Option (List ℕ)) (given set ver : ℕ) → Proper name → small (bitsOf set) ≡ true →
     Fine v (Call.plain (Plain.addSeat name given)) (seatPlan (v .connection .nextId) set (seatEvents (v .connection) (v .connection .nextId) ver name set))
 unfolding every addsKnown kindOf layout sendable
-seat-fine {v} name given set ver p few =
+seatPlan-fine {v} name given set ver p few =
     let announced = capabilities-have Maker.newSeat (bitsOf set) few in
     let done = more (on-has 3 Maker.newSeat refl refl) nil in
     record {
@@ -380,7 +380,7 @@ cut-known m caps l = bits-small 7 (common caps m) (omega (arith, common-le caps 
 newSeat-fine : {v : View} (name : Option (List ℕ)) (caps : ℕ) → Proper name → caps < 2 ^ 7 → Fine v (Call.plain (Plain.addSeat name caps)) (seatAdded v name caps)
 newSeat-fine {v} name caps p l =
     let m = negotiatedCapabilities (v .connection) in
-    seat-fine name caps (common caps m) (seatVersion (v .connection)) p (cut-known m caps l)
+    seatPlan-fine name caps (common caps m) (seatVersion (v .connection)) p (cut-known m caps l)
 
 type-fits : (t : DeviceType) → sendable (Event.DeviceType (deviceTypeNumber t)) [] ≡ true
 unfolding sendable
@@ -388,12 +388,12 @@ type-fits DeviceType.Virtual = refl
 type-fits DeviceType.Physical = refl
 
 -- a device that is made with known capabilities
-device-fine : {v : View} (seat : ℕ) (s : Seat) (name : Option (List ℕ)) (t : DeviceType) (given made ver : ℕ) → seatOf seat v ≡ some s → Proper name →
+devicePlan-fine : {v : View} (seat : ℕ) (s : Seat) (name : Option (List ℕ)) (t : DeviceType) (given made ver : ℕ) → seatOf seat v ≡ some s → Proper name →
     small (bitsOf made) ≡ true →
     Fine v (Call.plain (Plain.addDevice seat name t given))
     (devicePlan (v .connection .nextId) seat made (deviceEvents (v .connection) seat (v .connection .nextId) ver name (deviceTypeNumber t) made))
 unfolding every addsKnown kindOf layout sendable
-device-fine {v} seat s name t given made ver e p few =
+devicePlan-fine {v} seat s name t given made ver e p few =
     let id = v .connection .nextId in
     let listed = interfaces-have Maker.newDevice (v .connection) (newInterfaces id made) (new-known id made few) in
     let done = more (on-has 6 Maker.newDevice refl refl) nil in
@@ -408,7 +408,29 @@ newDevice-fine {v} seat s name t caps e p l =
     let m = negotiatedCapabilities (v .connection) in
     let shared = common caps (s .capabilities) in
     let few = cut-known m shared (omega (arith, common-le caps (s .capabilities) (omega arith))) in
-    device-fine seat s name t caps (common shared m) (deviceVersion (v .connection)) e p few
+    devicePlan-fine seat s name t caps (common shared m) (deviceVersion (v .connection)) e p few
+
+-- (stated of the checks themselves: with `addSeat` or `addDevice` unfolded, their masks would be computed bit by bit)
+checked-seat-fine : {v : View} (name : Option (List ℕ)) (caps : ℕ) →
+    Fine v (Call.plain (Plain.addSeat name caps)) (checkOptional name (checkCapabilities caps (seatAdded v name caps)))
+checked-seat-fine name caps = checkOptional-fine name λ p. checkCapabilities-fine caps λ l. newSeat-fine name caps p l
+
+addSeat-fine : {v : View} (name : Option (List ℕ)) (caps : ℕ) → Fine v (Call.plain (Plain.addSeat name caps)) (addSeat v name caps)
+unfolding addSeat
+addSeat-fine name caps = checked-seat-fine name caps
+
+checked-device-fine : {v : View} (seat : ℕ) (name : Option (List ℕ)) (t : DeviceType) (caps : ℕ) →
+    Fine v (Call.plain (Plain.addDevice seat name t caps))
+    (checkOptional name
+    (checkCapabilities caps (onFound (seatOf seat v) (refuse 12) λ s. deviceAdded v seat name (deviceTypeNumber t) (common caps (s .capabilities)))))
+checked-device-fine {v} seat name t caps =
+    checkOptional-fine name λ p. checkCapabilities-fine caps λ l.
+    onFound-fine (seatOf seat v) (refuse-fine 12) λ s e. newDevice-fine seat s name t caps e p l
+
+addDevice-fine : {v : View} (seat : ℕ) (name : Option (List ℕ)) (t : DeviceType) (caps : ℕ) →
+    Fine v (Call.plain (Plain.addDevice seat name t caps)) (addDevice v seat name (deviceTypeNumber t) caps)
+unfolding addDevice
+addDevice-fine seat name t caps = checked-device-fine seat name t caps
 
 reason-fits : (r : DisconnectReason) → between 0 5 (disconnectReasonNumber r) ≡ true
 reason-fits DisconnectReason.Disconnected = refl
@@ -441,7 +463,7 @@ removeDevice-fine {v} id h =
     gone-fine (Edit.removeDevice (f .slot) ∷ []) (objects-end (f .device) (found-mem (λ d. eqb (d .id) id) (v .devices) f e) h) refl
 
 plain-fine : (v : View) (now : ℕ) (c : Plain) → known v ≡ true → Fine v (Call.plain c) (decidePlain v now c)
-unfolding decidePlain handleSync handleSyncMessage handleFrame handleSeatRelease addSeat addDevice removeSeat kindOf layout sendable every addsKnown
+unfolding decidePlain handleSync handleSyncMessage handleFrame handleSeatRelease removeSeat kindOf layout sendable every addsKnown
 plain-fine v now (Plain.handshake r) h = handshake-fine r
 plain-fine v now (Plain.sync callback ver) h = cond-fine (eqb ver 1) (λ e. callback-fine callback [] Maker.callback refl) (λ e. answer-fine _)
 plain-fine v now (Plain.syncMessage callback ver) h =
@@ -460,10 +482,8 @@ plain-fine v now (Plain.deviceFrame d s t) h = onFound-fine (deviceOf d v) ignor
 plain-fine v now (Plain.deviceReady d) h = device-fine now d (Untimed.Ready d)
 plain-fine v now (Plain.interfaceRelease cap i) h = release-fine cap i
 plain-fine v now Plain.nextRequest h = next-fine (v .requests)
-plain-fine v now (Plain.addSeat name caps) h = checkOptional-fine name λ p. checkCapabilities-fine caps λ l. newSeat-fine name caps p l
-plain-fine v now (Plain.addDevice seat name type caps) h =
-    checkOptional-fine name λ p. checkCapabilities-fine caps λ l.
-    onFound-fine (seatOf seat v) (refuse-fine 12) λ s e. newDevice-fine seat s name type caps e p l
+plain-fine v now (Plain.addSeat name caps) h = addSeat-fine name caps
+plain-fine v now (Plain.addDevice seat name type caps) h = addDevice-fine seat name type caps
 plain-fine v now (Plain.removeSeat seat) h = onFound-fine (seatOf seat v) (refuse-fine 12) λ s e. seat-gone-fine h seat s e
 plain-fine v now (Plain.removeDevice d) h = removeDevice-fine d h
 plain-fine v now (Plain.resumed d) h = notify-fine d (λ s. Event.Resumed s) (λ k. []) 7 (λ s. refl) (λ s. refl) (λ k. refl)
