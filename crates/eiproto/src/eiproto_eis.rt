@@ -28,7 +28,7 @@ pub const TOUCHSCREEN: u8 = 11;
 
 pub const TEXT: u8 = 12;
 
-#[derive(Drop)]
+#[derive(Clone, Copy)]
 struct Interface {
     name: [u8; 19],
     len: usize,
@@ -105,7 +105,7 @@ const INTERFACES: [Interface; 13] = [
 ];
 
 // What `find` answers: the interface's number, or that no interface has the name.
-#[derive(Drop)]
+#[derive(Clone, Copy)]
 pub enum Found {
     Interface(u8),
     Unknown,

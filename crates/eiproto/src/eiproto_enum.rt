@@ -5,7 +5,7 @@ ghost use Rattle.eiproto.specs.Enum.{context_type_number, context_type_of, disco
 ghost use Rattle.eiproto.specs.Enum.{device_type_number, device_type_of, button_state_number, button_state_of, key_state_number, key_state_of};
 
 // Context types for connections.
-#[derive(Drop)]
+#[derive(Clone, Copy)]
 pub enum ContextType {
     // The ei client receives input events from the eis implementation.
     Receiver,
@@ -13,7 +13,7 @@ pub enum ContextType {
     Sender,
 }
 
-#[derive(Drop)]
+#[derive(Clone, Copy)]
 pub enum ContextTypeOf {
     Case(ContextType),
     InvalidVariant(u32),
@@ -41,7 +41,7 @@ impl ContextType {
 }
 
 // Disconnection reason. A nonzero value describes an error, with the generic value Error reserved as fallback.
-#[derive(Drop)]
+#[derive(Clone, Copy)]
 pub enum DisconnectReason {
     // Client was purposely disconnected.
     Disconnected,
@@ -57,7 +57,7 @@ pub enum DisconnectReason {
     Transport,
 }
 
-#[derive(Drop)]
+#[derive(Clone, Copy)]
 pub enum DisconnectReasonOf {
     Case(DisconnectReason),
     InvalidVariant(u32),
@@ -93,7 +93,7 @@ impl DisconnectReason {
 }
 
 // Device type.
-#[derive(Drop)]
+#[derive(Clone, Copy)]
 pub enum DeviceType {
     // A virtual device.
     Virtual,
@@ -101,7 +101,7 @@ pub enum DeviceType {
     Physical,
 }
 
-#[derive(Drop)]
+#[derive(Clone, Copy)]
 pub enum DeviceTypeOf {
     Case(DeviceType),
     InvalidVariant(u32),
@@ -129,7 +129,7 @@ impl DeviceType {
 }
 
 // The logical state of a button.
-#[derive(Drop)]
+#[derive(Clone, Copy)]
 pub enum ButtonState {
     // The button is logically up.
     Released,
@@ -137,7 +137,7 @@ pub enum ButtonState {
     Press,
 }
 
-#[derive(Drop)]
+#[derive(Clone, Copy)]
 pub enum ButtonStateOf {
     Case(ButtonState),
     InvalidVariant(u32),
@@ -165,7 +165,7 @@ impl ButtonState {
 }
 
 // The logical state of a key.
-#[derive(Drop)]
+#[derive(Clone, Copy)]
 pub enum KeyState {
     // The key is logically up.
     Released,
@@ -173,7 +173,7 @@ pub enum KeyState {
     Press,
 }
 
-#[derive(Drop)]
+#[derive(Clone, Copy)]
 pub enum KeyStateOf {
     Case(KeyState),
     InvalidVariant(u32),

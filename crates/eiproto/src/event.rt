@@ -5,7 +5,7 @@ ghost use Rattle.eiproto.specs.Capability.{capability_index, capability_mask, ca
 
 use crate::eiproto_eis;
 
-#[derive(Drop)]
+#[derive(Clone, Copy)]
 pub enum DeviceCapability {
     // Capability for relative pointer motion.
     Pointer,
@@ -23,7 +23,7 @@ pub enum DeviceCapability {
     Text,
 }
 
-#[derive(Drop)]
+#[derive(Clone, Copy)]
 pub enum DeviceCapabilityOf {
     Case(DeviceCapability),
     Unknown,

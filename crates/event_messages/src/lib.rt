@@ -1,4 +1,6 @@
 // The protocol's messages of events (src/eiproto_eis.rs): which kinds an interface has, by opcode, and what a kind's values are. Writer and reader go by it.
+#![tactic(auto)]
+
 ghost use Rattle.std.specs.Prelude.{◌+◌, ◌≤◌, ◌<◌, ◌||◌, ◌≡◌, eqb};
 ghost use Rattle.event_messages.specs.Opcode.{HasOpcode};
 ghost use Rattle.event_messages.specs.Shape.{shape_of, width, has_text, textual, fixed_size, explains, allowed, allowed_all};
@@ -11,14 +13,14 @@ pub const EVENT_MESSAGE_LENGTH: usize = 284;
 pub const EVENT_RECORD_LENGTH: usize = 273;
 
 // Why a record is not written as a message, or a message not read as a record.
-#[derive(Drop)]
+#[derive(Clone, Copy)]
 pub enum MessageError {
     Unsendable,
     Malformed,
     ShortOut,
 }
 
-#[derive(Drop)]
+#[derive(Clone, Copy)]
 pub enum Written {
     Bytes(usize),
     Refused(MessageError),
@@ -58,7 +60,7 @@ pub fn kind_at(interface: u32, opcode: u32) -> u8
     KINDS[(interface * OPCODES + opcode) as usize]
 }
 
-#[derive(Drop)]
+#[derive(Clone, Copy)]
 pub enum Opcode {
     Number(u32),
     Lacking,
@@ -83,7 +85,7 @@ pub fn opcode_of(interface: u32, kind: u8) -> Opcode
 
 // What a value is. In a record an interface is a number of one byte, in a message a name; a text is the rest of a record, behind a byte for
 // whether there is one where it is an explanation, and in a message a string or none.
-#[derive(Drop)]
+#[derive(Clone, Copy)]
 pub enum Argument {
     None,
     Uint32,
@@ -96,7 +98,7 @@ pub enum Argument {
 }
 
 // A kind's values in the record's order. Where they are swapped, the second comes first in a message.
-#[derive(Drop)]
+#[derive(Clone, Copy)]
 pub struct Shape {
     pub first: Argument,
     pub second: Argument,
@@ -104,7 +106,7 @@ pub struct Shape {
     pub swapped: bool,
 }
 
-#[derive(Drop)]
+#[derive(Clone, Copy)]
 pub struct Values {
     pub first: u64,
     pub second: u64,

@@ -1,5 +1,7 @@
 // Event records read back from the protocol's messages, for a station's test client.
 // Values are read leniently, and taken only where the writer makes the same message of them.
+#![tactic(auto)]
+
 ghost use Rattle.std.specs.Prelude.{◌+◌, ◌≤◌, ◌<◌, true, ◌≡◌, length};
 ghost use Rattle.event_messages.specs.Shape.{shape_of};
 ghost use Rattle.event_messages.specs.Stands.{Stands, Turned};
@@ -35,7 +37,7 @@ fn double_at(message: &[u8], at: usize) -> u64
 }
 
 // A part of a message.
-#[derive(Drop)]
+#[derive(Clone, Copy)]
 struct Part {
     start: usize,
     length: usize,
@@ -81,7 +83,7 @@ fn name_at(message: &[u8], part: Part) -> u64
 }
 
 // How far a message is read: the next value's place, the value before it, and the text's part.
-#[derive(Drop)]
+#[derive(Clone, Copy)]
 struct Progress {
     at: usize,
     value: u64,
@@ -176,7 +178,7 @@ fn read_argument(argument: Argument, message: &[u8], p: Progress) -> Progress
 }
 
 // The values in the record's order, and the text's part of the message.
-#[derive(Drop)]
+#[derive(Clone, Copy)]
 struct Read {
     first: u64,
     second: u64,

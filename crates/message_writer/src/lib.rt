@@ -1,4 +1,6 @@
 // Event records written as the protocol's messages (the methods of src/eiproto_eis.rs that send events).
+#![tactic(auto)]
+
 ghost use Rattle.std.specs.Prelude.{◌+◌, ◌≤◌, ◌<◌, true, ◌≡◌, length, take};
 ghost use Rattle.eiproto.specs.Interface.{interface_name};
 ghost use Rattle.wire.specs.Put.{Wrote};

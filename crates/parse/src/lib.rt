@@ -1,4 +1,6 @@
 // A client's message, whole, on an object whose interface is known: its request and its arguments (the `parse` functions of src/eiproto_eis.rs).
+#![tactic(auto)]
+
 ghost use Rattle.std.specs.Prelude.{◌≡◌, ◌+◌, ◌≤◌, leb, length};
 ghost use Rattle.std.specs.Float.{binary32};
 ghost use Rattle.std.specs.Float.Ieee.{of_bits};
@@ -16,7 +18,7 @@ pub const HEADER_LENGTH: usize = 16;
 pub const MESSAGE_LENGTH_LIMIT: usize = 1024;
 
 // What an argument is. A signed number is read as its 32 bits, and a new object's id as a number.
-#[derive(Drop)]
+#[derive(Clone, Copy)]
 pub enum Argument {
     None,
     Uint32,
@@ -28,7 +30,7 @@ pub enum Argument {
 }
 
 // A request's number and its arguments: no request has more than three.
-#[derive(Drop)]
+#[derive(Clone, Copy)]
 pub struct Signature {
     pub request: u64,
     pub first: Argument,
@@ -36,14 +38,14 @@ pub struct Signature {
     pub third: Argument,
 }
 
-#[derive(Drop)]
+#[derive(Clone, Copy)]
 pub enum Found {
     Request(Signature),
     InvalidOpcode,
 }
 
 // A request's arguments as they are read: whole numbers in their order, a text's part of the message, and reals in their order.
-#[derive(Drop)]
+#[derive(Clone, Copy)]
 pub struct Arguments {
     pub request: u64,
     pub first: u64,
@@ -56,7 +58,7 @@ pub struct Arguments {
 }
 
 // How far a message is read: the next argument's place, how many whole numbers and reals were read, and what was read.
-#[derive(Drop)]
+#[derive(Clone, Copy)]
 pub struct Progress {
     pub at: usize,
     pub numbers: u64,
@@ -64,20 +66,20 @@ pub struct Progress {
     pub read: Arguments,
 }
 
-#[derive(Drop)]
+#[derive(Clone, Copy)]
 pub enum Walk {
     Malformed(ParseError),
     Reading(Progress),
 }
 
-#[derive(Drop)]
+#[derive(Clone, Copy)]
 pub enum Parsed {
     Malformed(ParseError),
     Read(Arguments),
 }
 
 // What the first message of some bytes is: not yet whole, malformed, or its request's arguments and how many bytes it has.
-#[derive(Drop)]
+#[derive(Clone, Copy)]
 pub enum First {
     Wait,
     Malformed(ParseError),

@@ -7,7 +7,7 @@ use crate::request::EisRequest;
 use eiproto::eiproto_enum::{ButtonState, KeyState};
 
 // A request's numbers, by value.
-#[derive(Drop)]
+#[derive(Clone, Copy)]
 pub struct Cell {
     // The request's place in the enum.
     pub kind: u64,

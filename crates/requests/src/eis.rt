@@ -2,7 +2,7 @@
 // of Name, of InterfaceVersion and of Utf8.
 use eiproto::eiproto_enum::{ButtonState, KeyState};
 
-#[derive(Drop)]
+#[derive(Clone, Copy)]
 pub enum HandshakeRequest {
     HandshakeVersion { version: u32 },
     Finish,
@@ -11,21 +11,21 @@ pub enum HandshakeRequest {
     InterfaceVersion { version: u32 },
 }
 
-#[derive(Drop)]
+#[derive(Clone, Copy)]
 pub enum ConnectionRequest {
     // The new callback's id, and its version.
     Sync { callback: u64, version: u32 },
     Disconnect,
 }
 
-#[derive(Drop)]
+#[derive(Clone, Copy)]
 pub enum SeatRequest {
     Release,
     Bind { capabilities: u64 },
     RequestDevice { capabilities: u64 },
 }
 
-#[derive(Drop)]
+#[derive(Clone, Copy)]
 pub enum DeviceRequest {
     Release,
     StartEmulating { last_serial: u32, sequence: u32 },
@@ -34,19 +34,19 @@ pub enum DeviceRequest {
     Ready,
 }
 
-#[derive(Drop)]
+#[derive(Clone, Copy)]
 pub enum PointerRequest {
     Release,
     MotionRelative { x: f32, y: f32 },
 }
 
-#[derive(Drop)]
+#[derive(Clone, Copy)]
 pub enum PointerAbsoluteRequest {
     Release,
     MotionAbsolute { x: f32, y: f32 },
 }
 
-#[derive(Drop)]
+#[derive(Clone, Copy)]
 pub enum ScrollRequest {
     Release,
     Scroll { x: f32, y: f32 },
@@ -54,19 +54,19 @@ pub enum ScrollRequest {
     ScrollStop { x: u32, y: u32, is_cancel: u32 },
 }
 
-#[derive(Drop)]
+#[derive(Clone, Copy)]
 pub enum ButtonRequest {
     Release,
     Button { button: u32, state: ButtonState },
 }
 
-#[derive(Drop)]
+#[derive(Clone, Copy)]
 pub enum KeyboardRequest {
     Release,
     Key { key: u32, state: KeyState },
 }
 
-#[derive(Drop)]
+#[derive(Clone, Copy)]
 pub enum TouchscreenRequest {
     Release,
     Down { touchid: u32, x: f32, y: f32 },
@@ -75,7 +75,7 @@ pub enum TouchscreenRequest {
     Cancel { touchid: u32 },
 }
 
-#[derive(Drop)]
+#[derive(Clone, Copy)]
 pub enum TextRequest {
     Release,
     Keysym { keysym: u32, state: KeyState },
@@ -83,7 +83,7 @@ pub enum TextRequest {
 }
 
 // A request on an interface of a device.
-#[derive(Drop)]
+#[derive(Clone, Copy)]
 pub enum InterfaceRequest {
     Pointer(PointerRequest),
     PointerAbsolute(PointerAbsoluteRequest),
@@ -94,7 +94,7 @@ pub enum InterfaceRequest {
     Text(TextRequest),
 }
 
-#[derive(Drop)]
+#[derive(Clone, Copy)]
 pub enum Request {
     Handshake(HandshakeRequest),
     Connection(ConnectionRequest),

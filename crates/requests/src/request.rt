@@ -5,7 +5,7 @@ ghost use Rattle.requests.specs.Request.{text_length, device_of};
 
 use eiproto::eiproto_enum::{ButtonState, KeyState};
 
-#[derive(Drop)]
+#[derive(Clone, Copy)]
 pub enum EisRequest {
     Disconnect,
     Bind {
@@ -122,7 +122,7 @@ pub enum EisRequest {
 }
 
 // The device of a request, if it has one.
-#[derive(Drop)]
+#[derive(Clone, Copy)]
 pub enum DeviceOf {
     Some(u64),
     None,

@@ -2,6 +2,8 @@
 //
 // Each change comes twice: as a function of the record's value (`inserted`, `removed`, `cleared`), and, under the source's names
 // (`insert`, `remove`, `clear`), of a record that is lent and changed where it is.
+#![tactic(auto)]
+
 pub mod kept;
 
 ghost use Rattle.std.specs.Prelude.{◌≡◌, [], length};
@@ -13,28 +15,28 @@ pub const EIS_MAX_TOUCHES: usize = 16;
 
 // The first `count` ids are held, in the order in which they went down; what the places behind them hold means nothing. A count above
 // sixteen, which no function here makes, counts as sixteen: nothing is inserted, and what is removed leaves fifteen.
-#[derive(Drop)]
+#[derive(Clone, Copy)]
 pub struct DownTouchIds {
     pub ids: [u32; EIS_MAX_TOUCHES],
     pub count: usize,
 }
 
 // How a Down ends, with the source's names for its two errors.
-#[derive(Drop)]
+#[derive(Clone, Copy)]
 pub enum DownAnswer {
     Inserted,
     TooManyTouches,
     DuplicatedTouchDown,
 }
 
-#[derive(Drop)]
+#[derive(Clone, Copy)]
 pub struct Insertion {
     pub touches: DownTouchIds,
     pub answer: DownAnswer,
 }
 
 // The answer: whether the id was held.
-#[derive(Drop)]
+#[derive(Clone, Copy)]
 pub struct Removal {
     pub touches: DownTouchIds,
     pub answer: bool,

@@ -92,6 +92,7 @@ begun ((r ∷ ts) ∷ rule) x rs e = step (within r x) refl (λ h. begun rule x 
 
 -- what a computed test says of a whole table, it says of each entry
 at_each : {A B : Type 0} (f g : A → B) (l : List A) {a : A} → map f l ≡ map g l → Memᴰ a l → f a ≡ g a
+at_each {A = A} {B = B} f g [] {a = a} e m = elim m [ ]
 at_each f g (x ∷ l) e (Memᴰ.head h) = cc
 at_each f g (x ∷ l) e (Memᴰ.tail m) = at_each f g l (cc) m
 

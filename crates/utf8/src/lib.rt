@@ -1,10 +1,12 @@
 // UTF-8, as RFC 3629 defines it.
+#![tactic(auto)]
+
 ghost use Rattle.std.specs.Prelude.{◌≡◌, ℕ, ◌+◌, ◌≤◌, ◌<◌, length, get_or, drop};
 ghost use Rattle.utf8.specs.Rfc3629.{utf8_char, after, is_utf8};
 ghost use Rattle.utf8.specs.Lead.{asked, begins};
 
 // What a character's first octet says of those that follow it.
-#[derive(Drop)]
+#[derive(Clone, Copy)]
 enum Lead {
     // There are none.
     Alone,

@@ -9,7 +9,7 @@ pub const FIRST_SERVER_ID: u64 = 0xff00_0000_0000_0000;
 pub const HANDSHAKE_ID: u64 = 0;
 
 // The next id after some were given, or that there are not so many left.
-#[derive(Drop)]
+#[derive(Clone, Copy)]
 pub enum NewObjects {
     NextId(u64),
     Spent,

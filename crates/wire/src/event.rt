@@ -6,7 +6,7 @@ ghost use Rattle.wire.specs.Fields.{Laid, numbers, size, start};
 ghost use Rattle.wire.specs.Put.{PutWhole, Wrote};
 
 // The 18 kinds by value. The text of a name and of an explanation is lent beside the event.
-#[derive(Drop)]
+#[derive(Clone, Copy)]
 pub enum Event {
     Seat {
         id: u64,
@@ -73,7 +73,7 @@ pub enum Event {
 }
 
 // An event's record behind the object id: at most three numbers, each in so many bytes (0: no such number), then a text or none.
-#[derive(Drop)]
+#[derive(Clone, Copy)]
 pub struct Fields {
     pub kind: u64,
     pub n1: usize,

@@ -1,9 +1,11 @@
 // What a server sends: object ids as src/wire/backend.rs of reis gives them, and event records as docs/REFERENCE.md lays them out.
+#![tactic(auto)]
+
 pub mod backend;
 pub mod event;
 
 // What is wrong with a message (`ParseError` of src/wire/mod.rs). An interface is told by its number, and InvalidId is an answer of its own.
-#[derive(Drop)]
+#[derive(Clone, Copy)]
 pub enum ParseError {
     // End of message while parsing argument.
     EndOfMessage,

@@ -1,0 +1,11 @@
+-- Each arm's number is that of its value; the last arm's is none of them. Assumes nothing.
+use Rattle.eiproto.specs.declared.eiproto_enum.KeyStateOf.{KeyStateOf}
+use Rattle.eiproto.specs.Enum.{key_state_number, key_states}
+use Rattle.eiproto.proofs.Variant.{unparsed}
+use Rattle.eiproto.proofs.eiproto_enum.KeyState.parse.Goals as goal
+
+pub returns-in-0 : goal.returns-in-0
+returns-in-0 c = rw c.in-0.is
+
+pub returns-in-1 : goal.returns-in-1
+returns-in-1 c = rw c.in-1.is

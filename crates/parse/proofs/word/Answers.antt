@@ -1,0 +1,33 @@
+-- There is room for four bytes. Assumes nothing.
+use Prim.Native.Nat.{◌+◌}
+use mathlib.Core.Path.{ap, ◌∙◌}
+use native.Mathlib.Omega.{arith}
+use borrow.Author.Rules.{rules}
+use Rattle.parse.specs.declared.Walk.{Walk}
+use Rattle.parse.specs.Parse.{with_number, word_read}
+use Rattle.parse.proofs.Steps.{short, enough, room}
+use Rattle.std.proofs.lemmas.Bool.{not_from_false, not_from_true}
+use Rattle.parse.proofs.word.Goals as goal
+
+pub returns-then-not-has : goal.returns-then-not-has
+unfolding word_read
+returns-then-not-has c =
+    let a = c.args in
+    short a.message.now a.p.at 4 c.has.ensures _ (not_from_false _ c.if-not-has.true)
+
+pub overflow_add-at : goal.overflow_add-at
+overflow_add-at c =
+    let a = c.args in
+    let h = room a.message.now a.p.at 4 c.has.ensures (not_from_true _ c.if-not-has.false) in
+    omega arith
+
+pub number32-requires : goal.number32-requires
+number32-requires c =
+    let a = c.args in room a.message.now a.p.at 4 c.has.ensures (not_from_true _ c.if-not-has.false)
+
+pub returns : goal.returns
+unfolding word_read
+returns c =
+    let a = c.args in
+    enough a.message.now a.p.at 4 c.has.ensures (not_from_true _ c.if-not-has.false)
+    (ap Walk.Reading (c.with_number.ensures ∙ ap (with_number a.p (a.p.at + 4)) c.number32.ensures))

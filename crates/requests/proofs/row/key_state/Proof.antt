@@ -1,7 +1,0 @@
--- The test of the code is the definition's. Assumes nothing.
-use borrow.Author.Tests.{eq-eqb, ne_eqb}
-use Rattle.requests.proofs.row.key_state.Statement.{statement}
-use Rattle.requests.proofs.row.key_state.Tie as tie
-
-pub key_state_spec : {M : Type 1} → statement M
-key_state_spec = tie.close (tie.spec (λ c. rw (eq-eqb _ _ c.if1.true)) (λ c. rw (ne_eqb _ _ c.if1.false)))
