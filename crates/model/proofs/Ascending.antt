@@ -33,7 +33,7 @@ joined (next h b) c = next h (joined b c)
 
 pub left_out : {low high : ℕ} {xs ys : List ℕ} → Sublistᴰ xs ys → Between low ys high → Between low xs high
 left_out Sublistᴰ.slnil b = b
-left_out (Sublistᴰ.cons s) (next h b) = lower (omega arith) (left_out s b)
+left_out {low = low} {high = high} (Sublistᴰ.cons {a = a} s) (next h b) = lower (omega arith) (left_out {low = a + 1} s b)
 left_out (Sublistᴰ.cons-cons e s) (next h b) = rw e (next h (left_out s b))
 
 pub ascends : {low high : ℕ} {xs : List ℕ} → Between low xs high → ascends_from low xs ≡ true

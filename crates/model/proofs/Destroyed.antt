@@ -111,12 +111,12 @@ all_still (e ∷ es) = still e && all_still es
 none-without : {low high : ℕ} (cap : ℕ) (is : List Interface) → cap < low → Between low (bits_in is) high → interfaces_without cap is ≡ is
 unfolding interfaces_without
 none-without cap [] l b = refl
-none-without cap (i ∷ is) l (next k b) = rw (ne_eqb i.capability cap (λ e. omega arith), none-without cap is (omega arith) b)
+none-without {low = low} {high = high} cap (i ∷ is) l (next k b) = rw (ne_eqb i.capability cap (λ e. omega arith), none-without {low = i.capability + 1} cap is (omega arith) b)
 
 none-listed : {low high : ℕ} (cap id : ℕ) (is : List Interface) → cap < low → Between low (bits_in is) high → lists_as cap id is ≡ false
 unfolding lists_as
 none-listed cap id [] l b = refl
-none-listed cap id (i ∷ is) l (next k b) = rw (ne_eqb i.capability cap (λ e. omega arith)) (none-listed cap id is (omega arith) b)
+none-listed {low = low} {high = high} cap id (i ∷ is) l (next k b) = rw (ne_eqb i.capability cap (λ e. omega arith)) (none-listed {low = i.capability + 1} cap id is (omega arith) b)
 
 found_here : (here later : Bool) → later ≡ false → here || later ≡ true → here ≡ true
 found_here true later q e = refl
@@ -141,7 +141,7 @@ module _ (x : ℕ) where
       count_of x (ids_of is) ≡ count_of x (id ∷ []) + count_of x (ids_of (interfaces_without cap is))
   unfolding lists_as interfaces_without count_of
   unlisted-ids cap id [] b e = absurd (false≢true e)
-  unlisted-ids cap id (i ∷ is) (next l b) e = go (eqb i.capability cap) refl e (λ q. unlisted-ids cap id is b q)
+  unlisted-ids {low = low} {high = high} cap id (i ∷ is) (next l b) e = go (eqb i.capability cap) refl e (λ q. unlisted-ids {low = i.capability + 1} cap id is b q)
     where
       go : (t : Bool) → eqb i.capability cap ≡ t → (t && eqb i.id id) || lists_as cap id is ≡ true →
           (lists_as cap id is ≡ true → count_of x (ids_of is) ≡ count_of x (id ∷ []) + count_of x (ids_of (interfaces_without cap is))) →
@@ -252,19 +252,19 @@ module _ {P : Type 0} (x : ℕ) where
       seats_objects ss (map (map_device blank) (without_seat seat ds)) ≡ seats_objects ss (map (map_device blank) ds)
   unfolding seats_objects seat_objects
   seats_stay seat [] ds l b = refl
-  seats_stay seat (s ∷ ss) ds l (next k b) =
-      rw (others_stay seat s.id ds (λ e. omega arith), seats_stay seat ss ds (omega arith) b)
+  seats_stay {low = low} {high = high} seat (s ∷ ss) ds l (next k b) =
+      rw (others_stay seat s.id ds (λ e. omega arith), seats_stay {low = s.id + 1} seat ss ds (omega arith) b)
 
   -- every seat with its devices
   all_taken : {low high : ℕ} (ss : List Seat) (p : P) (s : Session P) → s.connection.seats ≡ ss → Between low (map (λ t. t.id) ss) high →
       alive s ≡ count_of x (seats_objects ss (map (map_device blank) s.devices)) + alive (enact_all (remove_seats ss) p s)
   unfolding alive seat_ids seats_objects seat_objects remove_seats enact_all enact seats_without count_of
   all_taken [] p s e b = omega arith
-  all_taken (t ∷ ss) p s e (next l b) =
+  all_taken {low = low} {high = high} (t ∷ ss) p s e (next l b) =
       let ds = map (map_device blank) s.devices in
       let s' = enact (Edit.remove_seat t.id) p (enact (Edit.remove_devices_of t.id) p s) in
       let seats : s'.connection.seats ≡ ss = ap (seats_without t.id) e ∙ ap (λ q. cond q ss (t ∷ seats_without t.id ss)) (eq-eqb t.id t.id refl) in
-      let h = all_taken ss p s' seats b in
+      let h = all_taken {low = t.id + 1} ss p s' seats b in
       let same = seats_stay t.id ss s.devices (omega arith) b in
       let ids : seat_ids s ≡ t.id ∷ map (λ y. y.id) ss = ap (map (λ y. y.id)) e in
       let ids' : seat_ids s' ≡ map (λ y. y.id) ss = ap (map (λ y. y.id)) seats in

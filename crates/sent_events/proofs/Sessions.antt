@@ -25,6 +25,7 @@ use Rattle.sent_events.proofs.Plans.{lists_known, new_known, adds_known, Fine, d
 -- ---- members
 
 pub all_mem : {A : Type 0} {Q : A → Type 0} {x : A} {xs : List A} → All Q xs → Memᴰ x xs → Q x
+all_mem {A = A} {Q = Q} nil m = elim m [ ]
 all_mem (more q a) (Memᴰ.head e) = rw e q
 all_mem (more q a) (Memᴰ.tail m) = all_mem a m
 
