@@ -2,7 +2,7 @@
 use Rattle.std.specs.Prelude.{ℕ, List, Float}
 use Rattle.model.specs.Call.{Input, Plain, Call}
 use Rattle.session.specs.View.{store, Lending}
-use Rattle.session.specs.Slices.{Numbers, Reals, before, after, rows_before, rows_after}
+use Rattle.session.specs.Slices.{Numbers, SharedNumbers, Reals, before, after, rows_before, rows_after}
 use Rattle.answers.specs.declared.Answer.{Answer}
 use Rattle.answers.specs.Meets.{Handled, HandledRows, HandledControl, Answered}
 
@@ -14,11 +14,17 @@ Promise c out call a =
     (clock : ℕ) (w : List ℕ) (r : List Float) (t : List ℕ)
     → Answered Lending.control (store c.entry.now w r t) (store c.exit.now w r t) out.entry.now out.exit.now (Call.plain call) clock a
 
--- one that only asks is lent no `out`
-abbrev pub Reply : (control : Numbers) → Plain → Answer → Type 0
+-- one that only asks is lent no `out`, and the control words to be read
+abbrev pub Reply : (control : SharedNumbers) → Plain → Answer → Type 0
 Reply c call a =
     (clock : ℕ) (out w : List ℕ) (r : List Float) (t : List ℕ)
-    → Answered Lending.control (store c.entry.now w r t) (store c.exit.now w r t) out out (Call.plain call) clock a
+    → Answered Lending.control (store c.entry.now w r t) (store c.entry.now w r t) out out (Call.plain call) clock a
+
+-- one that writes events and leaves the control words, which it is lent to read
+abbrev pub PromiseUnchanged : (control : SharedNumbers) (out : Numbers) → Plain → Answer → Type 0
+PromiseUnchanged c out call a =
+    (clock : ℕ) (w : List ℕ) (r : List Float) (t : List ℕ)
+    → Answered Lending.control (store c.entry.now w r t) (store c.entry.now w r t) out.entry.now out.exit.now (Call.plain call) clock a
 
 -- one that takes devices out is lent the rows of requests too
 abbrev pub PromiseRows : (control words : Numbers) (reals : Reals) (out : Numbers) → Plain → Answer → Type 0

@@ -1,4 +1,6 @@
 // What the calls on a running session answer, and the test of a lent text that several of them make.
+#![tactic(auto)]
+
 ghost use Rattle.std.specs.Prelude.{◌≡◌};
 ghost use Rattle.session.specs.Slices.{optional};
 ghost use Rattle.answers.specs.Answer.{number_of};
@@ -8,7 +10,7 @@ ghost use Rattle.answers.specs.Check.{Checks};
 pub const NAME_LENGTH_LIMIT: usize = 254;
 
 // Why a call is refused: `Error` and `RequestError` of the source, then what the port adds.
-#[derive(Drop)]
+#[derive(Clone, Copy)]
 pub enum Error {
     UnexpectedHandshakeEvent,
     InvalidInterfaceVersion { interface: u8, version: u32 },
@@ -33,7 +35,7 @@ pub enum Error {
 }
 
 // How a call ends.
-#[derive(Drop)]
+#[derive(Clone, Copy)]
 pub enum Outcome {
     // A call that answers nothing else; an ignored request too.
     Accepted,
@@ -50,7 +52,7 @@ pub enum Outcome {
 }
 
 // The outcome, and how many bytes of events were written to `out`.
-#[derive(Drop)]
+#[derive(Clone, Copy)]
 pub struct Answer {
     pub outcome: Outcome,
     pub count: usize,
@@ -124,7 +126,7 @@ impl Answer {
 }
 
 // What a name or an explanation may meet: 10, then 11. One that is not given meets neither.
-#[derive(Drop)]
+#[derive(Clone, Copy)]
 pub enum Checked {
     Fine,
     Refused(Error),

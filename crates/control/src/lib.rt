@@ -1,5 +1,7 @@
 // The control words of a session, read where they are (specs/Control says what each means). Each function but `sound` asks that they
 // are sound, or only that there are `CONTROL_LENGTH`.
+#![tactic(auto)]
+
 pub mod edits;
 mod layout;
 
@@ -31,14 +33,14 @@ pub const QUEUE_LIMIT: usize = 256;
 pub const CONTROL_LENGTH: usize = layout::DEVICES + layout::DEVICE_WORDS * DEVICES_LIMIT;
 
 // A place in a table.
-#[derive(Drop)]
+#[derive(Clone, Copy)]
 pub enum Slot {
     At(usize),
     Unknown,
 }
 
 // The version of an interface, where it was negotiated.
-#[derive(Drop)]
+#[derive(Clone, Copy)]
 pub enum Negotiated {
     Version(u32),
     Nothing,

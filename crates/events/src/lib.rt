@@ -1,6 +1,8 @@
 // The events of a running session, written to the lent `out` from control words that no writer changes: what goes is destroyed, what is new is
 // announced. Each writer asks for room; how much it needs is told by a function beside it, before the first byte is
 // written.
+#![tactic(auto)]
+
 ghost use Rattle.std.specs.Prelude.{◌≡◌, ℕ, ◌+◌, ◌*◌, ◌<◌, ◌≤◌, [], ◌∷◌, length};
 ghost use Rattle.eiproto.specs.Bits.{bits_of, common};
 ghost use Rattle.wire.specs.Record.{record_length};
@@ -20,7 +22,7 @@ use wire::event;
 use wire::event::Event;
 
 // A place in `out`, and the last serial so far.
-#[derive(Drop)]
+#[derive(Clone, Copy)]
 pub struct Mark {
     pub at: usize,
     pub serial: u32,

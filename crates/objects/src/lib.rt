@@ -1,4 +1,6 @@
 // Which objects live, and of which interface and version each is: read off the control words where they are, nothing is stored for it.
+#![tactic(auto)]
+
 ghost use Rattle.std.specs.Prelude.{◌≡◌, ℕ, ◌<◌, List, length, Float};
 ghost use Rattle.model.specs.Session.{view};
 ghost use Rattle.model.specs.Decide.{version};
@@ -13,14 +15,14 @@ use eiproto::eiproto_eis;
 use eiproto::event::DeviceCapability;
 
 // The object of an id that lives: its interface's number, and its version.
-#[derive(Drop)]
+#[derive(Clone, Copy)]
 pub enum Object {
     Alive { interface: u8, version: u32 },
     Unknown,
 }
 
 // The capability for which an interface is listed, by its bit.
-#[derive(Drop)]
+#[derive(Clone, Copy)]
 pub enum Listed {
     For(u32),
     Nothing,

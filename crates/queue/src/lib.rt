@@ -1,4 +1,6 @@
 // The pending lists of the devices and the queue, in place (`session::QUEUE_START` and specs/View of session have their rows).
+#![tactic(auto)]
+
 ghost use Rattle.std.specs.Prelude.{◌≡◌, [], ◌∷◌, ◌+◌, ◌≤◌, ◌<◌};
 ghost use Rattle.requests.specs.Row.{cell_at, row_at, row_of};
 ghost use Rattle.model.specs.Session.{Untimed, Queued};

@@ -1,5 +1,7 @@
 // Devices and seats that go: the client is told, and they are taken out of the session in place, where whole rows of control words and of pending
 // requests move down.
+#![tactic(auto)]
+
 ghost use Rattle.std.specs.Prelude.{[], ◌∷◌, ℕ, ◌+◌, ◌*◌, ◌≤◌, ◌<◌, length};
 ghost use Rattle.std.specs.Float.{nan};
 ghost use Rattle.model.specs.Call.{Plain, Call};

@@ -2,16 +2,23 @@
 -- Assumes nothing.
 use Rattle.std.specs.Prelude.{ℕ, Bool, true, false, List, Float}
 use Rattle.std.proofs.Math.Option.{Option, none, some}
-use Rattle.std.specs.Borrow.{Bor}
+use Rattle.std.specs.Borrow.{Bor, MutBor}
 use denote.Triple.Both.{Both}
 use Rattle.session.specs.View.{Store, store}
 
--- a lent slice, of numbers and of reals, `&` or `&mut`
+-- a slice that is lent to be changed, of numbers and of reals
 abbrev pub Numbers : Type 0
-Numbers = Both (Bor (List ℕ)) (Bor (List ℕ))
+Numbers = Both (MutBor (List ℕ)) (MutBor (List ℕ))
 
 abbrev pub Reals : Type 0
-Reals = Both (Bor (List Float)) (Bor (List Float))
+Reals = Both (MutBor (List Float)) (MutBor (List Float))
+
+-- a slice that is lent to be read
+abbrev pub SharedNumbers : Type 0
+SharedNumbers = Both (Bor (List ℕ)) (Bor (List ℕ))
+
+abbrev pub SharedReals : Type 0
+SharedReals = Both (Bor (List Float)) (Bor (List Float))
 
 -- the session's slices at entry and at exit
 abbrev pub before : (control words : Numbers) (reals : Reals) (texts : Numbers) → Store
@@ -32,5 +39,5 @@ abbrev pub optional : (given : Bool) → List ℕ → Option (List ℕ)
 optional true text = some text
 optional false text = none
 
-abbrev pub text : (given : Bool) → Numbers → Option (List ℕ)
+abbrev pub text : (given : Bool) → SharedNumbers → Option (List ℕ)
 text given t = optional given t.entry.now

@@ -1,4 +1,6 @@
 // The edits of a session that change its control words alone, in place. What the four lent slices of a session mean is in specs/View.
+#![tactic(auto)]
+
 ghost use Rattle.std.specs.Prelude.{◌≡◌, false, [], ◌∷◌, ℕ, ◌+◌, ◌≤◌, ◌<◌, length};
 ghost use Rattle.eiproto.specs.Bits.{bits_of};
 ghost use Rattle.touches.specs.Touches.{touches_limit, member};
@@ -6,7 +8,7 @@ ghost use Rattle.model.specs.Edit.{Amend, Edit, raised};
 ghost use Rattle.control.specs.Control.{seats_limit, devices_limit, seat_count, device_count, connection_of, touches_at};
 ghost use Rattle.control.specs.Sound.{Sound};
 ghost use Rattle.session.specs.View.{last_id, is_lent, is_whole};
-ghost use Rattle.session.specs.Slices.{before};
+ghost use Rattle.session.specs.View.{store};
 ghost use Rattle.session.specs.Enact.{EnactsControl};
 
 use control::{DEVICES_LIMIT, PENDING_LIMIT, QUEUE_LIMIT, Slot};
@@ -42,7 +44,7 @@ pub fn lent(control: &[u64], words: &[u64], reals: &[f32]) -> bool
 
 // The same, of a call that is lent all four slices.
 pub fn whole(control: &[u64], words: &[u64], reals: &[f32], texts: &[u8]) -> bool
-    ensures { result ≡ is_whole (before control words reals texts) }
+    ensures { result ≡ is_whole (store control.now words.now reals.now texts.now) }
 {
     if !lent(control, words, reals) {
         return false;

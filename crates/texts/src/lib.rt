@@ -1,4 +1,6 @@
 // The texts that lie beside their requests, each in a slot. A slot is in use while a pending or queued request has its text there.
+#![tactic(auto)]
+
 ghost use Rattle.std.specs.Prelude.{◌≡◌, false, ◌+◌, ◌*◌, ◌^◌, ◌≤◌, ◌<◌, length, take, drop};
 ghost use Rattle.eiproto.specs.Bits.{bit, bits_of};
 ghost use Rattle.requests.specs.Row.{texts_limit, row_at};
@@ -19,7 +21,7 @@ pub const TEXT_LENGTH_LIMIT: usize = 254;
 const ALL_SLOTS: u64 = 4294967295;
 
 // How many texts pending and queued requests have, and the slots that they lie in, as a mask.
-#[derive(Drop)]
+#[derive(Clone, Copy)]
 pub struct LiveTexts {
     pub count: usize,
     pub used: u64,

@@ -1,0 +1,19 @@
+-- What is left to do from slot k on, done, is the whole. Assumes nothing.
+use Prim.Native.Nat.{ℕ, ◌-◌, ◌≤◌, ◌<◌}
+use mathlib.Core.Path.{sym, ◌∙◌}
+use mathlib.Core.List.{List, []}
+use native.Mathlib.Omega.{arith}
+use borrow.Author.Rules.{rules}
+use Rattle.model.specs.Call.{Load}
+use Rattle.control.specs.Control.{device_count}
+use Rattle.session.specs.View.{store, Lent}
+use Rattle.removal.proofs.Loops.{Dropping, device-fewer, dropping_none, dropping_hit, dropping_miss, dropping_end}
+use Rattle.removal.proofs.remove_devices_of.Given as goal
+
+abbrev pub invariant-loop-k : goal.invariant-loop-k
+invariant-loop-k l =
+    (l.k ≤ device_count l.control) × (Lent l.control l.words l.reals × ((texts : List ℕ) → Dropping (store l.initial.control l.initial.words l.initial.reals texts) (store l.control l.words l.reals texts) l.seat l.k))
+
+abbrev pub decreases-loop-k : goal.decreases-loop-k
+decreases-loop-k l =
+    device_count l.control - l.k

@@ -1,0 +1,9 @@
+-- As the control words have it. Assumes nothing.
+use Rattle.session.proofs.Edits.{interface-unlisted}
+use borrow.Author.Rules.{rules}
+use Rattle.session.proofs.unlist.Goals as goal
+
+pub returns : goal.returns
+returns c =
+    let a = c.args in
+    interface-unlisted a.bit c.requires.1 c.unlist.ensures

@@ -1,0 +1,21 @@
+-- The slot is free, so no request but the new one sees its text. Assumes nothing.
+use mathlib.Core.Path.{sym, subst}
+use mathlib.Core.List.{List, [], ◌∷◌}
+use Prim.Native.Nat.{ℕ}
+use Rattle.model.specs.Call.{Input, sight, Load}
+use Rattle.model.specs.Edit.{Edit}
+use Rattle.session.specs.View.{store}
+use Rattle.session.specs.Enact.{Enacted}
+use Rattle.texts.proofs.Slots.{text-pended}
+use borrow.Author.Rules.{rules}
+use Rattle.texts.proofs.pend_text.Goals as goal
+
+pub returns : goal.returns
+returns c =
+    let a = c.args in
+    let placed =
+    subst
+    (λ (ts : List ℕ). Enacted (store a.control.now a.words.now a.reals.now a.texts.now) (store c.pend.new.control c.pend.new.words c.pend.new.reals ts) (Edit.pend a.k (sight (Input.Utf8 a.text.now)) ∷ []) (Load.Text a.text.now))
+    (sym c.put_text.ensures)
+    (text-pended a.texts.now a.text.now a.slot c.requires.low c.requires.short c.requires.whole.texts_long a.k c.requires.free c.text_utf8-request.ensures c.pend.ensures) in
+    (placed, c.put_text.ensures)
