@@ -23,7 +23,7 @@ use texts::TEXT_LENGTH_LIMIT;
 use touches::EIS_MAX_TOUCHES;
 
 // What a request changes of the held touches of its device.
-#[derive(Drop)]
+#[derive(Clone, Copy)]
 pub enum TouchChange {
     Nothing,
     Down(u32),
@@ -31,7 +31,7 @@ pub enum TouchChange {
 }
 
 // What becomes of a timed request.
-#[derive(Drop)]
+#[derive(Clone, Copy)]
 pub enum Decision {
     // It is on no known interface, or for a touch that is not down.
     Ignored,

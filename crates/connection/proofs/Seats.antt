@@ -1,6 +1,6 @@
 -- A new seat: the call by its tests and by its limits. Assumes nothing.
 use Prim.Native.Nat.{ℕ, ◌+◌, ◌≤◌, ◌<◌}
-use mathlib.Core.Path.{◌≡◌, refl, ap, ◌∙◌}
+use mathlib.Core.Path.{◌≡◌, refl, ap, ap₂, sym, ◌∙◌}
 use mathlib.Core.Bool.{true}
 use mathlib.Core.List.{List, [], ◌∷◌}
 use mathlib.Core.Option.{Option}
@@ -70,7 +70,11 @@ module _ (s : Store) (w : Whole s) (out : List ℕ) (clock : ℕ) (name : Option
         let cut = common caps (negotiated_capabilities n) in
         seat_plan n.next_id cut (seat_events n n.next_id (seat_version n) name cut))
         (view-connection s)
-        ∙ rw (i, v, c)
+        ∙ sym
+        (ap₂ (λ (x y : ℕ). seat_plan x set (seat_events (connection_of s.control) x y name set)) i v
+        ∙ ap (λ (z : ℕ).
+        seat_plan (connection_of s.control).next_id z
+        (seat_events (connection_of s.control) (connection_of s.control).next_id (seat_version (connection_of s.control)) name z)) c)
 
     pub seat_full : {r : Answer} → 4 ≤ seat_count s.control → (r.outcome ≡ Outcome.Refused Error.FullSeats) × (r.count ≡ 0) → Handled s s out out call clock r
     seat_full {r} h = over-handled s out call clock (Outcome.Refused Error.FullSeats) r w (step_seat_full t (session s) planned (omega (arith, seats-length s)))

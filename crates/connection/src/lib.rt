@@ -1,4 +1,6 @@
 // The methods of `Connection` of src/request.rs. Seats and devices are named by their ids.
+#![tactic(auto)]
+
 ghost use Rattle.std.specs.Prelude.{◌≡◌, ℕ, length};
 ghost use Rattle.eiproto.specs.Interface.{lookup};
 ghost use Rattle.model.specs.Call.{Plain, Call};

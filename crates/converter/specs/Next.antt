@@ -7,7 +7,7 @@ use Rattle.model.specs.Plan as plan
 use Rattle.model.specs.Step.{Step, refuses, step}
 use Rattle.requests.specs.Request.{text_length}
 use Rattle.session.specs.View.{Store, store, session, request_in, text_in, words_length, reals_length, texts_length, is_whole, Whole}
-use Rattle.session.specs.Slices.{Numbers, Reals, before, after}
+use Rattle.session.specs.Slices.{Numbers, SharedNumbers, SharedReals}
 use Rattle.control.specs.Control.{control_length}
 use Rattle.handshake.specs.View.{versions_of}
 use Rattle.handshake.specs.declared.handshake.EisHandshakeResp.{EisHandshakeResp}
@@ -61,8 +61,9 @@ pub record Delivered (s e : Store) (buffer later : List ℕ) (r : NextRequest) :
   pub handled : (clock : ℕ) → is_whole s ≡ true → Gives s e buffer later (step (split (turn (Call.plain Plain.next_request) clock buffer)) (session s)) r
 
 -- the same, of the slices that the call is lent
-abbrev pub Delivers : (control words : Numbers) (reals : Reals) (texts buffer : Numbers) → NextRequest → Type 0
-Delivers c w q t buffer r = Delivered (before c w q t) (after c w q t) buffer.entry.now buffer.exit.now r
+abbrev pub Delivers : (control : Numbers) (words : SharedNumbers) (reals : SharedReals) (texts : SharedNumbers) (buffer : Numbers) → NextRequest → Type 0
+Delivers c w q t buffer r =
+    Delivered (store c.entry.now w.entry.now q.entry.now t.entry.now) (store c.exit.now w.exit.now q.exit.now t.exit.now) buffer.entry.now buffer.exit.now r
 
 -- "Both lists start from the same session, as a successful Finish leaves it": the connection's id, the serial, the next id and the versions that it settled.
 -- c are the control words before, d those after. Of another length they are no session's, and are left as they were

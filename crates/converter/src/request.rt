@@ -110,7 +110,7 @@ pub fn new(control: &mut [u64], response: EisHandshakeResp) -> Answer
 }
 
 // What `next_request` gives: the oldest queued request, or that none is queued.
-#[derive(Drop)]
+#[derive(Clone, Copy)]
 pub enum NextRequest {
     Given(EisRequest),
     None,
@@ -118,7 +118,7 @@ pub enum NextRequest {
 }
 
 // The same as numbers: a caller that reads them needs no way through the enum.
-#[derive(Drop)]
+#[derive(Clone, Copy)]
 pub enum NextCell {
     Given(Cell),
     None,

@@ -1,4 +1,6 @@
 // The methods of `Device` of src/request.rs.
+#![tactic(auto)]
+
 ghost use Rattle.std.specs.Prelude.{◌≡◌, ◌<◌};
 ghost use Rattle.model.specs.Call.{Plain};
 ghost use Rattle.control.specs.Control.{device_count};
@@ -38,7 +40,7 @@ pub fn remove_device(
 }
 
 // An event that a known device is told, with the next serial.
-#[derive(Drop)]
+#[derive(Clone, Copy)]
 pub enum Notice {
     Resumed,
     Paused,

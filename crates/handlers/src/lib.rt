@@ -1,5 +1,7 @@
 // The handlers of src/request.rs: what becomes of each request that a client sends.
 // A session lies in four lent slices; `session` says what they mean.
+#![tactic(auto)]
+
 ghost use Rattle.std.specs.Prelude.{List, ℕ};
 ghost use Rattle.model.specs.Call.{Input};
 ghost use Rattle.control.specs.Sound.{Sound};
@@ -339,7 +341,7 @@ pub fn handle_scroll_request(
 }
 
 // What a request on a touchscreen asks for.
-#[derive(Drop)]
+#[derive(Clone, Copy)]
 pub enum TouchAction {
     Release,
     Timed(Decision),

@@ -18,7 +18,7 @@ use wire::{backend, event};
 pub const NAME_LENGTH_LIMIT: usize = 254;
 
 // The client's name, or that it has not been said. The bytes past its length say nothing.
-#[derive(Drop)]
+#[derive(Clone, Copy)]
 pub struct Name {
     pub bytes: [u8; NAME_LENGTH_LIMIT],
     pub length: usize,
@@ -26,21 +26,21 @@ pub struct Name {
 }
 
 // The context type, or that it has not been said.
-#[derive(Drop)]
+#[derive(Clone, Copy)]
 pub enum Context {
     Given(ContextType),
     Unknown,
 }
 
 // An interface's version, or that none was negotiated.
-#[derive(Drop)]
+#[derive(Clone, Copy)]
 pub struct InterfaceVersion {
     pub negotiated: bool,
     pub version: u32,
 }
 
 // A handshake under way. Its interfaces stand in the order of their numbers, from 1 on.
-#[derive(Drop)]
+#[derive(Clone, Copy)]
 pub struct EisHandshaker {
     pub name: Name,
     pub context: Context,
@@ -50,7 +50,7 @@ pub struct EisHandshaker {
 }
 
 // What a client may send. The text of Name, of InterfaceVersion and of another request that has one is lent beside it.
-#[derive(Drop)]
+#[derive(Clone, Copy)]
 pub enum HandshakeMessage {
     HandshakeVersion { version: u32 },
     Name,
@@ -62,7 +62,7 @@ pub enum HandshakeMessage {
 }
 
 // What a Finish settles that succeeds, and what the session goes on from: its serial and the next object id.
-#[derive(Drop)]
+#[derive(Clone, Copy)]
 pub struct EisHandshakeResp {
     pub connection: u64,
     pub name: Name,
@@ -73,7 +73,7 @@ pub struct EisHandshakeResp {
 }
 
 // Why a call is refused: the source's three, then those that the port adds.
-#[derive(Drop)]
+#[derive(Clone, Copy)]
 pub enum HandshakeError {
     NonHandshakeEvent,
     DuplicateEvent,
@@ -86,7 +86,7 @@ pub enum HandshakeError {
 }
 
 // How a call ends: `Ok(None)`, `Ok(Some(..))` and `Err(..)` of the source.
-#[derive(Drop)]
+#[derive(Clone, Copy)]
 pub enum HandshakeOutcome {
     Accepted,
     Finished,
@@ -95,7 +95,7 @@ pub enum HandshakeOutcome {
 
 // What a call gives: the handshake after it, its outcome, what a Finish settled (blank but for Finished), and how many bytes
 // of events were written.
-#[derive(Drop)]
+#[derive(Clone, Copy)]
 pub struct HandshakeAnswer {
     pub handshaker: EisHandshaker,
     pub outcome: HandshakeOutcome,

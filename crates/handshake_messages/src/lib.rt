@@ -1,4 +1,6 @@
 // A client's messages during the handshake: the first of a lent slice is read, and handed on as the request that it stands for.
+#![tactic(auto)]
+
 ghost use Rattle.std.specs.Prelude.{◌+◌, ◌%◌, ◌≤◌, ◌≡◌, cond, length};
 ghost use Rattle.handshake.specs.View.{is_refusal, unfinished, Handled};
 ghost use Rattle.handshake.specs.declared.handshake.HandshakeOutcome.{HandshakeOutcome};
@@ -17,7 +19,7 @@ use wire::{ParseError, backend};
 const SYNC: u64 = 5;
 
 // The interface of an object that lives.
-#[derive(Drop)]
+#[derive(Clone, Copy)]
 pub enum Object {
     Alive(u8),
     Unknown,
@@ -25,7 +27,7 @@ pub enum Object {
 
 // What the first message of a slice is: not yet whole, on no object that lives, malformed, with an id that a client may not give, or a request
 // and how many bytes its message has.
-#[derive(Drop)]
+#[derive(Clone, Copy)]
 pub enum Reading {
     Wait,
     NoObject,
@@ -35,7 +37,7 @@ pub enum Reading {
 }
 
 // What became of a message: `Handed` if its request was handed on, and else why it was not.
-#[derive(Drop)]
+#[derive(Clone, Copy)]
 pub enum Told {
     Wait,
     NoObject,
@@ -45,7 +47,7 @@ pub enum Told {
 }
 
 // What a call gives: the answer to the request (of one that was not handed on, the handshake as it was), and how many bytes of the slice were taken.
-#[derive(Drop)]
+#[derive(Clone, Copy)]
 pub struct HandshakeReceived {
     pub told: Told,
     pub answer: HandshakeAnswer,
@@ -138,7 +140,7 @@ fn context_type(n: u64) -> ContextType
 }
 
 // A request as the handshake takes it, and how many bytes of its text are lent with it.
-#[derive(Drop)]
+#[derive(Clone, Copy)]
 struct HandshakeCall {
     request: HandshakeMessage,
     length: usize,

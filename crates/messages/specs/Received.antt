@@ -1,5 +1,5 @@
 -- What is promised of a client's bytes. Assumes nothing.
-use Rattle.std.specs.Prelude.{ℕ, ◌≡◌, true, false, List, Float}
+use Rattle.std.specs.Prelude.{ℕ, ◌≡◌, true, false, List}
 use Rattle.model.specs.Call.{Input, Call}
 use Rattle.model.specs.Session.{view}
 use Rattle.model_reads.specs.Message.{Reading, taken_of}

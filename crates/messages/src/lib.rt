@@ -1,5 +1,7 @@
 // A client's bytes handed over: the first message of a lent slice, read by the object that it addresses and handed on as the request that it stands for
 // (`Context::pending_request` of src/eis.rs, `Backend::pending` of src/wire/backend.rs).
+#![tactic(auto)]
+
 ghost use Rattle.std.specs.Prelude.{ℕ, ◌+◌, ◌≤◌, ◌≡◌, List, Float, length, take, drop};
 ghost use Rattle.model.specs.Call.{Input, Call};
 ghost use Rattle.session.specs.View.{store, Whole};
@@ -21,7 +23,7 @@ use requests::row;
 use wire::ParseError;
 
 // What becomes of the bytes.
-#[derive(Drop)]
+#[derive(Clone, Copy)]
 pub enum Received {
     // The message is not yet whole, and nothing is taken.
     Wait,

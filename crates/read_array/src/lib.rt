@@ -1,4 +1,6 @@
 // A whole read handed over by value: for a caller that gathers its records in an array, since one that lends them would be proved by hand.
+#![tactic(auto)]
+
 ghost use Rattle.std.specs.Prelude.{◌≡◌, map, take, min};
 ghost use Rattle.reads.specs.Record.{entry_of};
 ghost use Rattle.reads.specs.Handed.{HandsOver};

@@ -2,11 +2,8 @@
 use Prim.Native.Nat.{ℕ, ◌+◌, ◌-◌, ◌≤◌}
 use mathlib.Core.Path.{◌≡◌, refl, sym, ap, ◌∙◌}
 use mathlib.Core.Bool.{true, false}
-use mathlib.Core.List.{List, [], ◌∷◌, ◌++◌, append-nil}
-use mathlib.Core.Logic.{inl, inr}
+use mathlib.Core.List.{List, [], ◌++◌, append-nil}
 use native.Mathlib.Omega.{arith}
-use types.Run.{OneOf}
-use denote.Enum.Declared.{tag_of}
 use lib.ListN.{length, take, drop, take-append-drop, length-append, length-drop}
 use lib.Seq.{take_all, drop-drop, drop-length}
 use Rattle.wire.specs.Bits.{splice}
@@ -14,33 +11,17 @@ use Rattle.model.specs.Call.{Load}
 use Rattle.model.specs.Plan.{records}
 use Rattle.model.specs.Step.{Step}
 use Rattle.session.specs.View.{Store, is_whole, Lending}
-use Rattle.requests.proofs.Arms.{among}
 use Rattle.answers.specs.declared.Error.{Error}
 use Rattle.answers.specs.declared.Outcome.{Outcome}
 use Rattle.answers.specs.declared.Answer.{Answer}
 use Rattle.answers.specs.Meets.{Meets, Answered}
-use Rattle.answers.specs.contracts.Outcome as outcome
 use Rattle.answers.proofs.Meetings.{answered-handled}
 use Rattle.reads.specs.declared.Part.{Part}
 use Rattle.reads.specs.declared.ReadAnswer.{ReadAnswer}
 use Rattle.reads.specs.declared.record.RequestRecord.{RequestRecord}
 use Rattle.reads.specs.Record.{entry_of}
-use Rattle.reads.specs.Handed.{one_more, joined_at, joined, Taken}
+use Rattle.reads.specs.Handed.{joined, Taken}
 use Rattle.reads.proofs.Parts.{part, call_in, entry-bad, entry-call}
-
--- the arm of `join` that stands for every outcome but a refusal
-not-refused : OneOf (0 ∷ 2 ∷ 3 ∷ 4 ∷ 5 ∷ 6 ∷ []) 1 → ⊥
-not-refused (inl e) = omega (arith, e)
-not-refused (inr o) = omega (arith, (among 2 5 1 o).0)
-
-pub accepts : (b : ReadAnswer) (count : ℕ) (o : Outcome) → OneOf (0 ∷ 2 ∷ 3 ∷ 4 ∷ 5 ∷ 6 ∷ []) (tag_of outcome.the_type o) → one_more b count ≡ joined_at b count o
-accepts b count Outcome.Accepted o = refl
-accepts b count (Outcome.Refused e) o = absurd (not-refused o)
-accepts b count (Outcome.Seat id) o = refl
-accepts b count (Outcome.Device id) o = refl
-accepts b count (Outcome.Value v) o = refl
-accepts b count (Outcome.Truth t) o = refl
-accepts b count Outcome.None o = refl
 
 -- what a call wrote lies within what it was lent
 within : (out recs : List ℕ) → length recs ≤ length (splice out 0 recs)

@@ -1,5 +1,7 @@
 // A whole read handed over: what a client sent since the last wakeup, as a list of records, with one slice for their texts and one clock value for all.
 // They are handed in one after another, each with what is left of `out`, up to the first that is refused.
+#![tactic(auto)]
+
 ghost use Rattle.std.specs.Prelude.{◌≡◌, true, map, ◌+◌, ◌<◌, ◌≤◌, ◌^◌, length};
 ghost use Rattle.session.specs.View.{store, is_whole};
 ghost use Rattle.reads.specs.Record.{has_text, part_of, entry_of};
@@ -12,14 +14,14 @@ use requests::eis::{HandshakeRequest, InterfaceRequest, Request, TextRequest};
 pub mod record;
 
 // The first refusal, if there was one.
-#[derive(Drop)]
+#[derive(Clone, Copy)]
 pub enum First {
     None,
     Refused(Error),
 }
 
 // How many records were accepted, ignored ones included; how many bytes of events these wrote; the first refusal.
-#[derive(Drop)]
+#[derive(Clone, Copy)]
 pub struct ReadAnswer {
     pub accepted: usize,
     pub count: usize,
@@ -27,7 +29,7 @@ pub struct ReadAnswer {
 }
 
 // The part of the texts that a record has, if it stays within them.
-#[derive(Drop)]
+#[derive(Clone, Copy)]
 pub struct Part {
     pub start: usize,
     pub end: usize,

@@ -3,7 +3,7 @@ ghost use Rattle.std.specs.Prelude.{◌≡◌, ◌<◌, length, get_or};
 
 use requests::eis::Request;
 
-#[derive(Drop)]
+#[derive(Clone, Copy)]
 pub struct RequestRecord {
     pub object: u64,
     pub version: u32,

@@ -1,6 +1,6 @@
 -- A new device: the call by its tests and by its limits. Assumes nothing.
 use Prim.Native.Nat.{ℕ, ◌+◌, ◌≤◌, ◌<◌}
-use mathlib.Core.Path.{◌≡◌, refl, sym, ap, ◌∙◌}
+use mathlib.Core.Path.{◌≡◌, refl, sym, ap, ap₂, ◌∙◌}
 use mathlib.Core.Bool.{true}
 use mathlib.Core.List.{List, [], ◌∷◌}
 use mathlib.Core.Option.{Option, none, some}
@@ -100,7 +100,11 @@ module _ (s : Store) (w : Whole s) (out : List ℕ) (clock seat : ℕ) (name : O
         let cut = common (common caps (seat_at s.control k).capabilities) (negotiated_capabilities c) in
         device_plan c.next_id seat cut (device_events c seat c.next_id (device_version c) name (device_type_number kind) cut))
         (view-connection s)
-        ∙ rw (i, v, y, m)
+        ∙ sym
+        (ap₂ (λ (x z : ℕ). device_plan x seat made (device_events (connection_of s.control) seat x z name number made)) i v
+        ∙ ap₂ (λ (x z : ℕ).
+        device_plan (connection_of s.control).next_id seat z
+        (device_events (connection_of s.control) seat (connection_of s.control).next_id (device_version (connection_of s.control)) name x z)) y m)
 
     pub added_full : {r : Answer} → 8 ≤ device_count s.control → (r.outcome ≡ Outcome.Refused Error.FullDevices) × (r.count ≡ 0)
         → Handled s s out out (Call.plain call) clock r

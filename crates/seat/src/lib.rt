@@ -1,4 +1,6 @@
 // The methods of `Seat` of src/request.rs.
+#![tactic(auto)]
+
 ghost use Rattle.std.specs.Prelude.{◌≡◌, ℕ, ◌<◌, length};
 ghost use Rattle.model.specs.Call.{Plain, Call};
 ghost use Rattle.session.specs.Slices.{optional, text};

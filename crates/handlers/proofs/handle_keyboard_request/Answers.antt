@@ -1,0 +1,30 @@
+-- Each arm is the call of its request. Assumes nothing.
+use mathlib.Core.Path.{refl, ap}
+use Rattle.requests.specs.Row.{entry}
+use Rattle.requests.specs.declared.request.EisRequest.{EisRequest}
+use Rattle.requests.specs.declared.eis.KeyboardRequest.{KeyboardRequest}
+use Rattle.model.specs.Call.{Input, sight, load}
+use Rattle.model.specs.Edit.{item}
+use Rattle.model.specs.Decide.{handler}
+use Rattle.session.specs.View.{request_in, item_in, request_at, item_at}
+use Rattle.handlers.specs.Call.{keyboard_call}
+use Rattle.handlers.proofs.Plain.{for_call}
+use Rattle.handlers.proofs.Timed.{row-waits}
+use borrow.Author.Rules.{rules}
+use Rattle.handlers.proofs.handle_keyboard_request.Goals as goal
+
+pub returns-in-Release : goal.returns-in-Release
+returns-in-Release c =
+    let a = c.args in
+    λ version clock texts whole.
+    for_call clock (ap (λ (x : KeyboardRequest). keyboard_call x a.keyboard version) c.in-Release.is)
+    (c.release_interface.ensures clock a.words.now a.reals.now texts whole)
+
+pub returns-in-Key : goal.returns-in-Key
+unfolding handler sight load item item_at request_at request_in item_in entry
+returns-in-Key c =
+    let a = c.args in
+    λ version clock texts whole.
+    for_call clock (ap (λ (x : KeyboardRequest). keyboard_call x a.keyboard version) c.in-Key.is)
+    (c.queue_for_interface.ensures version clock (Input.Key _ _) (record { by = refl; valid = refl })
+    (row-waits (Input.Key _ _) (EisRequest.KeyboardKey 0 0 _ _) c.keyboard_key-request.ensures (λ t. refl)) a.out.now texts whole)

@@ -1,0 +1,64 @@
+-- 21, then a header, then the object. Assumes nothing.
+use Prim.Native.Nat.{ℕ}
+use mathlib.Core.Path.{◌≡◌, refl, sym, ap, ◌∙◌}
+use mathlib.Core.Bool.{true, false≢true}
+use mathlib.Core.List.{List}
+use native.Mathlib.Omega.{arith}
+use Rattle.model.specs.Session.{view}
+use Rattle.session.specs.View.{Store, store, session, is_whole}
+use Rattle.session.proofs.Views.{whole_parts}
+use Rattle.answers.proofs.Meetings.{failed, passed}
+use Rattle.objects.specs.Answer.{object_told}
+use Rattle.messages.specs.Received.{ReceivedAs, ReceivedFrom}
+use Rattle.messages.specs.declared.Received.{Received}
+use Rattle.messages.specs.Reading.{reading}
+use Rattle.messages.proofs.Bytes.{no_header, not-alive, alive}
+use Rattle.std.proofs.lemmas.Bool.{not_from_false, not_from_true}
+use Rattle.messages.proofs.pending_request.Goals as goal
+
+-- behind 21's test
+whole-received : {s e : Store} {out later bytes : List ℕ} {clock : ℕ} {r : Received} → is_whole s ≡ true → ReceivedAs s e out later (reading (view (session s)) bytes) clock r
+    → ReceivedFrom s e out later bytes clock r
+whole-received w h = record { damaged = λ d. absurd (false≢true (sym d ∙ w)); read = λ _. h }
+
+pub returns-then-not-whole : goal.returns-then-not-whole
+returns-then-not-whole c =
+    let d = failed c.whole.ensures (not_from_false _ c.if-not-whole.true) in
+    record {
+      damaged = λ _. ((λ i. Received.Handed (record { outcome = c.refused-answer.ensures.0 i; count = c.refused-answer.ensures.1 i }) 0), (refl, refl));
+      read = λ w. absurd (false≢true (sym d ∙ w));
+    }
+
+pub returns-then-message-lt-HEADER_LENGTH : goal.returns-then-message-lt-HEADER_LENGTH
+returns-then-message-lt-HEADER_LENGTH c =
+    let whole_at : let a = c.args in is_whole (store a.control.now a.words.now a.reals.now a.texts.now) ≡ true = passed c.whole.ensures (not_from_true _ c.if-not-whole.false) in
+    let a = c.args in
+    whole-received whole_at (rw (no_header (view (session (store a.control.now a.words.now a.reals.now a.texts.now))) a.message.now (omega arith)) (refl, (refl, refl)))
+
+pub find_object-requires : goal.find_object-requires
+find_object-requires c =
+    let whole_at : let a = c.args in is_whole (store a.control.now a.words.now a.reals.now a.texts.now) ≡ true = passed c.whole.ensures (not_from_true _ c.if-not-whole.false) in
+    (whole_parts _ whole_at).sound
+
+pub receive_on-requires : goal.receive_on-requires
+receive_on-requires c =
+    let whole_at : let a = c.args in is_whole (store a.control.now a.words.now a.reals.now a.texts.now) ≡ true = passed c.whole.ensures (not_from_true _ c.if-not-whole.false) in
+    (whole_parts _ whole_at, omega arith)
+
+pub returns-in-Unknown : goal.returns-in-Unknown
+returns-in-Unknown c =
+    let whole_at : let a = c.args in is_whole (store a.control.now a.words.now a.reals.now a.texts.now) ≡ true = passed c.whole.ensures (not_from_true _ c.if-not-whole.false) in
+    let a = c.args in
+    let s = store a.control.now a.words.now a.reals.now a.texts.now in
+    whole-received whole_at
+    (rw (not-alive (view (session s)) a.message.now (omega arith) c.number64-object.ensures (sym (ap object_told c.in-Unknown.is) ∙ c.find_object.ensures a.words.now a.reals.now a.texts.now))
+    (refl, (refl, refl)))
+
+pub returns-in-Alive : goal.returns-in-Alive
+returns-in-Alive c =
+    let whole_at : let a = c.args in is_whole (store a.control.now a.words.now a.reals.now a.texts.now) ≡ true = passed c.whole.ensures (not_from_true _ c.if-not-whole.false) in
+    let a = c.args in
+    let s = store a.control.now a.words.now a.reals.now a.texts.now in
+    whole-received whole_at
+    (rw (alive (view (session s)) a.message.now (omega arith) c.number64-object.ensures _ (sym (ap object_told c.in-Alive.is) ∙ c.find_object.ensures a.words.now a.reals.now a.texts.now))
+    c.receive_on.ensures)
