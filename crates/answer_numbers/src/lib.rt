@@ -1,4 +1,6 @@
 // What a call answers, as numbers: for C and Rust.
+#![tactic(auto)]
+
 ghost use Rattle.std.specs.Prelude.{◌≡◌};
 ghost use Rattle.answers.specs.Answer.{error_of, outcome_of};
 ghost use Rattle.answer_numbers.specs.Numbers.{status_of, value_of, first_outcome, no_version, version_in};
@@ -65,7 +67,7 @@ pub fn first_outcome(first: First) -> Outcome
 }
 
 // What refusal 2 tells besides its number; 0 at any other outcome.
-#[derive(Drop)]
+#[derive(Clone, Copy)]
 pub struct RefusedVersion {
     pub interface: u32,
     pub version: u32,

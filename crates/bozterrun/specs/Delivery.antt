@@ -1,7 +1,7 @@
 -- What is told of the next request. Assumes nothing.
 use Rattle.std.specs.Prelude.{ℕ, ◌≡◌, List, [], ◌∷◌, Float}
 use Rattle.requests.specs.declared.cell.Cell.{Cell}
-use Rattle.session.specs.Slices.{Numbers, Reals}
+use Rattle.session.specs.Slices.{Numbers, Reals, SharedNumbers, SharedReals}
 use Rattle.answers.specs.Answer.{number_of}
 use Rattle.converter.specs.Next.{next_of, Delivers}
 use Rattle.converter.specs.declared.request.NextCell.{NextCell}
@@ -30,7 +30,7 @@ coordinates_after NextCell.None before = before
 coordinates_after (NextCell.Refused e) before = before
 
 -- THE NUMBERS ARE THOSE OF A REQUEST that `next_request` promises
-pub record Tells (control words : Numbers) (reals : Reals) (texts buffer numbers : Numbers) (coordinates : Reals) (status : ℕ) : Type 0 where
+pub record Tells (control : Numbers) (words : SharedNumbers) (reals : SharedReals) (texts : SharedNumbers) (buffer numbers : Numbers) (coordinates : Reals) (status : ℕ) : Type 0 where
   pub next : NextCell
   pub delivered : Delivers control words reals texts buffer (next_of next)
   pub status_is : status ≡ next_status next

@@ -2,7 +2,7 @@
 use Rattle.std.specs.Prelude.{ℕ, ◌≡◌, cond, []}
 use Rattle.handshake.specs.Handshake as paper
 use Rattle.handshake.specs.View.{number}
-use Rattle.session.specs.Slices.{Numbers}
+use Rattle.session.specs.Slices.{Numbers, SharedNumbers}
 use Rattle.lent_handshake.specs.Lent.{status_of, Handled, Names}
 use Rattle.lent_handshake.specs.declared.HandshakeReply.{HandshakeReply}
 use Rattle.lent_handshake.specs.declared.Client.{Client}
@@ -41,7 +41,7 @@ abbrev pub client_context : Client → ℕ
 client_context (Client.Known length given context) = context
 client_context (Client.Refused e) = 0
 
-pub record Introduced (words name : Numbers) (given length context : Number) (status : ℕ) : Type 0 where
+pub record Introduced (words name : SharedNumbers) (given length context : Number) (status : ℕ) : Type 0 where
   pub client : Client
   pub named : Names words name client
   pub status_is : status ≡ client_status client

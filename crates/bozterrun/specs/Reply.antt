@@ -1,10 +1,10 @@
 -- What an exported function tells: an answer that the module's own call promises, as numbers. Assumes nothing.
 use Rattle.std.specs.Prelude.{ℕ, ◌≤◌, ◌≡◌, Bool, List, [], map, eqb}
 use Rattle.std.proofs.Math.Option.{Option}
-use Rattle.std.specs.Borrow.{Bor}
+use Rattle.std.specs.Borrow.{MutBor}
 use denote.Triple.Both.{Both}
 use Rattle.model.specs.Call.{Input, Call}
-use Rattle.session.specs.Slices.{Numbers, Reals, before, after, rows_before, rows_after, text}
+use Rattle.session.specs.Slices.{Numbers, SharedNumbers, Reals, SharedReals, before, after, rows_before, rows_after, text}
 use Rattle.answers.specs.Answer.{outcome_of}
 use Rattle.answers.specs.declared.Answer.{Answer}
 use Rattle.client_calls.specs.Request.{AsksRows}
@@ -25,7 +25,7 @@ pub record Replies (Promised : Answer → Type 0) (status : ℕ) (Rest : Answer 
 
 -- a number that a function writes for its caller
 abbrev pub Number : Type 0
-Number = Both (Bor ℕ) (Bor ℕ)
+Number = Both (MutBor ℕ) (MutBor ℕ)
 
 -- the status alone
 abbrev pub Told : (Answer → Type 0) → (status : ℕ) → Type 0
@@ -65,7 +65,7 @@ pub record ToldRead (Promised : ReadAnswer → Type 0) (status : ℕ) (accepted 
 -- ---- numbers that are no case of their enum
 
 -- a name or an explanation, where `given` is 1
-abbrev pub text_if : (given : ℕ) → Numbers → Option (List ℕ)
+abbrev pub text_if : (given : ℕ) → SharedNumbers → Option (List ℕ)
 text_if given t = text (eqb given 1) t
 
 -- a state of a key or a button is 0 or 1; behind another nothing is touched
@@ -88,11 +88,11 @@ abbrev pub UnsentRows : (control words : Numbers) (reals : Reals) (out : Numbers
 UnsentRows c w r out count = KeptRows c w r × (Kept out × (count.exit.now ≡ 0))
 
 -- whether the two slices of a read hold whole records and each is a request's
-abbrev pub of_requests : (records : Numbers) (points : Reals) → Bool
+abbrev pub of_requests : (records : SharedNumbers) (points : SharedReals) → Bool
 of_requests records points = are_requests records.entry.now points.entry.now
 
 -- a whole read of the records that the two slices hold, with the texts lent beside them
-abbrev pub ReadsIn : (control words : Numbers) (reals : Reals) (texts records : Numbers) (points : Reals) (lent : Numbers) (clock : ℕ) (out : Numbers) → ReadAnswer → Type 0
+abbrev pub ReadsIn : (control words : Numbers) (reals : Reals) (texts : Numbers) (records : SharedNumbers) (points : SharedReals) (lent : SharedNumbers) (clock : ℕ) (out : Numbers) → ReadAnswer → Type 0
 ReadsIn c w r t records points lent clock out a =
     HandsOver c w r t out (map (entry_of lent.entry.now) (records_in records.entry.now points.entry.now)) clock a
 

@@ -3,7 +3,7 @@ ghost use Rattle.std.specs.Prelude.{ℕ, ◌≤◌, ◌<◌, ◌≡◌};
 ghost use Rattle.eiproto.specs.declared.event.DeviceCapability.{DeviceCapability};
 ghost use Rattle.requests.specs.Row.{key_state, button_state};
 ghost use Rattle.model.specs.Call.{Input, Plain, Call};
-ghost use Rattle.answers.specs.Promise.{Promise, PromiseRows, Reply};
+ghost use Rattle.answers.specs.Promise.{Promise, PromiseUnchanged, PromiseRows, Reply};
 ghost use Rattle.client_requests.specs.Decision.{OnlyQueued, Waits};
 ghost use Rattle.handlers.specs.Call.{handshake_call, device_call};
 ghost use Rattle.client_calls.specs.Request.{AsksControl, AsksRows, AsksRowsAt, AsksAll};
@@ -523,7 +523,7 @@ pub extern "C" fn bozterrun_connection_sync(
     refused_interface: &mut u32,
     refused_version: &mut u32,
 ) -> u32
-    ensures { Replies (Promise control out (Plain.sync callback version)) result (λ a. (count.new ≡ a.count) × Detailed refused_interface refused_version a) }
+    ensures { Replies (PromiseUnchanged control out (Plain.sync callback version)) result (λ a. (count.new ≡ a.count) × Detailed refused_interface refused_version a) }
 {
     let answer = client_calls::sync(control, callback, version, out);
     let outcome = answer.outcome;

@@ -1,8 +1,10 @@
 // The calls of a station for C and for Rust: a slice passes as a pointer and a length, what is answered as numbers. include/bozterrun.h
 // declares them. A function answers 0 where its call is accepted, else the number of the refusal.
+#![tactic(auto)]
+
 mod client;
 mod delivery;
-mod events;
+mod event_bytes;
 mod handshakes;
 mod message;
 mod numbers;

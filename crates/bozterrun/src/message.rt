@@ -16,7 +16,7 @@ use wire::ParseError;
 
 // What is told of a message, as numbers. `error` is a case of ParseError, in its order from 1 on. `first` and `second` are the numbers of that case,
 // or the interface and the version of refusal 2. What there is not is 0.
-#[derive(Drop)]
+#[derive(Clone, Copy)]
 pub struct MessageTold {
     pub status: u32,
     pub taken: usize,

@@ -3,15 +3,15 @@
 use Rattle.std.specs.Prelude.{ℕ, List, [], Float}
 use Rattle.model.specs.Call.{Input, Call}
 use Rattle.session.specs.View.{store, Lending}
-use Rattle.session.specs.Slices.{Numbers, Reals, before, after, rows_before, rows_after}
+use Rattle.session.specs.Slices.{Numbers, SharedNumbers, Reals, before, after, rows_before, rows_after}
 use Rattle.answers.specs.Meets.{Answered}
 use Rattle.answers.specs.declared.Answer.{Answer}
 
 -- the control words alone, whatever the requests and the texts are, at any clock
-abbrev pub AsksControl : (control : Numbers) → Call Input → Answer → Type 0
+abbrev pub AsksControl : (control : SharedNumbers) → Call Input → Answer → Type 0
 AsksControl c call a =
     (clock : ℕ) (w : List ℕ) (r : List Float) (t : List ℕ)
-    → Answered Lending.control (store c.entry.now w r t) (store c.exit.now w r t) [] [] call clock a
+    → Answered Lending.control (store c.entry.now w r t) (store c.entry.now w r t) [] [] call clock a
 
 -- the rows of requests too, at the clock that the call is given
 abbrev pub AsksRowsAt : (control words : Numbers) (reals : Reals) → Call Input → (clock : ℕ) → Answer → Type 0

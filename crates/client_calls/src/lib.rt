@@ -1,8 +1,10 @@
 // A client's requests, each a call that is lent what it uses: 21's test, then its handler. A caller that has no `Request` in hand, as one
 // that calls from C, needs none.
+#![tactic(auto)]
+
 ghost use Rattle.std.specs.Prelude.{ℕ};
 ghost use Rattle.model.specs.Call.{Input, Plain, Call};
-ghost use Rattle.answers.specs.Promise.{Promise, PromiseRows, Reply};
+ghost use Rattle.answers.specs.Promise.{Promise, PromiseUnchanged, PromiseRows, Reply};
 ghost use Rattle.client_requests.specs.Decision.{OnlyQueued, Waits};
 ghost use Rattle.handlers.specs.Call.{handshake_call, seat_call, device_call, touchscreen_call};
 ghost use Rattle.client_calls.specs.Request.{AsksControl, AsksRows, AsksRowsAt, AsksAll};
@@ -184,7 +186,7 @@ pub fn release_interface(
 }
 
 pub fn sync(control: &[u64], callback: u64, version: u32, out: &mut [u8]) -> Answer
-    ensures { Promise control out (Plain.sync callback version) result }
+    ensures { PromiseUnchanged control out (Plain.sync callback version) result }
 {
     if !control::sound(control) {
         return Answer::refused(Error::BadState);

@@ -16,7 +16,7 @@ use Rattle.model.specs.Session.{fresh}
 use Rattle.control.specs.Table.{tab}
 use Rattle.control.specs.Control.{control_length}
 use Rattle.session.specs.View.{store, session, words_length, reals_length, texts_length, Whole}
-use Rattle.session.specs.Slices.{Numbers}
+use Rattle.session.specs.Slices.{Numbers, SharedNumbers}
 use Rattle.lent_handshake.specs.declared.HandshakeReply.{HandshakeReply}
 use Rattle.lent_handshake.specs.declared.MessageReply.{MessageReply}
 use Rattle.lent_handshake.specs.declared.Client.{Client}
@@ -204,5 +204,5 @@ abbrev pub Receives : (words name control out : Numbers) (message : List ℕ) �
 Receives w n c out message r =
     Received w.entry.now n.entry.now w.exit.now n.exit.now c.entry.now c.exit.now message out.entry.now out.exit.now r
 
-abbrev pub Names : (words name : Numbers) → Client → Type 0
+abbrev pub Names : (words name : SharedNumbers) → Client → Type 0
 Names w n r = Named w.entry.now n.entry.now r

@@ -1,4 +1,6 @@
 // A handshake in two lent slices, for callers that cannot hold one by value: seventeen words, and the bytes of the client's name.
+#![tactic(auto)]
+
 ghost use Rattle.std.specs.Prelude.{◌%◌, ◌≡◌, true, ◌&&◌, [], eqb, length, get_or};
 ghost use Rattle.control.specs.Control.{control_length};
 ghost use Rattle.handshake.specs.View.{context_of, version_in, versions_of, view_of, is_sound, request_of};
@@ -33,7 +35,7 @@ const INTERFACES: usize = 12;
 pub const HANDSHAKE_LENGTH: usize = VERSIONS + INTERFACES;
 
 // What a call answers besides the slices.
-#[derive(Drop)]
+#[derive(Clone, Copy)]
 pub struct HandshakeReply {
     pub outcome: HandshakeOutcome,
     pub count: usize,
@@ -299,7 +301,7 @@ pub fn finish(
 }
 
 // What a message answers besides the slices: what became of it, the reply to its request, and how many of its bytes were taken.
-#[derive(Drop)]
+#[derive(Clone, Copy)]
 pub struct MessageReply {
     pub told: Told,
     pub reply: HandshakeReply,
@@ -352,7 +354,7 @@ pub fn pending_request(
 }
 
 // Who the client says it is.
-#[derive(Drop)]
+#[derive(Clone, Copy)]
 pub enum Client {
     // How long its name is, whether it was said, and the number of the context type, 0 where none was said.
     Known {

@@ -1,4 +1,6 @@
 // A whole read in lent slices, for callers that have numbers and no `Request`: each record is eight words and two reals (record, numbers).
+#![tactic(auto)]
+
 ghost use Rattle.std.specs.Prelude.{◌≡◌, map};
 ghost use Rattle.reads.specs.Record.{entry_of};
 ghost use Rattle.reads.specs.Handed.{HandsOver};

@@ -17,7 +17,7 @@ pub const RECORD_WORDS: usize = 8;
 pub const RECORD_REALS: usize = 2;
 
 // A record's numbers: which request, on what object, its arguments that are whole numbers and those that are reals, and the part of its text.
-#[derive(Drop)]
+#[derive(Clone, Copy)]
 pub struct RequestCell {
     pub request: u64,
     pub object: u64,

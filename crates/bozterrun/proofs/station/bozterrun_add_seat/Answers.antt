@@ -1,0 +1,18 @@
+-- The call's answer, as numbers. Assumes nothing.
+use mathlib.Core.Path.{refl}
+use native.Mathlib.Omega.{arith}
+use Rattle.bozterrun.proofs.station.bozterrun_add_seat.Goals as goal
+
+pub returns-then-given-gt1 : goal.returns-then-given-gt1
+returns-then-given-gt1 c =
+    record {
+      gave = λ low. absurd (omega arith);
+      value = λ high. (refl, (refl, (refl, (refl, refl))));
+    }
+
+pub returns : goal.returns
+returns c =
+    record {
+      gave = λ low. record { answer = c.add_seat-answer.result; promised = c.add_seat-answer.ensures; status_is = c.status.ensures; rest = (refl, c.value.ensures) };
+      value = λ high. absurd (omega arith);
+    }

@@ -1,0 +1,13 @@
+-- The cell is the request's, as it came, and its state that of the number. Assumes nothing.
+use Rattle.requests.specs.Row.{entry}
+use Rattle.requests.specs.declared.request.EisRequest.{EisRequest}
+use Rattle.model.specs.Call.{Input, sight, load}
+use Rattle.model.specs.Edit.{item}
+use Rattle.session.specs.View.{request_in, item_in, request_at, item_at}
+use Rattle.handlers.proofs.Timed.{row-waits}
+use borrow.Author.Rules.{rules}
+use Rattle.client_calls.proofs.cells.keyboard_key.Goals as goal
+
+pub returns : goal.returns
+unfolding sight load item item_at request_at request_in item_in entry
+returns c = row-waits (Input.Key _ _) (EisRequest.KeyboardKey 0 0 _ _) c.keyboard_key.ensures (λ t. rw c.key_state.ensures)

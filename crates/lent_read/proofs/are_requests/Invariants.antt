@@ -1,0 +1,14 @@
+-- The slices hold whole records, and those that were looked at are requests'. Assumes nothing.
+use Prim.Native.Nat.{◌-◌, ◌≤◌}
+use mathlib.Core.Path.{◌≡◌}
+use mathlib.Core.Bool.{true}
+use Rattle.eiproto.specs.Bits.{every}
+use Rattle.control.specs.Table.{tab}
+use Rattle.lent_read.specs.Numbers.{is_request, cell_at}
+use Rattle.lent_read.proofs.are_requests.Given as goal
+
+abbrev pub invariant-loop-i : goal.invariant-loop-i
+invariant-loop-i l = (l.i ≤ l.n) × (every is_request (tab l.i (cell_at l.records l.points)) ≡ true)
+
+abbrev pub decreases-loop-i : goal.decreases-loop-i
+decreases-loop-i l = l.n - l.i
