@@ -109,8 +109,8 @@ turns {clock} {e = e} {out = out} {later = later} (Others.request {call = call} 
       after = refl;
       none_given = refl;
     }
-turns {clock} {out = out} (Others.request {call = call} other os) (Singly.accepted {m = m} {mid = mid} {answer = answer} a o rest) =
-    let t = turns os rest in
+turns {clock} {s = s} {out = out} (Others.request {call = call} other os) (Singly.accepted {m = m} {mid = mid} {answer = answer} a o rest) =
+    let t = turns {s = m} os rest in
     record {
       singles = Exchange.called call other clock out mid answer m ∷ t.singles;
       in_turn = InTurn.accepted o t.in_turn;

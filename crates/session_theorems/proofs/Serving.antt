@@ -1,7 +1,7 @@
 -- A connection from its handshake's first call on: the handshake's own theorems, the session that its Finish settled, and the theorems of sessions. Assumes nothing.
 use Prim.Native.Nat.{ℕ, ◌+◌}
 use mathlib.Core.Path.{◌≡◌, refl, sym, ap, ◌∙◌}
-use mathlib.Core.Bool.{true, false, false≢true}
+use mathlib.Core.Bool.{true, false≢true}
 use mathlib.Core.List.{List, [], ◌∷◌, ◌++◌, map}
 use lib.ListN.{length, take}
 use Rattle.handshake.specs.Handshake as paper

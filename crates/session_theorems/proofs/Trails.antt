@@ -31,7 +31,7 @@ use Rattle.answers.specs.declared.Answer.{Answer}
 use Rattle.answers.proofs.Meetings.{answered-handled, error_refuses}
 use Rattle.converter.specs.Next.{next_outcome, given_in}
 use Rattle.converter.specs.declared.request.NextRequest.{NextRequest}
-use Rattle.session_theorems.specs.Trail.{Exchange, turn_of, Calls, slices_after, serial_in, SeenIsRun, all_of_session, Never21, FreshCalls, delivered_to, given_to, AlwaysGivenInOrder, SeenNothingLost, Told, SeenLives, SeenReleaseIsRemoval}
+use Rattle.session_theorems.specs.Trail.{Exchange, turn_of, Calls, slices_after, serial_in, seen, SeenIsRun, all_of_session, Never21, FreshCalls, delivered_to, given_to, AlwaysGivenInOrder, SeenNothingLost, Told, SeenLives, SeenReleaseIsRemoval}
 use Rattle.session_theorems.proofs.Deliveries.{is_given, step-gave, step-quiet, asked-silent}
 
 -- what the definitions say of calls of the code
@@ -83,16 +83,22 @@ asked-quiet clock buffer s = step-quiet (split (turn (Call.plain Plain.next_requ
 
 -- ---- what is seen
 
+-- of one call, with any step in the place of the model's
+called-seen : (call : Call Input) (other : call ≡ Call.plain Plain.next_request → ⊥) (clock : ℕ) {s e : Store} (out : List ℕ) {later : List ℕ} {T : Type 0} {to : Step Load} {answer : Answer}
+    → Meets s e out later T to answer → to.gave ≡ [] → seen (Exchange.called call other clock out later answer e) ≡ observed to
+unfolding observed
+called-seen call other clock {e = e} out m g =
+    let b = bytes_are out m in
+    let n = serial_is e m.view in
+    λ i. record { outcome = m.outcome i; count = m.count i; bytes = b i; last_serial = n i; given = map (map_queued blank) (sym g i) }
+
 pub seen_is_run : SeenIsRun
 unfolding run observed records
 seen_is_run s [] whole Calls.none = refl
 seen_is_run s (Exchange.called call other clock out later answer e ∷ xs) whole (Calls.called a rest) =
     let m = answered-handled s a whole in
-    let b = bytes_are out m in
-    let n = serial_is e m.view in
-    let g = call-gave call clock out m in
     ap₂ (λ (o : Observed) (os : List Observed). o ∷ os)
-    (λ i. record { outcome = m.outcome i; count = m.count i; bytes = b i; last_serial = n i; given = map (map_queued blank) (sym g i) })
+    (called-seen call other clock out m (call-gave call clock out m))
     (seen_is_run e xs (whole_is e m.whole) rest ∙ ap (λ (t : Session Load). map observed (run_of xs t)) m.view)
 seen_is_run s (Exchange.asked clock buffer later answer e ∷ xs) whole (Calls.asked a rest) =
     let m = a.handled clock whole in
