@@ -1,4 +1,6 @@
 // Call scripts: a line is a comment, a setting, a call with its arguments, or no call.
+#![tactic(auto)]
+
 mod line;
 mod text;
 mod value;

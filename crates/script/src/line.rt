@@ -9,7 +9,7 @@ use crate::verb::{Found, Slot, Verb};
 use crate::{value, verb, word};
 
 // What the words behind the first stand for, in their order.
-#[derive(Drop)]
+#[derive(Clone, Copy)]
 pub struct Args {
     pub a: Value,
     pub b: Value,
@@ -17,7 +17,7 @@ pub struct Args {
     pub d: Value,
 }
 
-#[derive(Drop)]
+#[derive(Clone, Copy)]
 pub enum Line {
     // An empty line, or a comment.
     Blank,
@@ -26,14 +26,14 @@ pub enum Line {
     NoCall,
 }
 
-#[derive(Drop)]
+#[derive(Clone, Copy)]
 enum Read {
     Args(Args),
     Nothing,
 }
 
 // What stands in a slot behind a word that ends at a place, and where that ends.
-#[derive(Drop)]
+#[derive(Clone, Copy)]
 enum Step {
     Read { value: Value, next: usize },
     Nothing,
@@ -118,7 +118,7 @@ pub fn parse(line: &[u8], within: bool) -> Line
     Line::Call { verb, args }
 }
 
-#[derive(Drop)]
+#[derive(Clone, Copy)]
 pub enum LineEnd {
     // Where the line ends, and where the next begins.
     At { end: usize, next: usize },

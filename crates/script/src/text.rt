@@ -5,14 +5,14 @@ ghost use Rattle.script.specs.Text.{is_text, text_bytes, Copied};
 use crate::word;
 
 // Where the first digit stands in the line, and how many bytes the digits are.
-#[derive(Drop)]
+#[derive(Clone, Copy)]
 pub struct Text {
     pub start: usize,
     pub bytes: usize,
 }
 
 // A part of a read's texts: where it begins there, and how many bytes it has.
-#[derive(Drop)]
+#[derive(Clone, Copy)]
 pub struct Part {
     pub start: u64,
     pub length: u64,

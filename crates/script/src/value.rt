@@ -9,7 +9,7 @@ use crate::verb::Kind;
 use crate::word::Number;
 use crate::{text, word};
 
-#[derive(Drop)]
+#[derive(Clone, Copy)]
 pub enum Value {
     // There is no such word.
     Nothing,
@@ -24,7 +24,7 @@ pub enum Value {
 }
 
 // What a word is read as; nothing where it cannot be.
-#[derive(Drop)]
+#[derive(Clone, Copy)]
 pub enum Word {
     Is(Value),
     Nothing,

@@ -6,7 +6,7 @@ ghost use Rattle.script.specs.Verbs.{row_at, kind_in, kinds_of, slot_within, slo
 use crate::word;
 
 // The first word of a line, without its dots and underscores.
-#[derive(Drop)]
+#[derive(Clone, Copy)]
 pub enum Verb {
     Now,
     Out,
@@ -70,7 +70,7 @@ pub enum Verb {
 }
 
 // What a word is read as.
-#[derive(Drop)]
+#[derive(Clone, Copy)]
 pub enum Kind {
     U64,
     U32,
@@ -96,7 +96,7 @@ pub enum Kind {
 }
 
 // One of the four places for a word behind the first.
-#[derive(Drop)]
+#[derive(Clone, Copy)]
 pub enum Slot {
     Empty,
     Of(Kind),
@@ -226,7 +226,7 @@ const VERBS: [Verb; 59] = [
 ];
 
 // The row of a first word, counted from 0.
-#[derive(Drop)]
+#[derive(Clone, Copy)]
 pub enum Found {
     Row(usize),
     Nothing,

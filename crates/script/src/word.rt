@@ -68,7 +68,7 @@ fn wide(x: u8) -> u64
 }
 
 // A number of 64 bits, if there is one.
-#[derive(Drop)]
+#[derive(Clone, Copy)]
 pub enum Number {
     Is(u64),
     Nothing,

@@ -1,5 +1,7 @@
 // What a line of a call script asks for, by its first word and the words behind it. Those are read before the cases: each case that calls a function
 // makes the check longer.
+#![tactic(auto)]
+
 ghost use Rattle.std.specs.Prelude.{◌≡◌};
 ghost use Rattle.script_asked.specs.Asked.{asked, told, words_of, key_state, button_state, device_type, reason, capability};
 
@@ -16,7 +18,7 @@ use requests::eis::{
 use script::{Args, Value, Verb};
 
 // The calls that add a seat or a device. The name is lent beside them, and so is every text below.
-#[derive(Drop)]
+#[derive(Clone, Copy)]
 pub enum Add {
     Seat {
         capabilities: u64,
@@ -29,7 +31,7 @@ pub enum Add {
 }
 
 // The calls that remove a seat or a device, or all of them.
-#[derive(Drop)]
+#[derive(Clone, Copy)]
 pub enum Remove {
     Seat { seat: u64 },
     Device { device: u64 },
@@ -37,7 +39,7 @@ pub enum Remove {
 }
 
 // The calls that tell the client of a device.
-#[derive(Drop)]
+#[derive(Clone, Copy)]
 pub enum Tell {
     Resumed { device: u64 },
     Paused { device: u64 },
@@ -47,7 +49,7 @@ pub enum Tell {
 }
 
 // The calls that ask.
-#[derive(Drop)]
+#[derive(Clone, Copy)]
 pub enum Ask {
     LastSerial,
     HasInterface,
@@ -59,14 +61,14 @@ pub enum Ask {
 }
 
 // An event's record written as its message, or read from it, on an interface of this number. The bytes are lent beside it.
-#[derive(Drop)]
+#[derive(Clone, Copy)]
 pub enum Event {
     Write { interface: u32 },
     Read { interface: u32 },
 }
 
 // A call of the station. The calls stand in groups that are lent the same slices to be changed.
-#[derive(Drop)]
+#[derive(Clone, Copy)]
 pub enum Station {
     Add(Add),
     Remove(Remove),
@@ -74,7 +76,7 @@ pub enum Station {
     Ask(Ask),
 }
 
-#[derive(Drop)]
+#[derive(Clone, Copy)]
 pub enum Asked {
     // Settings.
     Now(u64),
@@ -144,7 +146,7 @@ fn capability_of(v: Value) -> DeviceCapability
 }
 
 // The words behind the first, each as what a call may want of it.
-#[derive(Drop)]
+#[derive(Clone, Copy)]
 pub struct Words {
     pub a64: u64,
     pub a32: u32,

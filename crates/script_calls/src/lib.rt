@@ -1,5 +1,7 @@
 // The station's calls of a script, made. They go by groups that are lent the same slices to be changed: a function with a case for each call takes
 // minutes to check.
+#![tactic(auto)]
+
 ghost use Rattle.answers.specs.Promise.{Promise, PromiseRows, Reply};
 ghost use Rattle.script_calls.specs.Station.{add_call, remove_call, tell_call, ask_call, PromiseStation};
 

@@ -6,14 +6,14 @@ use Rattle.event_messages.specs.declared.Written.{Written}
 use Rattle.script_asked.specs.declared.Event.{Event}
 use Rattle.script_pattern.specs.Pattern.{first_event, shown, bytes_of}
 use Rattle.script_pattern.specs.declared.table.Shown.{Shown}
-use Rattle.script_show.specs.Answer.{result}
+use Rattle.script_show.specs.Answer.{result_shown}
 use Rattle.script_show.specs.Records.{each_record, record_bytes}
 
 -- "They are refused with 26 and 19, with 23 (without a case) and 19"
 abbrev pub refused : (explained : Bool) → MessageError → Shown
-refused x MessageError.Unsendable = result x (Result.refused 26)
-refused x MessageError.Malformed = result x (Result.refused 23)
-refused x MessageError.ShortOut = result x (Result.refused 19)
+refused x MessageError.Unsendable = result_shown x (Result.refused 26)
+refused x MessageError.Malformed = result_shown x (Result.refused 23)
+refused x MessageError.ShortOut = result_shown x (Result.refused 19)
 
 -- the pattern of what was turned: "`message t:HEX` · `record t:HEX`"
 abbrev pub event_pattern : Event → ℕ

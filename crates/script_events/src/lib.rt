@@ -1,4 +1,6 @@
 // An event's record and its message in a call script: each turned into the other, and what a trail has of that.
+#![tactic(auto)]
+
 mod call;
 mod show;
 

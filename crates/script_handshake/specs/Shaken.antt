@@ -5,7 +5,7 @@ use Rattle.eiproto.specs.declared.eiproto_enum.ContextType.{ContextType}
 use Rattle.eiproto.specs.declared.eiproto_enum.ContextTypeOf.{ContextTypeOf}
 use Rattle.requests.specs.declared.eis.HandshakeRequest.{HandshakeRequest}
 use Rattle.requests.specs.declared.eis.Request.{Request}
-use Rattle.session.specs.Slices.{Numbers}
+use Rattle.session.specs.Slices.{Numbers, SharedNumbers}
 use Rattle.handshake.specs.Handshake as paper
 use Rattle.handshake.specs.View.{request_of, is_finished, Meets, Handled}
 use Rattle.handshake.specs.declared.handshake.EisHandshaker.{EisHandshaker}
@@ -44,7 +44,7 @@ abbrev pub StartsIn : (serial said : ℕ) (out : Numbers) → HandshakeAnswer �
 StartsIn serial said out r = InRoom said out.entry.now out.exit.now (λ lent later. Meets lent later (paper.start serial (length lent)) r)
 
 -- a request of the handshake, with the line's text
-abbrev pub HandledIn : EisHandshaker → HandshakeMessage → (text : Numbers) (said : ℕ) (out : Numbers) → HandshakeAnswer → Type 0
+abbrev pub HandledIn : EisHandshaker → HandshakeMessage → (text : SharedNumbers) (said : ℕ) (out : Numbers) → HandshakeAnswer → Type 0
 HandledIn h request text said out r = InRoom said out.entry.now out.exit.now (λ lent later. Handled h (request_of request text.entry.now) lent later r)
 
 -- the control words c become those of a session that begins where a Finish succeeded, and are left alone otherwise

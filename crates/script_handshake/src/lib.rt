@@ -1,4 +1,6 @@
 // A line of a call script before the session: a request of the handshake, at whose end the session begins.
+#![tactic(auto)]
+
 ghost use Rattle.std.specs.Prelude.{◌≡◌};
 ghost use Rattle.handshake.specs.View.{is_finished};
 ghost use Rattle.script_handshake.specs.Shaken.{context_type, handshake_message, message_of, StartsIn, HandledIn, Opens};

@@ -14,11 +14,11 @@ use Rattle.answers.specs.declared.Outcome.{Outcome}
 use Rattle.handshake.specs.contracts.handshake.HandshakeOutcome as shakings
 use Rattle.handshake.specs.declared.handshake.HandshakeOutcome.{HandshakeOutcome}
 use Rattle.script_pattern.specs.Pattern.{first_message, shown}
-use Rattle.script_show.specs.Answer.{result}
+use Rattle.script_show.specs.Answer.{result_shown}
 use Rattle.script_message.specs.Shown.{taken_outcome, handshake_taken}
 
 -- one that is not Accepted is shown as elsewhere
-pub not-accepted : (x : Bool) (n : ℕ) (o : Outcome) → OneOf (run 1 6) (tag_of outcomes.the_type o) → result x (outcome_of o) ≡ taken_outcome x n o
+pub not-accepted : (x : Bool) (n : ℕ) (o : Outcome) → OneOf (run 1 6) (tag_of outcomes.the_type o) → result_shown x (outcome_of o) ≡ taken_outcome x n o
 not-accepted x n (Outcome.Refused e) o = refl
 not-accepted x n (Outcome.Seat id) o = refl
 not-accepted x n (Outcome.Device id) o = refl

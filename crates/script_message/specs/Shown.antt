@@ -10,7 +10,7 @@ use Rattle.wire.specs.declared.ParseError.{ParseError}
 use Rattle.messages.specs.declared.Received.{Received}
 use Rattle.script_pattern.specs.Pattern.{first_message, first_malformed, shown}
 use Rattle.script_pattern.specs.declared.table.Shown.{Shown}
-use Rattle.script_show.specs.Answer.{result, handshake_outcome, line_of}
+use Rattle.script_show.specs.Answer.{result_shown, handshake_outcome, line_of}
 
 -- a case of 23 by its place among the seven; explained, with its name
 abbrev pub malformed_at : (place : ℕ) → (explained : Bool) → ℕ
@@ -29,12 +29,12 @@ malformed x ParseError.InvalidNull = shown (malformed_at 6 x) 23 0 0 0 0
 -- "`accepted taken 24`: of one that stands for a call that was accepted"; "the refusals of the call have no more than elsewhere"
 abbrev pub taken_outcome : (explained : Bool) → (taken : ℕ) → Outcome → Shown
 taken_outcome x n Outcome.Accepted = shown first_message n 0 0 0 0
-taken_outcome x n (Outcome.Refused e) = result x (error_of e)
-taken_outcome x n (Outcome.Seat id) = result x (Result.seat id)
-taken_outcome x n (Outcome.Device id) = result x (Result.device id)
-taken_outcome x n (Outcome.Value m) = result x (Result.value m)
-taken_outcome x n (Outcome.Truth b) = result x (Result.truth b)
-taken_outcome x n Outcome.None = result x Result.none
+taken_outcome x n (Outcome.Refused e) = result_shown x (error_of e)
+taken_outcome x n (Outcome.Seat id) = result_shown x (Result.seat id)
+taken_outcome x n (Outcome.Device id) = result_shown x (Result.device id)
+taken_outcome x n (Outcome.Value m) = result_shown x (Result.value m)
+taken_outcome x n (Outcome.Truth b) = result_shown x (Result.truth b)
+taken_outcome x n Outcome.None = result_shown x Result.none
 
 abbrev pub handshake_taken : (explained : Bool) → (taken : ℕ) → HandshakeOutcome → Shown
 handshake_taken x n HandshakeOutcome.Accepted = shown first_message n 0 0 0 0
@@ -44,7 +44,7 @@ handshake_taken x n (HandshakeOutcome.Refused e) = handshake_outcome x (Handshak
 -- "`wait`: of one not yet whole"; 24 is the number of an id that is not alive
 abbrev pub message_shown : (explained : Bool) → Received → Shown
 message_shown x Received.Wait = shown (first_message + 1) 0 0 0 0 0
-message_shown x Received.NoObject = result x (Result.refused 24)
+message_shown x Received.NoObject = result_shown x (Result.refused 24)
 message_shown x (Received.Malformed e) = malformed x e
 message_shown x (Received.Handed a n) = taken_outcome x n a.outcome
 

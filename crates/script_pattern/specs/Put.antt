@@ -1,6 +1,6 @@
 -- What writing into a lent line does. Assumes nothing.
 use Rattle.std.specs.Prelude.{ℕ, ◌+◌, min, max, List, ◌≡◌, length}
-use Rattle.std.specs.Borrow.{Bor}
+use Rattle.std.specs.Borrow.{MutBor}
 use denote.Triple.Both.{Both}
 use Rattle.std.proofs.lemmas.List.Edits.{sets}
 
@@ -11,5 +11,5 @@ pub record Put (line later : List ℕ) (at r : ℕ) (bytes : List ℕ) : Type 0 
   pub next : r ≡ max at (min (at + length bytes) (length line))
 
 -- the same of a line that a function is lent, which has its bytes at entry and at exit
-abbrev pub Puts : Both (Bor (List ℕ)) (Bor (List ℕ)) → (at r : ℕ) → (bytes : List ℕ) → Type 0
+abbrev pub Puts : Both (MutBor (List ℕ)) (MutBor (List ℕ)) → (at r : ℕ) → (bytes : List ℕ) → Type 0
 Puts line at r bytes = Put line.entry.now line.exit.now at r bytes

@@ -6,7 +6,7 @@ ghost use Rattle.script_pattern.specs.Pattern.{shown, values, pattern_at, padded
 use crate::mark;
 
 // A pattern's number, and the values for its marks in their order.
-#[derive(Drop)]
+#[derive(Clone, Copy)]
 pub struct Shown {
     pub pattern: usize,
     pub a: u64,

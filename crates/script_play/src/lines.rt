@@ -1,38 +1,39 @@
 // A file in pieces, line by line. A line of more than 65,536 bytes is no call.
-ghost use Rattle.std.specs.Prelude.{◌≤◌, ◌<◌, ◌≡◌, length};
+ghost use Rattle.std.specs.Prelude.{◌≤◌, ◌<◌, ◌≡◌, length, IfOk};
 ghost use Rattle.script_read.specs.Read.{Fits};
 
 use crate::{End, told};
 use script::LineEnd;
 use script_read::Reading;
 use script_run::Run;
+use std::io;
+use std::io::{Read, Write};
 
-// How much of the buffer is filled, whether the input has ended, and whether it cannot be read.
-#[derive(Drop)]
+// How much of the buffer is filled, whether the input has ended, and why it cannot be read.
+#[derive(Clone, Copy)]
 struct Filled {
     filled: usize,
     last: bool,
-    failed: bool,
+    failed: Option<io::Error>,
 }
 
 // Whether a line ends in what is filled, where, and where the next begins.
-#[derive(Drop)]
+#[derive(Clone, Copy)]
 struct Ended {
     found: bool,
     end: usize,
     next: usize,
 }
 
-// What the lines have come to, the read that is open, and whether the trail could be written.
-#[derive(Drop)]
+// What the lines have come to, and the read that is open.
+#[derive(Clone, Copy)]
 struct Play {
     run: Run,
     reading: Reading,
-    wrote: bool,
 }
 
 // Where the line begins that has not ended, whether its first bytes are gone, and what the lines before it have come to.
-#[derive(Drop)]
+#[derive(Clone, Copy)]
 struct Begun {
     at: usize,
     cut: bool,
@@ -40,47 +41,38 @@ struct Begun {
 }
 
 // How much of the buffer is filled with a line that has not ended, and whether its first bytes are gone.
-#[derive(Drop)]
+#[derive(Clone, Copy)]
 struct Kept {
     filled: usize,
     cut: bool,
 }
 
 // What one reading has come to.
-#[derive(Drop)]
+#[derive(Clone, Copy)]
 struct Progress {
     filled: usize,
     cut: bool,
     play: Play,
     last: bool,
-    failed: bool,
+    failed: Option<io::Error>,
 }
 
 // Reads once, behind what is filled.
-fn fill(fd: i32, buf: &mut [u8], filled: usize) -> Filled
+fn fill(from: &mut impl Read, buf: &mut [u8], filled: usize) -> Filled
     requires { filled ≤ length buf.old }
     ensures { result.filled ≤ length buf.new }
 {
-    let got = libc::read(fd, &mut buf[filled..]);
-    if got < 0 {
-        return Filled {
+    match from.read(&mut buf[filled..]) {
+        Ok(got) => Filled {
+            filled: filled + got,
+            last: got == 0,
+            failed: None,
+        },
+        Err(e) => Filled {
             filled,
             last: false,
-            failed: true,
-        };
-    }
-    if got == 0 {
-        return Filled {
-            filled,
-            last: true,
-            failed: false,
-        };
-    }
-    let count = io::count(got, &buf[filled..]);
-    Filled {
-        filled: filled + count,
-        last: false,
-        failed: false,
+            failed: Some(e),
+        },
     }
 }
 
@@ -114,6 +106,8 @@ fn end_of(buf: &[u8], at: usize, filled: usize, last: bool) -> Ended
 
 // Carries a line out and tells it.
 fn play_line(
+    to: &mut impl Write,
+    reasons: &mut impl Write,
     run: Run,
     reading: Reading,
     control: &mut [u64],
@@ -126,27 +120,26 @@ fn play_line(
     line: &[u8],
     cut: bool,
     explained: bool,
-) -> Play
+) -> io::Result<Play>
     requires { Fits reading records.old points.old lent.old }
-    ensures { Fits result.reading records.new points.new lent.new }
+    ensures { IfOk result (λ p. Fits p.reading records.new points.new lent.new) }
 {
     let mut out = [0u8; 4096];
     let taken = script_read::take(
         run, reading, control, words, reals, texts, records, points, lent, line, cut, &mut out,
     );
     let took = taken.took;
-    let wrote = told::tell(took, line, &out, explained);
-    let after = took.run;
-    let open = taken.reading;
-    Play {
-        run: after,
-        reading: open,
-        wrote,
-    }
+    told::tell(to, reasons, took, line, &out, explained)?;
+    Ok(Play {
+        run: took.run,
+        reading: taken.reading,
+    })
 }
 
-// Plays a line; once the trail cannot be written, none.
+// Plays the next line. Once the trail cannot be written, none is: the error has ended the run.
 fn step(
+    to: &mut impl Write,
+    reasons: &mut impl Write,
     play: Play,
     control: &mut [u64],
     words: &mut [u64],
@@ -158,22 +151,22 @@ fn step(
     line: &[u8],
     cut: bool,
     explained: bool,
-) -> Play
+) -> io::Result<Play>
     requires { Fits play.reading records.old points.old lent.old }
-    ensures { Fits result.reading records.new points.new lent.new }
+    ensures { IfOk result (λ p. Fits p.reading records.new points.new lent.new) }
 {
-    if play.wrote {
-        let run = play.run;
-        let reading = play.reading;
-        return play_line(
-            run, reading, control, words, reals, texts, records, points, lent, line, cut, explained,
-        );
-    }
-    play
+    let run = play.run;
+    let reading = play.reading;
+    play_line(
+        to, reasons, run, reading, control, words, reals, texts, records, points, lent, line, cut,
+        explained,
+    )
 }
 
 // Goes through the lines that end in what is filled.
 fn take_lines(
+    to: &mut impl Write,
+    reasons: &mut impl Write,
     explained: bool,
     buf: &[u8],
     filled: usize,
@@ -187,9 +180,9 @@ fn take_lines(
     records: &mut [u64],
     points: &mut [f32],
     lent: &mut [u8],
-) -> Begun
+) -> io::Result<Begun>
     requires { (filled ≤ length buf.now) × Fits play.reading records.old points.old lent.old }
-    ensures { (result.at ≤ filled) × Fits result.play.reading records.new points.new lent.new }
+    ensures { IfOk result (λ b. (b.at ≤ filled) × Fits b.play.reading records.new points.new lent.new) }
 {
     let mut at: usize = 0;
     let mut gone = cut;
@@ -198,13 +191,15 @@ fn take_lines(
         let line = end_of(buf, at, filled, last);
         let end = line.end;
         if !line.found {
-            return Begun {
+            return Ok(Begun {
                 at,
                 cut: gone,
                 play: done,
-            };
+            });
         }
         done = step(
+            to,
+            reasons,
             done,
             control,
             words,
@@ -216,15 +211,15 @@ fn take_lines(
             &buf[at..end],
             gone,
             explained,
-        );
+        )?;
         gone = false;
         at = line.next;
     }
-    Begun {
+    Ok(Begun {
         at,
         cut: gone,
         play: done,
-    }
+    })
 }
 
 // Moves what is filled from a place on to the start.
@@ -256,7 +251,9 @@ fn make_room(buf: &mut [u8], at: usize, filled: usize, cut: bool) -> Kept
 
 // Reads once and takes the lines that have ended.
 fn read_some(
-    fd: i32,
+    from: &mut impl Read,
+    to: &mut impl Write,
+    reasons: &mut impl Write,
     explained: bool,
     buf: &mut [u8],
     filled: usize,
@@ -269,69 +266,69 @@ fn read_some(
     records: &mut [u64],
     points: &mut [f32],
     lent: &mut [u8],
-) -> Progress
+) -> io::Result<Progress>
     requires { (filled ≤ length buf.old) × Fits play.reading records.old points.old lent.old }
-    ensures { (result.filled ≤ length buf.new) × Fits result.play.reading records.new points.new lent.new }
+    ensures { IfOk result (λ p. (p.filled ≤ length buf.new) × Fits p.play.reading records.new points.new lent.new) }
 {
-    let got = fill(fd, buf, filled);
+    let got = fill(from, buf, filled);
     let begun = take_lines(
-        explained, buf, got.filled, got.last, cut, play, control, words, reals, texts, records,
-        points, lent,
-    );
+        to, reasons, explained, buf, got.filled, got.last, cut, play, control, words, reals, texts,
+        records, points, lent,
+    )?;
     let kept = make_room(buf, begun.at, got.filled, begun.cut);
     let after = begun.play;
-    Progress {
+    Ok(Progress {
         filled: kept.filled,
         cut: kept.cut,
         play: after,
         last: got.last,
         failed: got.failed,
-    }
+    })
 }
 
 // Behind the last line: a read that is still open ends the trail.
-fn close(play: Play, last: bool, explained: bool) -> Play
-    ensures { result.reading ≡ play.reading }
+fn close(
+    to: &mut impl Write,
+    reasons: &mut impl Write,
+    play: Play,
+    last: bool,
+    explained: bool,
+) -> io::Result<Play>
+    ensures { IfOk result (λ p. p.reading ≡ play.reading) }
 {
     if !last {
-        return play;
-    }
-    if !play.wrote {
-        return play;
+        return Ok(play);
     }
     let run = play.run;
     let reading = play.reading;
     let took = script_read::end(run, reading);
-    let wrote = told::tell_end(took, explained);
-    let after = took.run;
-    Play {
-        run: after,
+    told::tell_end(to, reasons, took, explained)?;
+    Ok(Play {
+        run: took.run,
         reading,
-        wrote,
-    }
+    })
 }
 
 // How the script has ended; `Played` where it has not.
-fn end_by(wrote: bool, ended: bool, failed: bool) -> End {
-    if !wrote {
-        return End::Unwritten;
-    }
+fn end_by(ended: bool, failed: Option<io::Error>) -> End {
     if ended {
         return End::Wrong;
     }
-    if failed {
-        return End::Unread;
+    match failed {
+        Some(e) => End::Unread(e),
+        None => End::Played,
     }
-    End::Played
 }
 
-fn is_over(wrote: bool, ended: bool, failed: bool, last: bool) -> bool {
-    !wrote || ended || failed || last
+fn is_over(ended: bool, failed: bool, last: bool) -> bool {
+    ended || failed || last
 }
 
-// A proved loop has to end, and nothing says that the input does. So the loop counts its turns down, from a number that no run uses up.
+// A proved loop has to end, and nothing says that the input does. So the loop counts its turns, up to a number that no run reaches.
 pub fn read_all(
-    fd: i32,
+    from: &mut impl Read,
+    to: &mut impl Write,
+    reasons: &mut impl Write,
     explained: bool,
     buf: &mut [u8],
     run: Run,
@@ -348,22 +345,25 @@ pub fn read_all(
     let mut done = Play {
         run,
         reading: script_read::none(),
-        wrote: true,
     };
-    let mut turns = u64::MAX;
-    while 0 < turns {
-        let turn = read_some(
-            fd, explained, buf, filled, cut, done, control, words, reals, texts, records, points,
-            lent,
-        );
-        done = close(turn.play, turn.last, explained);
+    for _ in 0..u64::MAX {
+        let turn = match read_some(
+            from, to, reasons, explained, buf, filled, cut, done, control, words, reals, texts,
+            records, points, lent,
+        ) {
+            Ok(turn) => turn,
+            Err(e) => return End::Unwritten(e),
+        };
+        done = match close(to, reasons, turn.play, turn.last, explained) {
+            Ok(closed) => closed,
+            Err(e) => return End::Unwritten(e),
+        };
         let so_far = done.run;
-        if is_over(done.wrote, so_far.ended, turn.failed, turn.last) {
-            return end_by(done.wrote, so_far.ended, turn.failed);
+        if is_over(so_far.ended, turn.failed.is_some(), turn.last) {
+            return end_by(so_far.ended, turn.failed);
         }
         filled = turn.filled;
         cut = turn.cut;
-        turns -= 1;
     }
     End::Played
 }

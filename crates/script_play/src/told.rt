@@ -1,6 +1,7 @@
 // What a trail has of a line, on standard output; explained, the line itself stands before it.
-use libc::STDOUT_FILENO;
 use script_run::{Told, Took};
+use std::io;
+use std::io::Write;
 
 fn is_quiet(told: Told) -> bool {
     match told {
@@ -24,63 +25,68 @@ fn is_quiet(told: Told) -> bool {
     }
 }
 
-// The first n bytes; answers whether they were written.
-fn put(bytes: &[u8], n: usize) -> bool {
-    let from: usize = 0;
+// The first n bytes. No more than there are.
+fn put(to: &mut impl Write, bytes: &[u8], n: usize) -> io::Result<()> {
     if n <= bytes.len() {
-        return io::write_all(STDOUT_FILENO, &bytes[from..n]);
+        return to.write_all(&bytes[..n]);
     }
-    false
+    Ok(())
 }
 
 // No answer is so long: a call writes at most 4,096 bytes of records.
-fn show(took: Took, out: &[u8], explained: bool) -> bool {
+fn show(to: &mut impl Write, took: Took, out: &[u8], explained: bool) -> io::Result<()> {
     let mut shown = [0u8; 65536];
     let n = script_trail::written(took, out, explained, &mut shown);
-    put(&shown, n)
+    put(to, &shown, n)
 }
 
 // A byte of a line is at most four in letters.
-fn show_call(line: &[u8]) -> bool {
+fn show_call(to: &mut impl Write, line: &[u8]) -> io::Result<()> {
     let mut shown = [0u8; 262147];
     let n = script_show::call_line(&mut shown, line);
-    put(&shown, n)
+    put(to, &shown, n)
 }
 
 // Behind the last line there is no line to show.
-pub fn tell_end(took: Took, explained: bool) -> bool {
+pub fn tell_end(
+    to: &mut impl Write,
+    reasons: &mut impl Write,
+    took: Took,
+    explained: bool,
+) -> io::Result<()> {
     let told = took.told;
     if is_quiet(told) {
-        return true;
+        return Ok(());
     }
     let none = [0u8; 1];
-    if !show(took, &none, explained) {
-        return false;
-    }
+    show(to, took, &none, explained)?;
     let run = took.run;
     if let Told::Error(why) = told {
-        script_why::say(run.line, why, b"");
+        let _ = script_why::say(reasons, run.line, why, b"");
     }
-    true
+    Ok(())
 }
 
-// Writes what there is to tell, and the reason of an error on standard error. Answers whether the trail was written.
-pub fn tell(took: Took, line: &[u8], out: &[u8], explained: bool) -> bool {
+// Writes what there is to tell, and the reason of an error on standard error; that this is written is not asked for.
+pub fn tell(
+    to: &mut impl Write,
+    reasons: &mut impl Write,
+    took: Took,
+    line: &[u8],
+    out: &[u8],
+    explained: bool,
+) -> io::Result<()> {
     let told = took.told;
     if is_quiet(told) {
-        return true;
+        return Ok(());
     }
     if explained {
-        if !show_call(line) {
-            return false;
-        }
+        show_call(to, line)?;
     }
-    if !show(took, out, explained) {
-        return false;
-    }
+    show(to, took, out, explained)?;
     let run = took.run;
     if let Told::Error(why) = told {
-        script_why::say(run.line, why, line);
+        let _ = script_why::say(reasons, run.line, why, line);
     }
-    true
+    Ok(())
 }

@@ -2,7 +2,7 @@
 use Rattle.std.specs.Prelude.{ℕ, ◌+◌, ◌-◌, ◌*◌, ◌≤◌, ◌<◌, ◌≡◌, Bool, false, cond, ◌||◌, List, [], ◌∷◌, ◌++◌, map, eqb, Float, length, take}
 use Rattle.requests.specs.declared.eis.Request.{Request}
 use Rattle.session.specs.View.{Store}
-use Rattle.session.specs.Slices.{Numbers, Reals, before, after}
+use Rattle.session.specs.Slices.{Numbers, Reals, SharedNumbers, SharedReals, before, after}
 use Rattle.answers.specs.declared.Outcome.{Outcome}
 use Rattle.reads.specs.declared.First.{First}
 use Rattle.reads.specs.declared.ReadAnswer.{ReadAnswer}
@@ -132,30 +132,30 @@ pub record Takes (run : Run) (g : Reading) (cut : Bool) (line : List ℕ) (s e :
 
 -- ---- the same of the slices that a function is lent
 
-abbrev pub HandsLent : Run → Reading → (control words : Numbers) (reals : Reals) (texts records : Numbers) (points : Reals) (lent out : Numbers) → ReadAnswer → Type 0
+abbrev pub HandsLent : Run → Reading → (control words : Numbers) (reals : Reals) (texts : Numbers) (records : SharedNumbers) (points : SharedReals) (lent : SharedNumbers) (out : Numbers) → ReadAnswer → Type 0
 HandsLent run g c w q t records points lent out a =
     HandsIn run (gathered g records.entry.now points.entry.now) (texts_of g lent.entry.now) (before c w q t) (after c w q t) out.entry.now out.exit.now a
 
-abbrev pub SettlesLent : Run → Reading → (control words : Numbers) (reals : Reals) (texts records : Numbers) (points : Reals) (lent out : Numbers) → Taken → Type 0
+abbrev pub SettlesLent : Run → Reading → (control words : Numbers) (reals : Reals) (texts : Numbers) (records : SharedNumbers) (points : SharedReals) (lent : SharedNumbers) (out : Numbers) → Taken → Type 0
 SettlesLent run g c w q t records points lent out r =
     Settles run g (gathered g records.entry.now points.entry.now) (texts_of g lent.entry.now) (before c w q t) (after c w q t) out.entry.now out.exit.now r
 
-abbrev pub GoesOnLent : Run → Reading → Bool → (line control words : Numbers) (reals : Reals) (texts records : Numbers) (points : Reals) (lent out : Numbers) → Taken → Type 0
+abbrev pub GoesOnLent : Run → Reading → Bool → (line : SharedNumbers) (control words : Numbers) (reals : Reals) (texts : Numbers) (records : Numbers) (points : Reals) (lent : SharedNumbers) (out : Numbers) → Taken → Type 0
 GoesOnLent run g cut line c w q t records points lent out r =
     GoesOn run g cut line.entry.now (before c w q t) (after c w q t) out.entry.now out.exit.now records.entry.now records.exit.now
     points.entry.now points.exit.now lent.entry.now r
 
-abbrev pub BeginsLent : Run → (count : ℕ) → (line control words : Numbers) (reals : Reals) (texts records : Numbers) (points : Reals) (lent out : Numbers) → Taken → Type 0
+abbrev pub BeginsLent : Run → (count : ℕ) → (line : SharedNumbers) (control words : Numbers) (reals : Reals) (texts : Numbers) (records : SharedNumbers) (points : SharedReals) (lent out : Numbers) → Taken → Type 0
 BeginsLent run n line c w q t records points lent out r =
     Begins run n line.entry.now (before c w q t) (after c w q t) out.entry.now out.exit.now records.entry.now points.entry.now
     lent.entry.now lent.exit.now r
 
-abbrev pub OpensLent : Run → Bool → (line control words : Numbers) (reals : Reals) (texts records : Numbers) (points : Reals) (lent out : Numbers) → Taken → Type 0
+abbrev pub OpensLent : Run → Bool → (line : SharedNumbers) (control words : Numbers) (reals : Reals) (texts : Numbers) (records : SharedNumbers) (points : SharedReals) (lent out : Numbers) → Taken → Type 0
 OpensLent run cut line c w q t records points lent out r =
     Opens run cut line.entry.now (before c w q t) (after c w q t) out.entry.now out.exit.now records.entry.now points.entry.now
     lent.entry.now lent.exit.now r
 
-abbrev pub TakesLent : Run → Reading → Bool → (line control words : Numbers) (reals : Reals) (texts records : Numbers) (points : Reals) (lent out : Numbers) → Taken → Type 0
+abbrev pub TakesLent : Run → Reading → Bool → (line : SharedNumbers) (control words : Numbers) (reals : Reals) (texts : Numbers) (records : Numbers) (points : Reals) (lent out : Numbers) → Taken → Type 0
 TakesLent run g cut line c w q t records points lent out r =
     Takes run g cut line.entry.now (before c w q t) (after c w q t) out.entry.now out.exit.now records.entry.now records.exit.now
     points.entry.now points.exit.now lent.entry.now lent.exit.now r

@@ -1,5 +1,7 @@
 // A read of a call script: its records gathered line by line in lent slices, and handed over as one call when the last of them has come. Outside of
 // reads a line is `script_run`'s.
+#![tactic(auto)]
+
 ghost use Rattle.std.specs.Prelude.{◌≡◌, [], ◌∷◌, ◌++◌, ◌+◌, ◌≤◌, ◌<◌};
 ghost use Rattle.lent_read.specs.Numbers.{record_count};
 ghost use Rattle.script_read.specs.Read.{no_read, onward, gathered, Fits, ending, handed, as_record, closing};
@@ -15,7 +17,7 @@ use script_record::Record;
 use script_run::{Run, Told, Took, Why};
 
 // How many lines of a read are still to come, 0 where none is open; how many records stand in the slices; and how long its texts are.
-#[derive(Drop)]
+#[derive(Clone, Copy)]
 pub struct Reading {
     pub left: usize,
     pub held: usize,
@@ -23,7 +25,7 @@ pub struct Reading {
 }
 
 // What a line has come to, and the read that it leaves open.
-#[derive(Drop)]
+#[derive(Clone, Copy)]
 pub struct Taken {
     pub took: Took,
     pub reading: Reading,

@@ -1,4 +1,6 @@
 // A line of a read: one of its records, or none. And the texts of a read, which stand in its first line.
+#![tactic(auto)]
+
 ghost use Rattle.std.specs.Prelude.{◌≡◌};
 ghost use Rattle.script_record.specs.Record.{has_part, part_first, record_of, Records, Lends};
 
@@ -8,7 +10,7 @@ use script_asked::Asked;
 use script_run::Why;
 
 // What a line of a read is.
-#[derive(Drop)]
+#[derive(Clone, Copy)]
 pub enum Record {
     // An empty line, or a comment.
     Blank,

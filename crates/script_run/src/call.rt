@@ -1,6 +1,7 @@
 // A line of a script, carried out: before the session by `script_handshake`, on a running one by `script_session`.
 ghost use Rattle.std.specs.Prelude.{◌≡◌, ℕ, List, length};
 ghost use Rattle.session.specs.Slices.{before, after, rows_before, rows_after};
+ghost use Rattle.session.specs.View.{store};
 ghost use Rattle.script_run.specs.Line.{has_text, is_given, text_first, lent_text, line_text};
 ghost use Rattle.script_run.specs.Take.{quiet, no_call, answered, given, begun, shaken, received, told_by, shaken_by, turned, counted, at_clock, with_out, with_buffer, first};
 ghost use Rattle.script_run.specs.Take.{Starts, Shakes, ShakesBy, Receives, Turns, Handles, Delivers, Makes, Does, Takes};
@@ -16,7 +17,7 @@ use script::{Args, Line, Text, Value};
 use script_asked::{Asked, Event, Station};
 
 // What the lines so far have come to.
-#[derive(Drop)]
+#[derive(Clone, Copy)]
 pub struct Run {
     // The number of the last line.
     pub line: u64,
@@ -34,7 +35,7 @@ pub struct Run {
 }
 
 // Why a line ends the trail.
-#[derive(Drop)]
+#[derive(Clone, Copy)]
 pub enum Why {
     // It is longer than a line may be.
     Long,
@@ -51,7 +52,7 @@ pub enum Why {
 }
 
 // What there is to tell of a line.
-#[derive(Drop)]
+#[derive(Clone, Copy)]
 pub enum Told {
     Nothing,
     Error(Why),
@@ -73,7 +74,7 @@ pub enum Told {
     Turned { event: Event, written: Written },
 }
 
-#[derive(Drop)]
+#[derive(Clone, Copy)]
 pub struct Took {
     pub run: Run,
     pub told: Told,
@@ -325,7 +326,7 @@ fn deliver(
     texts: &[u8],
     out: &mut [u8],
 ) -> Took
-    ensures { Delivers run (before control words reals texts) (after control words reals texts) out.old out.new result }
+    ensures { Delivers run (store control.old words.now reals.now texts.now) (store control.new words.now reals.now texts.now) out.old out.new result }
 {
     let next = script_session::next(control, words, reals, texts, run.buffer, out);
     given(run, next)

@@ -1,8 +1,8 @@
 -- What is promised of a call that is lent the first bytes of a buffer, as many as the script says. Assumes nothing.
 use Rattle.std.specs.Prelude.{ℕ, min, ◌≡◌, Bool, List, ◌++◌, length, take, drop}
 use Rattle.model.specs.Call.{Input, Call}
-use Rattle.session.specs.View.{Lending}
-use Rattle.session.specs.Slices.{Numbers, Reals, before, after, rows_before, rows_after}
+use Rattle.session.specs.View.{Lending, store}
+use Rattle.session.specs.Slices.{Numbers, SharedNumbers, Reals, SharedReals, before, after, rows_before, rows_after}
 use Rattle.answers.specs.declared.Answer.{Answer}
 use Rattle.answers.specs.Meets.{Answered}
 use Rattle.converter.specs.declared.request.NextRequest.{NextRequest}
@@ -26,12 +26,12 @@ PromiseIn c w r t said out call clock a =
     InRoom said out.entry.now out.exit.now (λ lent later. Answered Lending.all (before c w r t) (after c w r t) lent later call clock a)
 
 -- a call of the station, at any clock and whatever the texts are
-abbrev pub StationIn : (control words : Numbers) (reals : Reals) (said : ℕ) (out : Numbers) → Station → (given : Bool) → (text : Numbers) → Answer → Type 0
+abbrev pub StationIn : (control words : Numbers) (reals : Reals) (said : ℕ) (out : Numbers) → Station → (given : Bool) → (text : SharedNumbers) → Answer → Type 0
 StationIn c w r said out call given text a =
     InRoom said out.entry.now out.exit.now
     (λ lent later. (clock : ℕ) (t : List ℕ) → Answered (lending call) (rows_before c w r t) (rows_after c w r t) lent later (Call.plain (station_call call given text.entry.now)) clock a)
 
 -- next_request
-abbrev pub DeliversIn : (control words : Numbers) (reals : Reals) (texts : Numbers) (said : ℕ) (buffer : Numbers) → NextRequest → Type 0
+abbrev pub DeliversIn : (control : Numbers) (words : SharedNumbers) (reals : SharedReals) (texts : SharedNumbers) (said : ℕ) (buffer : Numbers) → NextRequest → Type 0
 DeliversIn c w r t said buffer a =
-    InRoom said buffer.entry.now buffer.exit.now (λ lent later. Delivered (before c w r t) (after c w r t) lent later a)
+    InRoom said buffer.entry.now buffer.exit.now (λ lent later. Delivered (store c.entry.now w.entry.now r.entry.now t.entry.now) (store c.exit.now w.entry.now r.entry.now t.entry.now) lent later a)

@@ -1,4 +1,6 @@
 // A line of a call script on a running session, carried out in the session's four slices: each call is lent so much of a buffer as the script says.
+#![tactic(auto)]
+
 ghost use Rattle.std.specs.Prelude.{◌≡◌, min};
 ghost use Rattle.handlers.specs.Call.{call_of};
 ghost use Rattle.script_session.specs.Lent.{PromiseIn, StationIn, DeliversIn};

@@ -15,7 +15,7 @@ use Rattle.script_pattern.specs.Pattern.{bytes_of, first_line, first_read, shown
 use Rattle.script_pattern.specs.declared.table.Shown.{Shown}
 use Rattle.script_pattern.proofs.Lengths.{hexadecimal-length, escaped-length, bytes-length, bare-within, texted-within}
 use Rattle.script_show.specs.Records.{record_size, each_from, each_record, record_bytes, trail}
-use Rattle.script_show.specs.Answer.{result, handshake_outcome, behind_outcome, line_of, read_refusal, read_line, answer_line, handshake_line, next_shown, next_length, next_line, error_line, call_line}
+use Rattle.script_show.specs.Answer.{result_shown, handshake_outcome, behind_outcome, line_of, read_refusal, read_line, answer_line, handshake_line, next_shown, next_length, next_line, error_line, call_line}
 use Rattle.script_show.proofs.Sizes.{size_bounds}
 
 -- ---- records in hexadecimal: a space, and two digits for each byte
@@ -60,7 +60,7 @@ line_length_lem s l =
 pub answer-fits : (a : Answer) (out : List ℕ) → length out ≤ 4096 → length (answer_line a out false) ≤ 65536
 unfolding answer_line
 answer-fits a out h =
-    omega (arith, line_length_lem (result false (outcome_of a.outcome)) (take a.count out), length-take a.count out)
+    omega (arith, line_length_lem (result_shown false (outcome_of a.outcome)) (take a.count out), length-take a.count out)
 
 pub handshake-fits : (a : HandshakeAnswer) (out : List ℕ) → length out ≤ 4096 → length (handshake_line a out false) ≤ 65536
 unfolding handshake_line
@@ -69,7 +69,7 @@ handshake-fits a out h =
 
 refusal-length : (o : Outcome) → length (read_refusal false o) ≤ 161
 refusal-length Outcome.Accepted = omega arith
-refusal-length (Outcome.Refused e) = omega (arith, bytes-length 22 160 bare-within (result false (error_of e)) [] (omega arith))
+refusal-length (Outcome.Refused e) = omega (arith, bytes-length 22 160 bare-within (result_shown false (error_of e)) [] (omega arith))
 refusal-length (Outcome.Seat id) = omega arith
 refusal-length (Outcome.Device id) = omega arith
 refusal-length (Outcome.Value n) = omega arith

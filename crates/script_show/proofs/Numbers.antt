@@ -2,12 +2,9 @@
 use Prim.Native.Nat.{ℕ, suc, ◌+◌, ◌*◌, ◌≤◌}
 use mathlib.Core.Path.{◌≡◌, refl, sym, ap, ◌∙◌}
 use mathlib.Core.List.{[], ◌∷◌}
-use mathlib.Core.Logic.{inl, inr}
 use mathlib.Core.Bool.{Bool, true, false, not}
 use native.Mathlib.Omega.{arith}
 use borrow.Author.Tests.{ltb-true, le-ltb, eq-eqb}
-use denote.Enum.Declared.{tag_of}
-use types.Run.{OneOf}
 use lib.Dec.{T, lit≤}
 use lib.Ieee.{Float, nan, inf, fin, eq, is_nan, up, down}
 use lib.IntN.{ℤ, pos, negsuc, ◌-ℤ◌, nat_abs}
@@ -15,18 +12,13 @@ use lib.Signed.{lt_z}
 use mir.Facts.{to_z_pos}
 use mir.Syntax.{w32}
 use mir.Val.{SFits}
-use Rattle.requests.proofs.Arms.{run, among}
-use Rattle.answers.specs.contracts.Error.{the_type}
-use Rattle.answers.specs.contracts.Outcome as outcomes
 use Rattle.requests.proofs.Amounts.{held, held_is}
 use Rattle.answers.specs.Answer.{error_of, number_of}
 use Rattle.answers.specs.declared.Error.{Error}
-use Rattle.answers.specs.declared.Outcome.{Outcome}
 use Rattle.handshake.specs.View.{number}
 use Rattle.handshake.specs.declared.handshake.HandshakeError.{HandshakeError}
 use Rattle.model.specs.Plan.{Result}
 use Rattle.script_pattern.specs.Words.{amount_number}
-use Rattle.script_show.specs.Answer.{read_refusal}
 
 -- ---- a real that equals itself is no NaN, and any other does
 
@@ -102,8 +94,8 @@ handshake-most HandshakeError.ShortOut = lit≤ tt
 handshake-most HandshakeError.IdsSpent = lit≤ tt
 handshake-most HandshakeError.BadState = lit≤ tt
 
--- a refusal other than 2 is known by its number; the tags are those of the arm that has it
-pub plain_error : (e : Error) → OneOf (0 ∷ run 2 18) (tag_of the_type e) → Result.refused (number_of e) ≡ error_of e
+-- a refusal other than 2 is known by its number
+pub plain_error : (e : Error) → ((i v : ℕ) → e ≡ Error.InvalidInterfaceVersion i v → ⊥) → Result.refused (number_of e) ≡ error_of e
 unfolding number_of
 plain_error Error.UnexpectedHandshakeEvent o = refl
 plain_error Error.InvalidCapabilities o = refl
@@ -124,16 +116,4 @@ plain_error Error.IdsSpent o = refl
 plain_error Error.BadState o = refl
 plain_error Error.BadPart o = refl
 plain_error Error.InvalidId o = refl
-plain_error (Error.InvalidInterfaceVersion i v) (inl e) = absurd (omega (arith, e))
-plain_error (Error.InvalidInterfaceVersion i v) (inr o) = absurd (omega (arith, (among 2 18 1 o).0))
-
--- an outcome other than a refusal ends a read without one; the tags are those of the arm that has none
-pub no_refusal : (x : Bool) (o : Outcome) → OneOf (0 ∷ run 2 5) (tag_of outcomes.the_type o) → [] ≡ read_refusal x o
-no_refusal x Outcome.Accepted o = refl
-no_refusal x (Outcome.Seat id) o = refl
-no_refusal x (Outcome.Device id) o = refl
-no_refusal x (Outcome.Value n) o = refl
-no_refusal x (Outcome.Truth b) o = refl
-no_refusal x Outcome.None o = refl
-no_refusal x (Outcome.Refused e) (inl q) = absurd (omega (arith, q))
-no_refusal x (Outcome.Refused e) (inr o) = absurd (omega (arith, (among 2 5 1 o).0))
+plain_error (Error.InvalidInterfaceVersion i v) o = absurd (o i v refl)

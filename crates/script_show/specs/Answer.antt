@@ -16,22 +16,22 @@ use Rattle.script_show.specs.Records.{each_record, record_bytes, trail}
 use Rattle.script_pattern.specs.declared.table.Shown.{Shown}
 
 -- how a call ends: a refusal by its number, explained with its name behind it; 2 has the interface and the version
-abbrev pub result : (explained : Bool) → Result → Shown
-result x Result.accepted = shown first_outcome 0 0 0 0 0
-result x (Result.seat id) = shown (first_outcome + 1) id 0 0 0 0
-result x (Result.device id) = shown (first_outcome + 2) id 0 0 0 0
-result x (Result.value n) = shown (first_outcome + 3) n 0 0 0 0
-result x (Result.truth b) = shown (first_outcome + 4) (truth_number b) 0 0 0 0
-result x Result.none = shown (first_outcome + 5) 0 0 0 0 0
-result x (Result.refused n) = shown (first_refusal + cond x n 0) n 0 0 0 0
-result x (Result.refused_version i v) = shown (cond x (first_refusal + 2) (first_outcome + 6)) 2 i v 0 0
+abbrev pub result_shown : (explained : Bool) → Result → Shown
+result_shown x Result.accepted = shown first_outcome 0 0 0 0 0
+result_shown x (Result.seat id) = shown (first_outcome + 1) id 0 0 0 0
+result_shown x (Result.device id) = shown (first_outcome + 2) id 0 0 0 0
+result_shown x (Result.value n) = shown (first_outcome + 3) n 0 0 0 0
+result_shown x (Result.truth b) = shown (first_outcome + 4) (truth_number b) 0 0 0 0
+result_shown x Result.none = shown (first_outcome + 5) 0 0 0 0 0
+result_shown x (Result.refused n) = shown (first_refusal + cond x n 0) n 0 0 0 0
+result_shown x (Result.refused_version i v) = shown (cond x (first_refusal + 2) (first_outcome + 6)) 2 i v 0 0
 -- that of next_request, which no call is answered with
-result x Result.given = shown first_outcome 0 0 0 0 0
+result_shown x Result.given = shown first_outcome 0 0 0 0 0
 
 abbrev pub handshake_outcome : (explained : Bool) → HandshakeOutcome → Shown
-handshake_outcome x HandshakeOutcome.Accepted = result x Result.accepted
-handshake_outcome x HandshakeOutcome.Finished = result x Result.accepted
-handshake_outcome x (HandshakeOutcome.Refused e) = result x (Result.refused (number e))
+handshake_outcome x HandshakeOutcome.Accepted = result_shown x Result.accepted
+handshake_outcome x HandshakeOutcome.Finished = result_shown x Result.accepted
+handshake_outcome x (HandshakeOutcome.Refused e) = result_shown x (Result.refused (number e))
 
 -- behind the outcome of a call, the records that it wrote and the end of the line; explained, then a line for each record
 unfoldable pub behind_outcome : (records : List ℕ) → (explained : Bool) → List ℕ
@@ -45,7 +45,7 @@ line_of s records x = bytes_of s [] ++ behind_outcome records x
 -- WHAT A CALL ON A SESSION IS ANSWERED; the records begin `out`
 unfoldable pub answer_line : Answer → (out : List ℕ) → (explained : Bool) → List ℕ
 unfolding line_of
-answer_line a out x = line_of (result x (outcome_of a.outcome)) (take a.count out) x
+answer_line a out x = line_of (result_shown x (outcome_of a.outcome)) (take a.count out) x
 
 -- WHAT A CALL OF THE HANDSHAKE IS ANSWERED
 unfoldable pub handshake_line : HandshakeAnswer → (out : List ℕ) → (explained : Bool) → List ℕ
@@ -55,7 +55,7 @@ handshake_line a out x = line_of (handshake_outcome x a.outcome) (take a.count o
 -- the refusal that ended a read, "as it is printed elsewhere"; nothing where there was none
 abbrev pub read_refusal : (explained : Bool) → Outcome → List ℕ
 read_refusal x Outcome.Accepted = []
-read_refusal x (Outcome.Refused e) = 0x20 ∷ bytes_of (result x (error_of e)) []
+read_refusal x (Outcome.Refused e) = 0x20 ∷ bytes_of (result_shown x (error_of e)) []
 read_refusal x (Outcome.Seat id) = []
 read_refusal x (Outcome.Device id) = []
 read_refusal x (Outcome.Value n) = []
@@ -71,8 +71,8 @@ read_line n a out x = bytes_of (shown first_read n 0 0 0 0) [] ++ (read_refusal 
 -- what next_request gives, and how many bytes its text has
 abbrev pub next_shown : (explained : Bool) → NextRequest → Shown
 next_shown x (NextRequest.Given r) = delivered x r
-next_shown x NextRequest.None = result x Result.none
-next_shown x (NextRequest.Refused e) = result x (error_of e)
+next_shown x NextRequest.None = result_shown x Result.none
+next_shown x (NextRequest.Refused e) = result_shown x (error_of e)
 
 abbrev pub next_length : NextRequest → ℕ
 next_length (NextRequest.Given r) = text_length r

@@ -1,5 +1,7 @@
 // The lines of a trail, made in a lent line: what a call is answered, with its event records, and delivered requests. Nothing here writes to
 // a file.
+#![tactic(auto)]
+
 mod lines;
 mod records;
 mod request;

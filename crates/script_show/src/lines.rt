@@ -4,7 +4,7 @@ ghost use Rattle.answers.specs.Answer.{error_of, outcome_of};
 ghost use Rattle.model.specs.Plan.{Result};
 ghost use Rattle.script_pattern.specs.Put.{Puts};
 ghost use Rattle.script_pattern.specs.Pattern.{bytes_of};
-ghost use Rattle.script_show.specs.Answer.{result, handshake_outcome, behind_outcome, line_of, read_refusal, read_line};
+ghost use Rattle.script_show.specs.Answer.{result_shown, handshake_outcome, behind_outcome, line_of, read_refusal, read_line};
 ghost use Rattle.script_show.specs.Records.{each_record, record_bytes};
 ghost use Rattle.script_show.specs.Answer.{answer_line, handshake_line, next_shown, next_length, next_line, error_line, call_line};
 
@@ -18,7 +18,7 @@ use script_pattern::{put, table};
 // A refusal by its number, or with its name too.
 pub fn refusal(number: u32, explained: bool) -> Shown
     requires { number ≤ 26 }
-    ensures* { λ r. ⌜ r ≡ result explained (Result.refused number) ⌝ }
+    ensures { result ≡ result_shown explained (Result.refused number) }
 {
     if explained {
         return table::single(table::REFUSAL + number as usize, number as u64);
@@ -28,13 +28,13 @@ pub fn refusal(number: u32, explained: bool) -> Shown
 
 // 2 has the interface and the version behind it.
 fn version_pattern(explained: bool) -> usize
-    ensures* { λ r. ⌜ r ≡ cond explained 32 29 ⌝ }
+    ensures { result ≡ cond explained 32 29 }
 {
     if explained { 32 } else { 29 }
 }
 
 fn refused(e: Error, explained: bool) -> Shown
-    ensures* { λ r. ⌜ r ≡ result explained (error_of e) ⌝ }
+    ensures { result ≡ result_shown explained (error_of e) }
 {
     if let Error::InvalidInterfaceVersion { interface, version } = e {
         return Shown {
@@ -50,7 +50,7 @@ fn refused(e: Error, explained: bool) -> Shown
 }
 
 pub fn outcome(o: Outcome, explained: bool) -> Shown
-    ensures* { λ r. ⌜ r ≡ result explained (outcome_of o) ⌝ }
+    ensures { result ≡ result_shown explained (outcome_of o) }
 {
     match o {
         Outcome::Accepted => table::single(table::OUTCOME, 0),
@@ -64,7 +64,7 @@ pub fn outcome(o: Outcome, explained: bool) -> Shown
 }
 
 pub fn handshake_outcome(o: HandshakeOutcome, explained: bool) -> Shown
-    ensures* { λ r. ⌜ r ≡ handshake_outcome explained o ⌝ }
+    ensures { result ≡ handshake_outcome explained o }
 {
     match o {
         HandshakeOutcome::Accepted => table::single(table::OUTCOME, 0),
@@ -75,7 +75,7 @@ pub fn handshake_outcome(o: HandshakeOutcome, explained: bool) -> Shown
 
 // What is shown, and the end of its line.
 fn ended(line: &mut [u8], s: Shown, text: &[u8]) -> usize
-    ensures* { λ r. ⌜ Puts line 0 r (bytes_of s text.now ++ (0x0a ∷ [])) ⌝ }
+    ensures { Puts line 0 result (bytes_of s text.now ++ (0x0a ∷ [])) }
 {
     let next = table::show(line, 0, s, text);
     put::byte(line, next, b'\n')
@@ -83,7 +83,7 @@ fn ended(line: &mut [u8], s: Shown, text: &[u8]) -> usize
 
 // The records that a call wrote, and the end of the line behind its outcome; explained, then a line for each record.
 fn records_behind(line: &mut [u8], at: usize, records: &[u8], explained: bool) -> usize
-    ensures* { λ r. ⌜ Puts line at r (behind_outcome records.now explained) ⌝ }
+    ensures { Puts line at result (behind_outcome records.now explained) }
 {
     let told = records::trail(line, at, records);
     let next = put::byte(line, told, b'\n');
@@ -95,7 +95,7 @@ fn records_behind(line: &mut [u8], at: usize, records: &[u8], explained: bool) -
 
 // The same, where the records begin `out`.
 fn beginning(line: &mut [u8], at: usize, count: usize, out: &[u8], explained: bool) -> usize
-    ensures* { λ r. ⌜ Puts line at r (behind_outcome (take count out.now) explained) ⌝ }
+    ensures { Puts line at result (behind_outcome (take count out.now) explained) }
 {
     if count <= out.len() {
         return records_behind(line, at, &out[..count], explained);
@@ -105,7 +105,7 @@ fn beginning(line: &mut [u8], at: usize, count: usize, out: &[u8], explained: bo
 
 // The records that begin `out` in words, a line for each.
 pub fn in_words(line: &mut [u8], at: usize, count: usize, out: &[u8]) -> usize
-    ensures* { λ r. ⌜ Puts line at r (each_record (record_bytes true) (take count out.now)) ⌝ }
+    ensures { Puts line at result (each_record (record_bytes true) (take count out.now)) }
 {
     if count <= out.len() {
         return records::each(line, at, &out[..count], true);
@@ -115,7 +115,7 @@ pub fn in_words(line: &mut [u8], at: usize, count: usize, out: &[u8]) -> usize
 
 // The outcome of a call, and what stands behind it.
 pub fn whole(line: &mut [u8], s: Shown, count: usize, out: &[u8], explained: bool) -> usize
-    ensures* { λ r. ⌜ Puts line 0 r (line_of s (take count out.now) explained) ⌝ }
+    ensures { Puts line 0 result (line_of s (take count out.now) explained) }
 {
     let shown = table::show(line, 0, s, b"");
     beginning(line, shown, count, out, explained)
@@ -123,7 +123,7 @@ pub fn whole(line: &mut [u8], s: Shown, count: usize, out: &[u8], explained: boo
 
 // What a call on a session is answered. Its records begin `out`. Explained, each stands in words on a line of its own behind it.
 pub fn answer(line: &mut [u8], a: Answer, out: &[u8], explained: bool) -> usize
-    ensures* { λ r. ⌜ Puts line 0 r (answer_line a out.now explained) ⌝ }
+    ensures { Puts line 0 result (answer_line a out.now explained) }
 {
     let o = a.outcome;
     whole(line, outcome(o, explained), a.count, out, explained)
@@ -131,7 +131,7 @@ pub fn answer(line: &mut [u8], a: Answer, out: &[u8], explained: bool) -> usize
 
 // What a call of the handshake is answered.
 pub fn handshake_answer(line: &mut [u8], a: HandshakeAnswer, out: &[u8], explained: bool) -> usize
-    ensures* { λ r. ⌜ Puts line 0 r (handshake_line a out.now explained) ⌝ }
+    ensures { Puts line 0 result (handshake_line a out.now explained) }
 {
     let o = a.outcome;
     whole(
@@ -145,7 +145,7 @@ pub fn handshake_answer(line: &mut [u8], a: HandshakeAnswer, out: &[u8], explain
 
 // The refusal that ended a read, behind how many of its records were accepted.
 fn read_refusal(line: &mut [u8], at: usize, o: Outcome, explained: bool) -> usize
-    ensures* { λ r. ⌜ Puts line at r (read_refusal explained o) ⌝ }
+    ensures { Puts line at result (read_refusal explained o) }
 {
     if let Outcome::Refused(e) = o {
         let next = put::byte(line, at, b' ');
@@ -156,7 +156,7 @@ fn read_refusal(line: &mut [u8], at: usize, o: Outcome, explained: bool) -> usiz
 
 // What a read is answered: how many of its records were accepted, and how it ended, with the records that these wrote.
 pub fn read_answer(line: &mut [u8], accepted: u64, a: Answer, out: &[u8], explained: bool) -> usize
-    ensures* { λ r. ⌜ Puts line 0 r (read_line accepted a out.now explained) ⌝ }
+    ensures { Puts line 0 result (read_line accepted a out.now explained) }
 {
     let o = a.outcome;
     let counted = table::show(line, 0, table::single(table::READ, accepted), b"");
@@ -166,7 +166,7 @@ pub fn read_answer(line: &mut [u8], accepted: u64, a: Answer, out: &[u8], explai
 
 // What is shown of the first n bytes of a text, and the end of its line.
 pub fn ended_first(line: &mut [u8], s: Shown, n: usize, text: &[u8]) -> usize
-    ensures* { λ r. ⌜ Puts line 0 r (bytes_of s (take n text.now) ++ (0x0a ∷ [])) ⌝ }
+    ensures { Puts line 0 result (bytes_of s (take n text.now) ++ (0x0a ∷ [])) }
 {
     if n <= text.len() {
         return ended(line, s, &text[..n]);
@@ -175,7 +175,7 @@ pub fn ended_first(line: &mut [u8], s: Shown, n: usize, text: &[u8]) -> usize
 }
 
 fn next_shown(next: NextRequest, explained: bool) -> Shown
-    ensures* { λ r. ⌜ r ≡ next_shown explained next ⌝ }
+    ensures { result ≡ next_shown explained next }
 {
     match next {
         NextRequest::Given(r) => request::delivered(r, explained),
@@ -186,7 +186,7 @@ fn next_shown(next: NextRequest, explained: bool) -> Shown
 
 // How many bytes its text has.
 fn next_length(next: NextRequest) -> usize
-    ensures* { λ r. ⌜ r ≡ next_length next ⌝ }
+    ensures { result ≡ next_length next }
 {
     match next {
         NextRequest::Given(r) => r.text_length() as usize,
@@ -197,21 +197,21 @@ fn next_length(next: NextRequest) -> usize
 
 // What next_request gives. A text begins the buffer.
 pub fn next(line: &mut [u8], next: NextRequest, buffer: &[u8], explained: bool) -> usize
-    ensures* { λ r. ⌜ Puts line 0 r (next_line next buffer.now explained) ⌝ }
+    ensures { Puts line 0 result (next_line next buffer.now explained) }
 {
     ended_first(line, next_shown(next, explained), next_length(next), buffer)
 }
 
 // That a line is no call, or comes where no such call can be made.
 pub fn error_line(line: &mut [u8], number: u64) -> usize
-    ensures* { λ r. ⌜ Puts line 0 r (error_line number) ⌝ }
+    ensures { Puts line 0 result (error_line number) }
 {
     ended(line, table::single(table::LINE, number), b"")
 }
 
 // A line of the script.
 pub fn call_line(line: &mut [u8], call: &[u8]) -> usize
-    ensures* { λ r. ⌜ Puts line 0 r (call_line call.now) ⌝ }
+    ensures { Puts line 0 result (call_line call.now) }
 {
     ended(line, table::single(table::LINE + 1, 0), call)
 }

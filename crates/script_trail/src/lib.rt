@@ -1,4 +1,6 @@
 // What a trail has of a line: the bytes, made in a lent line.
+#![tactic(auto)]
+
 ghost use Rattle.script_pattern.specs.Put.{Puts};
 ghost use Rattle.script_trail.specs.Trail.{trail_of};
 

@@ -1,0 +1,17 @@
+-- A byte as it is, or a backslash, x and its digits. Assumes nothing.
+use mathlib.Core.Path.{sym, ◌∙◌}
+use Rattle.eiproto.specs.Interface.{ascii}
+use Rattle.script_pattern.specs.Digits.{escape}
+use Rattle.script_pattern.proofs.Puts.{put_then, put_is}
+use borrow.Author.Rules.{rules}
+use Rattle.script_pattern.proofs.put.escape.Goals as goal
+
+pub returns-then-is_plain : goal.returns-then-is_plain
+unfolding escape
+returns-then-is_plain c =
+    put_is c.byte.ensures (rw (sym c.is_plain.ensures ∙ c.if-is_plain.true))
+
+pub returns : goal.returns
+unfolding escape ascii
+returns c =
+    put_is (put_then c.bytes-next.ensures c.pair.ensures) (rw (sym c.is_plain.ensures ∙ c.if-is_plain.false))

@@ -1,0 +1,9 @@
+-- The line of the outcome. Assumes nothing.
+use Rattle.script_show.specs.Answer.{handshake_line}
+use borrow.Author.Rules.{rules}
+use Rattle.script_show.proofs.lines.handshake_answer.Goals as goal
+
+pub returns : goal.returns
+unfolding handshake_line
+returns c =
+    rw c.handshake_outcome.ensures at c.whole.ensures

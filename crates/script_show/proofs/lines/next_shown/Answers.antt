@@ -1,0 +1,15 @@
+-- A request, none or a refusal. Assumes nothing.
+use borrow.Author.Rules.{rules}
+use Rattle.script_show.proofs.lines.next_shown.Goals as goal
+
+pub returns-in-Given : goal.returns-in-Given
+returns-in-Given c =
+    rw c.in-Given.is c.delivered.ensures
+
+pub returns-in-None : goal.returns-in-None
+returns-in-None c =
+    rw c.in-None.is c.single.ensures
+
+pub returns-in-Refused : goal.returns-in-Refused
+returns-in-Refused c =
+    rw c.in-Refused.is c.refused.ensures

@@ -1,0 +1,17 @@
+-- The upper five bits, if there is such a kind. Assumes nothing.
+use Prim.Native.Nat.{◌/◌}
+use native.Mathlib.Omega.{arith}
+use borrow.Author.Tests.{lt-ltb, le-ltb}
+use Rattle.script_show.specs.Records.{kind_of}
+use borrow.Author.Rules.{rules}
+use Rattle.script_show.proofs.records.kind_of.Goals as goal
+
+pub returns-then-kind-lt19 : goal.returns-then-kind-lt19
+unfolding kind_of
+returns-then-kind-lt19 c =
+    let r = c.byte_at-kind.result in (rw (← c.byte_at-kind.ensures.0, lt-ltb (r / 8) 19 c.if-kind-lt19.true), c.if-kind-lt19.true)
+
+pub returns : goal.returns
+unfolding kind_of
+returns c =
+    let r = c.byte_at-kind.result in (rw (← c.byte_at-kind.ensures.0, le-ltb (r / 8) 19 c.if-kind-lt19.false), omega arith)
