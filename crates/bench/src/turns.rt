@@ -3,7 +3,7 @@ use bench_calls::DEVICE;
 use requests::eis::{ConnectionRequest, InterfaceRequest, Request, TextRequest};
 
 // What a turn is. Keys, Eight and Deep are a press and a release of a key; the last two a frame of so many keys.
-#[derive(Drop)]
+#[derive(Clone, Copy)]
 pub enum Workload {
     Keys,
     Touches,

@@ -1,6 +1,6 @@
 // What a client sends in the turns of the benchmark, and what it sent, taken.
 ghost use Rattle.std.specs.Prelude.{◌≡◌, ◌%◌, [], ◌∷◌, length};
-ghost use Rattle.session.specs.Slices.{before, after};
+ghost use Rattle.session.specs.View.{store};
 ghost use Rattle.handlers.specs.Call.{call_of};
 ghost use Rattle.bench_calls.specs.Sent as said;
 ghost use Rattle.bench_calls.specs.Sent.{Sends, Asked, given_by};
@@ -164,7 +164,7 @@ fn next_in(
     most: u64,
     buffer: &mut [u8],
 ) -> u64
-    ensures { Asked (length buffer.old) most (before control words reals texts) (after control words reals texts) result }
+    ensures { Asked (length buffer.old) most (store control.old words.now reals.now texts.now) (store control.new words.now reals.now texts.now) result }
 {
     let mut given: u64 = 0;
     let mut i: u64 = 0;
@@ -188,7 +188,7 @@ fn count(answer: NextRequest) -> u64
 
 // Takes the queued requests, at most so many; how many there were.
 pub fn next(control: &mut [u64], words: &[u64], reals: &[f32], texts: &[u8], most: u64) -> u64
-    ensures { Asked 254 most (before control words reals texts) (after control words reals texts) result }
+    ensures { Asked 254 most (store control.old words.now reals.now texts.now) (store control.new words.now reals.now texts.now) result }
 {
     let mut buffer = [0u8; 254];
     next_in(control, words, reals, texts, most, &mut buffer)

@@ -1,4 +1,6 @@
 // What the turns of the benchmark are made of: the session that they begin with, and what a client sends.
+#![tactic(auto)]
+
 mod client;
 mod start;
 mod word;

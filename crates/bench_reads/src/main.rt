@@ -1,15 +1,18 @@
 // 31 keys and their frame, and their delivery, repeated: `bench_reads WORKLOAD N`, where the requests are sent singly (singles) or handed over in one read
 // (reads). It tells how many requests were given; tests/bench.py times it. It is a program of its own: where a request is handed in at one place only,
 // as in the program bench, the compiler puts the call's code there.
+#![tactic(auto)]
+
 mod read;
 
 use control::CONTROL_LENGTH;
-use libc::STDOUT_FILENO;
 use session::{REALS_LENGTH, TEXTS_LENGTH, WORDS_LENGTH};
+use std::env::Env;
+use std::io;
+use std::io::{BufWriter, Write};
 
-fn tell(given: u64) {
-    io::print_decimal(STDOUT_FILENO, given);
-    io::write_all(STDOUT_FILENO, b"\n");
+fn tell(to: &mut impl Write, given: u64) -> io::Result<()> {
+    writeln!(to, "{given}")
 }
 
 // What a client sends in a turn.
@@ -58,22 +61,30 @@ fn repeat(
     given
 }
 
-fn main() {
+fn main(rt: HostRuntime) -> io::Result<()> {
+    let mut out = BufWriter::new(rt.alloc(), io::writer(&rt))?;
     let mut control = [0u64; CONTROL_LENGTH];
     let mut words = [0u64; WORDS_LENGTH];
     let mut reals = [0.0f32; REALS_LENGTH];
     let mut texts = [0u8; TEXTS_LENGTH];
     let mut word = [0u8; 16];
     let mut count = [0u8; 16];
-    os::arg(1, &mut word);
-    let m = os::arg(2, &mut count);
+    let _ = rt.arg(1, &mut word);
+    let m = match rt.arg(2, &mut count) {
+        Ok(m) => m,
+        Err(_) => 0,
+    };
     bench_calls::begin(&mut control, 1, 4);
-    tell(repeat(
-        &mut control,
-        &mut words,
-        &mut reals,
-        &mut texts,
-        word[0] == b'r',
-        bench_calls::number(&count, m),
-    ));
+    tell(
+        &mut out,
+        repeat(
+            &mut control,
+            &mut words,
+            &mut reals,
+            &mut texts,
+            word[0] == b'r',
+            bench_calls::number(&count, m),
+        ),
+    )?;
+    out.flush()
 }

@@ -1,169 +1,164 @@
 // Writes what the tables of eiproto say: a line for each interface, name, capability and mask.
+#![tactic(auto)]
+
 use eiproto::eiproto_eis;
 use eiproto::eiproto_eis::Found;
 use eiproto::event::{DeviceCapability, DeviceCapabilityOf};
-use libc::STDOUT_FILENO;
+use std::io;
+use std::io::{BufWriter, Write};
 
-fn text(s: &[u8]) {
-    io::write_all(STDOUT_FILENO, s);
+fn text(to: &mut impl Write, s: &[u8]) -> io::Result<()> {
+    to.write_all(s)
 }
 
-fn decimal(n: u64) {
-    io::print_decimal(STDOUT_FILENO, n);
+fn decimal(to: &mut impl Write, n: u64) -> io::Result<()> {
+    write!(to, "{n}")
 }
 
-fn byte(b: u8) {
+fn byte(to: &mut impl Write, b: u8) -> io::Result<()> {
     let one = [b];
-    text(&one);
+    text(to, &one)
 }
 
-fn name(i: u8) {
-    let n = eiproto_eis::name_len(i);
-    let mut k: usize = 0;
-    while k < n {
-        byte(eiproto_eis::name_byte(i, k));
-        k += 1;
+fn name(to: &mut impl Write, i: u8) -> io::Result<()> {
+    for k in 0..eiproto_eis::name_len(i) {
+        byte(to, eiproto_eis::name_byte(i, k))?;
     }
+    Ok(())
 }
 
 // Number, name and version of an interface.
-fn interface(i: u8) {
-    decimal(i as u64);
-    text(b" ");
-    name(i);
-    text(b" ");
-    decimal(eiproto_eis::version(i) as u64);
-    text(b"\n");
+fn interface(to: &mut impl Write, i: u8) -> io::Result<()> {
+    decimal(to, i as u64)?;
+    text(to, b" ")?;
+    name(to, i)?;
+    text(to, b" ")?;
+    decimal(to, eiproto_eis::version(i) as u64)?;
+    text(to, b"\n")
 }
 
 // A name and the number that is found for it.
-fn search(name: &[u8]) {
-    text(name);
+fn search(to: &mut impl Write, name: &[u8]) -> io::Result<()> {
+    text(to, name)?;
     match eiproto_eis::find(name) {
         Found::Interface(i) => {
-            text(b" is ");
-            decimal(i as u64);
-            text(b"\n");
+            text(to, b" is ")?;
+            decimal(to, i as u64)?;
+            text(to, b"\n")?;
         }
-        Found::Unknown => text(b" is unknown\n"),
+        Found::Unknown => text(to, b" is unknown\n")?,
     }
+    Ok(())
 }
 
 // Bit, mask and interface of a capability.
-fn capability(bit: u32) {
-    text(b"bit ");
-    decimal(bit as u64);
+fn capability(to: &mut impl Write, bit: u32) -> io::Result<()> {
+    text(to, b"bit ")?;
+    decimal(to, bit as u64)?;
     match DeviceCapability::from_index(bit) {
         DeviceCapabilityOf::Case(cap) => {
-            text(b" mask ");
-            decimal(DeviceCapability::mask(cap));
-            text(b" interface ");
-            decimal(DeviceCapability::interface(cap) as u64);
-            text(b"\n");
+            text(to, b" mask ")?;
+            decimal(to, DeviceCapability::mask(cap))?;
+            text(to, b" interface ")?;
+            decimal(to, DeviceCapability::interface(cap) as u64)?;
+            text(to, b"\n")?;
         }
-        DeviceCapabilityOf::Unknown => text(b" is no capability\n"),
+        DeviceCapabilityOf::Unknown => text(to, b" is no capability\n")?,
     }
+    Ok(())
 }
 
 // A bit with its interface.
-fn bit(b: u32) {
-    text(b" ");
-    decimal(b as u64);
-    text(b"/");
-    decimal(DeviceCapability::interface_of_bit(b) as u64);
+fn bit(to: &mut impl Write, b: u32) -> io::Result<()> {
+    text(to, b" ")?;
+    decimal(to, b as u64)?;
+    text(to, b"/")?;
+    decimal(to, DeviceCapability::interface_of_bit(b) as u64)
 }
 
-fn bits(mask: u64) {
+fn bits(to: &mut impl Write, mask: u64) -> io::Result<()> {
     let mut m = mask;
     while m != 0 {
-        bit(DeviceCapability::lowest(m));
+        bit(to, DeviceCapability::lowest(m))?;
         m = DeviceCapability::without_lowest(m);
     }
+    Ok(())
 }
 
 // A mask, how many bits it has, and which.
-fn mask(mask: u64) {
-    decimal(mask);
-    text(b" has ");
-    decimal(DeviceCapability::count(mask) as u64);
-    text(b":");
-    bits(mask);
+fn mask(to: &mut impl Write, mask: u64) -> io::Result<()> {
+    decimal(to, mask)?;
+    text(to, b" has ")?;
+    decimal(to, DeviceCapability::count(mask) as u64)?;
+    text(to, b":")?;
+    bits(to, mask)?;
     if DeviceCapability::has_unknown(mask) {
-        text(b" invalid");
+        text(to, b" invalid")?;
     }
-    text(b"\n");
+    text(to, b"\n")
 }
 
 // Whether a mask contains another, and what they share.
-fn pair(whole: u64, part: u64) {
-    decimal(whole);
+fn pair(to: &mut impl Write, whole: u64, part: u64) -> io::Result<()> {
+    decimal(to, whole)?;
     if DeviceCapability::contains(whole, part) {
-        text(b" contains ");
+        text(to, b" contains ")?;
     } else {
-        text(b" lacks some of ");
+        text(to, b" lacks some of ")?;
     }
-    decimal(part);
-    text(b", shared ");
-    decimal(DeviceCapability::common(whole, part));
-    text(b"\n");
+    decimal(to, part)?;
+    text(to, b", shared ")?;
+    decimal(to, DeviceCapability::common(whole, part))?;
+    text(to, b"\n")
 }
 
-fn interfaces() {
-    interface(0);
-    interface(1);
-    interface(2);
-    interface(3);
-    interface(4);
-    interface(5);
-    interface(6);
-    interface(7);
-    interface(8);
-    interface(9);
-    interface(10);
-    interface(11);
-    interface(12);
-    interface(13);
+fn interfaces(to: &mut impl Write) -> io::Result<()> {
+    for i in 0..14 {
+        interface(to, i)?;
+    }
+    Ok(())
 }
 
-fn searches() {
-    search(b"ei_connection");
-    search(b"ei_text");
-    search(b"ei_pointer");
-    search(b"ei_pointer_absolute");
-    search(b"");
-    search(b"ei_pointe");
-    search(b"ei_pointer_");
-    search(b"ei_pointer\0");
-    search(b"EI_SEAT");
-    search(b"ei_handshake");
-    search(b"ei_pointer_absolute_and_more");
+fn searches(to: &mut impl Write) -> io::Result<()> {
+    search(to, b"ei_connection")?;
+    search(to, b"ei_text")?;
+    search(to, b"ei_pointer")?;
+    search(to, b"ei_pointer_absolute")?;
+    search(to, b"")?;
+    search(to, b"ei_pointe")?;
+    search(to, b"ei_pointer_")?;
+    search(to, b"ei_pointer\0")?;
+    search(to, b"EI_SEAT")?;
+    search(to, b"ei_handshake")?;
+    search(to, b"ei_pointer_absolute_and_more")
 }
 
-fn capabilities() {
-    capability(0);
-    capability(1);
-    capability(2);
-    capability(3);
-    capability(4);
-    capability(5);
-    capability(6);
-    capability(7);
+fn capabilities(to: &mut impl Write) -> io::Result<()> {
+    for bit in 0..8 {
+        capability(to, bit)?;
+    }
+    Ok(())
 }
 
-fn masks() {
-    mask(0);
-    mask(127);
-    mask(DeviceCapability::POINTER | DeviceCapability::TOUCH | DeviceCapability::TEXT);
-    mask(128);
-    mask(9223372036854775812);
-    pair(37, 36);
-    pair(37, 38);
-    pair(0, 0);
+fn masks(to: &mut impl Write) -> io::Result<()> {
+    mask(to, 0)?;
+    mask(to, 127)?;
+    mask(
+        to,
+        DeviceCapability::POINTER | DeviceCapability::TOUCH | DeviceCapability::TEXT,
+    )?;
+    mask(to, 128)?;
+    mask(to, 9223372036854775812)?;
+    pair(to, 37, 36)?;
+    pair(to, 37, 38)?;
+    pair(to, 0, 0)
 }
 
-fn main() {
-    interfaces();
-    searches();
-    capabilities();
-    masks();
+fn main(rt: HostRuntime) -> io::Result<()> {
+    let mut out = BufWriter::new(rt.alloc(), io::writer(&rt))?;
+    interfaces(&mut out)?;
+    searches(&mut out)?;
+    capabilities(&mut out)?;
+    masks(&mut out)?;
+    out.flush()
 }

@@ -1,12 +1,13 @@
 // Whole reads: each with the number accepted, the bytes of events and the first refusal, and what the station is then given.
 // The session of each: all twelve interfaces, a seat and a device with every capability.
+#![tactic(auto)]
+
 use answers::Error;
 use control::{CONTROL_LENGTH, QUEUE_LIMIT};
 use converter::request;
 use converter::request::NextRequest;
 use eiproto::eiproto_enum::{DeviceType, KeyState};
 use handshake::handshake::{EisHandshaker, HandshakeMessage};
-use libc::STDOUT_FILENO;
 use reads::record::RequestRecord;
 use reads::{First, ReadAnswer};
 use requests::eis::{
@@ -15,6 +16,8 @@ use requests::eis::{
 };
 use requests::request::EisRequest;
 use session::{REALS_LENGTH, TEXTS_LENGTH, WORDS_LENGTH};
+use std::io;
+use std::io::{BufWriter, Write};
 
 // The ids that the session's calls give. A device's interfaces follow it, by capability bit.
 const CONNECTION: u64 = 0xff00_0000_0000_0000;
@@ -167,62 +170,64 @@ fn three(a: RequestRecord, b: RequestRecord, c: RequestRecord) -> [RequestRecord
 
 // ---- what is written
 
-fn write(text: &[u8]) {
-    io::write_all(STDOUT_FILENO, text);
+fn write(to: &mut impl Write, text: &[u8]) -> io::Result<()> {
+    to.write_all(text)
 }
 
-fn number(n: u64) {
-    io::print_decimal(STDOUT_FILENO, n);
+fn number(to: &mut impl Write, n: u64) -> io::Result<()> {
+    write!(to, "{n}")
 }
 
-fn count(n: usize) {
-    number(n as u64);
+fn count(to: &mut impl Write, n: usize) -> io::Result<()> {
+    number(to, n as u64)
 }
 
-fn byte(b: u8) {
-    io::print_hex(STDOUT_FILENO, b as u64, 2);
+fn byte(to: &mut impl Write, b: u8) -> io::Result<()> {
+    write!(to, "{b:02x}")
 }
 
 // The first n bytes, in hexadecimal.
-fn hex(bytes: &[u8], n: usize) {
+fn hex(to: &mut impl Write, bytes: &[u8], n: usize) -> io::Result<()> {
     let mut i = 0;
     while i < bytes.len() {
         if i < n {
-            byte(bytes[i]);
+            byte(to, bytes[i])?;
         }
         i += 1;
     }
+    Ok(())
 }
 
-fn refused(error: Error) {
-    write(b", refused ");
-    number(error.number() as u64);
+fn refused(to: &mut impl Write, error: Error) -> io::Result<()> {
+    write(to, b", refused ")?;
+    number(to, error.number() as u64)?;
     if let Error::InvalidInterfaceVersion { interface, version } = error {
-        write(b" interface ");
-        number(interface as u64);
-        write(b" version ");
-        number(version as u64);
+        write(to, b" interface ")?;
+        number(to, interface as u64)?;
+        write(to, b" version ")?;
+        number(to, version as u64)?;
     }
+    Ok(())
 }
 
-fn answered(line: &[u8], r: ReadAnswer, out: &[u8]) {
+fn answered(to: &mut impl Write, line: &[u8], r: ReadAnswer, out: &[u8]) -> io::Result<()> {
     let refusal = r.refusal;
-    write(line);
-    write(b": accepted ");
-    count(r.accepted);
-    write(b", bytes ");
-    count(r.count);
+    write(to, line)?;
+    write(to, b": accepted ")?;
+    count(to, r.accepted)?;
+    write(to, b", bytes ")?;
+    count(to, r.count)?;
     if let First::Refused(error) = refusal {
-        refused(error);
+        refused(to, error)?;
     }
     if 0 < r.count {
-        write(b": ");
-        hex(out, r.count);
+        write(to, b": ")?;
+        hex(to, out, r.count)?;
     }
-    write(b"\n");
+    write(to, b"\n")
 }
 
-fn act(given: EisRequest, text: &[u8]) {
+fn act(to: &mut impl Write, given: EisRequest, text: &[u8]) -> io::Result<()> {
     match given {
         EisRequest::KeyboardKey {
             key,
@@ -230,54 +235,68 @@ fn act(given: EisRequest, text: &[u8]) {
             time,
             ..
         } => {
-            write(b"    key ");
-            number(key as u64);
-            write(b" state ");
-            number(state.number() as u64);
-            write(b" time ");
-            number(time);
+            write(to, b"    key ")?;
+            number(to, key as u64)?;
+            write(to, b" state ")?;
+            number(to, state.number() as u64)?;
+            write(to, b" time ")?;
+            number(to, time)?;
         }
         EisRequest::TextUtf8 { length, time, .. } => {
-            write(b"    text ");
-            hex(text, length as usize);
-            write(b" time ");
-            number(time);
+            write(to, b"    text ")?;
+            hex(to, text, length as usize)?;
+            write(to, b" time ")?;
+            number(to, time)?;
         }
         EisRequest::Frame {
             last_serial,
             time,
             ..
         } => {
-            write(b"    frame ");
-            number(last_serial as u64);
-            write(b" time ");
-            number(time);
+            write(to, b"    frame ")?;
+            number(to, last_serial as u64)?;
+            write(to, b" time ")?;
+            number(to, time)?;
         }
-        _ => write(b"    another"),
+        _ => write(to, b"    another")?,
     }
-    write(b"\n");
+    write(to, b"\n")
 }
 
 // ---- reads
 
 // All that is queued, oldest first.
-fn take(control: &mut [u64], words: &[u64], reals: &[f32], texts: &[u8]) {
+fn take(
+    to: &mut impl Write,
+    control: &mut [u64],
+    words: &[u64],
+    reals: &[f32],
+    texts: &[u8],
+) -> io::Result<()> {
     let mut text = [0u8; 254];
     let mut left = QUEUE_LIMIT;
     while 0 < left {
         match request::next_request(control, words, reals, texts, &mut text) {
-            NextRequest::Given(given) => act(given, &text),
+            NextRequest::Given(given) => act(to, given, &text)?,
             _ => {
-                write(b"    none\n");
-                return;
+                write(to, b"    none\n")?;
+                return Ok(());
             }
         }
         left -= 1;
     }
+    Ok(())
 }
 
 // A session with the first n of these records handed over, with these texts and so much of `out`; then a read of a frame at 500, and what is given.
-fn read(line: &[u8], records: [RequestRecord; 32], n: usize, lent: &[u8], out: &mut [u8]) {
+fn read(
+    to: &mut impl Write,
+    line: &[u8],
+    records: [RequestRecord; 32],
+    n: usize,
+    lent: &[u8],
+    out: &mut [u8],
+) -> io::Result<()> {
     let mut control = [0u64; CONTROL_LENGTH];
     let mut words = [0u64; WORDS_LENGTH];
     let mut reals = [0.0f32; REALS_LENGTH];
@@ -295,7 +314,7 @@ fn read(line: &[u8], records: [RequestRecord; 32], n: usize, lent: &[u8], out: &
         600,
         out,
     );
-    answered(line, r, out);
+    answered(to, line, r, out)?;
     read_array::handle_array(
         &mut control,
         &mut words,
@@ -307,76 +326,98 @@ fn read(line: &[u8], records: [RequestRecord; 32], n: usize, lent: &[u8], out: &
         600,
         &mut none,
     );
-    take(&mut control, &words, &reals, &texts);
+    take(to, &mut control, &words, &reals, &texts)
 }
 
 // With room enough, and the texts `abcd`.
-fn reads(line: &[u8], records: [RequestRecord; 32], n: usize) {
+fn reads(
+    to: &mut impl Write,
+    line: &[u8],
+    records: [RequestRecord; 32],
+    n: usize,
+) -> io::Result<()> {
     let mut out = [0u8; 64];
-    read(line, records, n, b"abcd", &mut out);
+    read(to, line, records, n, b"abcd", &mut out)
 }
 
 // The same of one record.
-fn one(line: &[u8], record: RequestRecord) {
-    reads(line, [record; 32], 1);
+fn one(to: &mut impl Write, line: &[u8], record: RequestRecord) -> io::Result<()> {
+    reads(to, line, [record; 32], 1)
 }
 
 // The trial lines by their numbers.
-fn keys() {
-    reads(b"1", [press(30); 32], 0);
-    reads(b"2", three(press(30), released(30), frame(500)), 3);
-    reads(b"3", three(press(30), bind(), press(31)), 3);
-    reads(b"8", two(bind(), utf8(TEXT, 5, 0)), 2);
-    reads(b"11", three(press(30), release_keyboard(), press(31)), 3);
+fn keys(to: &mut impl Write) -> io::Result<()> {
+    reads(to, b"1", [press(30); 32], 0)?;
+    reads(to, b"2", three(press(30), released(30), frame(500)), 3)?;
+    reads(to, b"3", three(press(30), bind(), press(31)), 3)?;
+    reads(to, b"8", two(bind(), utf8(TEXT, 5, 0)), 2)?;
+    reads(
+        to,
+        b"11",
+        three(press(30), release_keyboard(), press(31)),
+        3,
+    )
 }
 
-fn rooms() {
+fn rooms(to: &mut impl Write) -> io::Result<()> {
     let mut short = [0u8; 18];
     let mut long = [0u8; 36];
-    read(b"4, 18 bytes", two(sync(5), sync(6)), 2, b"", &mut short);
-    read(b"4, 36 bytes", two(sync(5), sync(6)), 2, b"", &mut long);
+    read(
+        to,
+        b"4, 18 bytes",
+        two(sync(5), sync(6)),
+        2,
+        b"",
+        &mut short,
+    )?;
+    read(to, b"4, 36 bytes", two(sync(5), sync(6)), 2, b"", &mut long)
 }
 
-fn parts() {
+fn parts(to: &mut impl Write) -> io::Result<()> {
     let mut out = [0u8; 64];
     reads(
+        to,
         b"5",
         three(utf8(TEXT, 0, 2), utf8(TEXT, 1, 3), utf8(TEXT, 0, 4)),
         3,
-    );
-    one(b"6, 3+2", utf8(TEXT, 3, 2));
-    one(b"6, 4+0", utf8(TEXT, 4, 0));
-    one(b"6, 5+0", utf8(TEXT, 5, 0));
+    )?;
+    one(to, b"6, 3+2", utf8(TEXT, 3, 2))?;
+    one(to, b"6, 4+0", utf8(TEXT, 4, 0))?;
+    one(to, b"6, 5+0", utf8(TEXT, 5, 0))?;
     one(
+        to,
         b"6, 18446744073709551615+2",
         utf8(TEXT, 18446744073709551615, 2),
-    );
-    one(b"7, key 9+9", key_part(30, KeyState::Press, 9, 9));
-    one(b"7, on a keyboard 4+1", utf8(KEYBOARD, 4, 1));
-    one(b"7, on a keyboard 0+1", utf8(KEYBOARD, 0, 1));
+    )?;
+    one(to, b"7, key 9+9", key_part(30, KeyState::Press, 9, 9))?;
+    one(to, b"7, on a keyboard 4+1", utf8(KEYBOARD, 4, 1))?;
+    one(to, b"7, on a keyboard 0+1", utf8(KEYBOARD, 0, 1))?;
     read(
+        to,
         b"7, on a keyboard, no UTF-8",
         [utf8(KEYBOARD, 0, 1); 32],
         1,
         b"\x80",
         &mut out,
-    );
+    )
 }
 
-fn refusals() {
+fn refusals(to: &mut impl Write) -> io::Result<()> {
     let down = TouchscreenRequest::Down {
         touchid: 1,
         x: 0.0,
         y: 0.0,
     };
     let cancel = TouchscreenRequest::Cancel { touchid: 1 };
-    reads(b"10", two(touch(2, down), touch(1, cancel)), 2);
-    one(b"11, name 0+1", name(0, 1));
+    reads(to, b"10", two(touch(2, down), touch(1, cancel)), 2)?;
+    one(to, b"11, name 0+1", name(0, 1))
 }
 
-fn main() {
-    keys();
-    rooms();
-    parts();
-    refusals();
+fn main(rt: HostRuntime) -> io::Result<()> {
+    let mut out = BufWriter::new(rt.alloc(), io::writer(&rt))?;
+    keys(&mut out)?;
+    rooms(&mut out)?;
+    parts(&mut out)?;
+    refusals(&mut out)?;
+    out.flush()
 }

@@ -1,7 +1,14 @@
 // Replays a call script: reads calls from a file or from standard input and writes their trail on standard output. With the argument --explain in
 // words too. What cannot be done is said on standard error.
-use libc::{STDERR_FILENO, STDIN_FILENO, STDOUT_FILENO};
+#![tactic(auto)]
+
+ghost use Rattle.std.specs.Prelude.{◌≤◌, length};
+
 use script_play::End;
+use std::env::{Env, FillError};
+use std::fs::File;
+use std::io::{Read, Write};
+use std::{io, str};
 
 // Whether the first n bytes are a word.
 fn same_first(s: &[u8], n: usize, word: &[u8]) -> bool {
@@ -28,9 +35,8 @@ fn same(a: &[u8], b: &[u8]) -> bool {
     true
 }
 
-fn usage(fd: i32) {
-    io::write_all(
-        fd,
+fn usage(to: &mut impl Write) {
+    let _ = to.write_all(
         b"usage: replay [--explain] [FILE]\n\
     Plays a call script (docs/CALL-SCRIPTS.md), from standard input where no FILE is named, and writes its trail on standard output.\n\
     \x20 --explain  each call before its answer, and event records, refusals and texts in words\n\
@@ -39,27 +45,64 @@ fn usage(fd: i32) {
     );
 }
 
+// What failed, a colon and the system's reason, on standard error.
+fn fail(rt: &HostRuntime, what: &[u8], e: io::Error) {
+    let mut err = rt.stderr();
+    let _ = err.write_all(what);
+    let _ = writeln!(err, ": {e}");
+}
+
 // How it ended, on standard error.
-fn say(end: End) {
+fn say(rt: &HostRuntime, end: End) {
     match end {
         End::Played => {}
         End::Wrong => {}
-        End::Unread => os::fail(b"replay: the script cannot be read"),
-        End::Unwritten => os::fail(b"replay: the trail cannot be written"),
+        End::Unread(e) => fail(rt, b"replay: the script cannot be read", e),
+        End::Unwritten(e) => fail(rt, b"replay: the trail cannot be written", e),
     }
 }
 
-fn play(fd: i32, explained: bool) {
-    say(script_play::play(fd, explained));
+fn play(rt: &HostRuntime, from: &mut impl Read, explained: bool) {
+    say(
+        rt,
+        script_play::play(from, &mut rt.stdout(), &mut rt.stderr(), explained),
+    );
 }
 
-fn play_file(path: &[u8], explained: bool) {
-    let fd = os::open_read(path);
-    if fd < 0 {
-        os::fail(path);
-        return;
+// A path is UTF-8: no other can be opened.
+fn open(rt: &HostRuntime, path: &[u8]) -> io::Result<File> {
+    match str::from_utf8(path) {
+        Ok(path) => File::open(rt, path),
+        Err(_) => Err(io::Error::from(io::ErrorKind::InvalidFilename)),
     }
-    play(fd, explained);
+}
+
+fn play_file(rt: &HostRuntime, path: &[u8], explained: bool) {
+    match open(rt, path) {
+        Ok(mut file) => play(rt, &mut file, explained),
+        Err(e) => fail(rt, path, e),
+    }
+}
+
+// How many bytes of the argument of a number stand in the buffer: 0 where it is missing, or longer.
+fn argument(rt: &impl Env, i: usize, word: &mut [u8]) -> usize
+    ensures { result ≤ length word.new }
+{
+    match rt.arg(i, word) {
+        Ok(n) => n,
+        Err(_) => 0,
+    }
+}
+
+// How many arguments there are, the program's own name among them; beyond 4 they are not counted.
+fn argument_count(rt: &impl Env) -> usize {
+    let mut word = [0u8; 1];
+    for i in 0..4 {
+        if let Err(FillError::NotPresent) = rt.arg(i, &mut word) {
+            return i;
+        }
+    }
+    4
 }
 
 // A word that begins with `-` is no file's name here; nor is one that is empty or too long.
@@ -74,50 +117,50 @@ fn is_name(word: &[u8], n: usize) -> bool {
 }
 
 // The file that the argument of a number names.
-fn named(i: usize, explained: bool) {
+fn named(rt: &HostRuntime, i: usize, explained: bool) {
     let mut word = [0u8; 4096];
     let from: usize = 0;
-    let n = os::arg(i, &mut word);
+    let n = argument(rt, i, &mut word);
     if !is_name(&word, n) {
-        usage(STDERR_FILENO);
+        usage(&mut rt.stderr());
         return;
     }
     if n <= word.len() {
-        play_file(&word[from..n], explained);
+        play_file(rt, &word[from..n], explained);
     }
 }
 
-fn is_argument(i: usize, word: &[u8]) -> bool {
+fn is_argument(rt: &impl Env, i: usize, word: &[u8]) -> bool {
     let mut argument = [0u8; 16];
-    let n = os::arg(i, &mut argument);
+    let n = self::argument(rt, i, &mut argument);
     same_first(&argument, n, word)
 }
 
-fn main() {
-    let count = os::arg_count();
+fn main(rt: HostRuntime) {
+    let count = argument_count(&rt);
     if count < 2 {
-        play(STDIN_FILENO, false);
+        play(&rt, &mut rt.stdin(), false);
         return;
     }
-    if is_argument(1, b"--help") {
-        usage(STDOUT_FILENO);
+    if is_argument(&rt, 1, b"--help") {
+        usage(&mut rt.stdout());
         return;
     }
-    if is_argument(1, b"--explain") {
+    if is_argument(&rt, 1, b"--explain") {
         if count == 2 {
-            play(STDIN_FILENO, true);
+            play(&rt, &mut rt.stdin(), true);
             return;
         }
         if count == 3 {
-            named(2, true);
+            named(&rt, 2, true);
             return;
         }
-        usage(STDERR_FILENO);
+        usage(&mut rt.stderr());
         return;
     }
     if count == 2 {
-        named(1, false);
+        named(&rt, 1, false);
         return;
     }
-    usage(STDERR_FILENO);
+    usage(&mut rt.stderr());
 }

@@ -1,11 +1,14 @@
 // Reads the lines of a call script, and writes for each its number and what it is. A line of more than 65,536 bytes is no call.
-ghost use Rattle.std.specs.Prelude.{◌≤◌, length};
+#![tactic(auto)]
 
-use libc::{STDIN_FILENO, STDOUT_FILENO};
+ghost use Rattle.std.specs.Prelude.{◌≤◌, length, IfOk};
+
 use script::{Line, LineEnd};
+use std::io;
+use std::io::{BufWriter, Read, Write};
 
-fn text(s: &[u8]) {
-    io::write_all(STDOUT_FILENO, s);
+fn text(to: &mut impl Write, s: &[u8]) -> io::Result<()> {
+    to.write_all(s)
 }
 
 // The end of the first word.
@@ -22,40 +25,41 @@ fn word_end(line: &[u8]) -> usize
     i
 }
 
-fn verb(line: &[u8]) {
+fn verb(to: &mut impl Write, line: &[u8]) -> io::Result<()> {
     let end = word_end(line);
-    text(&line[..end]);
+    text(to, &line[..end])
 }
 
-fn answer(line: &[u8]) {
+fn answer(to: &mut impl Write, line: &[u8]) -> io::Result<()> {
     match script::parse(line, false) {
-        Line::Blank => text(b" blank\n"),
-        Line::Setting { verb: _, args: _ } => text(b" setting\n"),
+        Line::Blank => text(to, b" blank\n")?,
+        Line::Setting { verb: _, args: _ } => text(to, b" setting\n")?,
         Line::Call { verb: _, args: _ } => {
-            text(b" call ");
-            verb(line);
-            text(b"\n");
+            text(to, b" call ")?;
+            verb(to, line)?;
+            text(to, b"\n")?;
         }
-        Line::NoCall => text(b" no call\n"),
+        Line::NoCall => text(to, b" no call\n")?,
     }
+    Ok(())
 }
 
 // `cut` says that the line had more bytes than the buffer.
-fn say(number: u64, line: &[u8], cut: bool) {
-    io::print_decimal(STDOUT_FILENO, number);
+fn say(to: &mut impl Write, number: u64, line: &[u8], cut: bool) -> io::Result<()> {
+    write!(to, "{number}")?;
     if cut {
-        text(b" no call\n");
-        return;
+        text(to, b" no call\n")?;
+        return Ok(());
     }
     if 65536 < line.len() {
-        text(b" no call\n");
-        return;
+        text(to, b" no call\n")?;
+        return Ok(());
     }
-    answer(line);
+    answer(to, line)
 }
 
 // The line that is begun: where, its number, and whether its first bytes are gone.
-#[derive(Drop)]
+#[derive(Clone, Copy)]
 struct Begun {
     at: usize,
     number: u64,
@@ -63,9 +67,15 @@ struct Begun {
 }
 
 // Goes through the lines that end in what is filled.
-fn lines(buf: &[u8], filled: usize, number: u64, cut: bool) -> Begun
+fn lines(
+    to: &mut impl Write,
+    buf: &[u8],
+    filled: usize,
+    number: u64,
+    cut: bool,
+) -> io::Result<Begun>
     requires { filled ≤ length buf.now }
-    ensures { result.at ≤ filled }
+    ensures { IfOk result (λ r. r.at ≤ filled) }
 {
     let mut at: usize = 0;
     let mut n = number;
@@ -73,25 +83,25 @@ fn lines(buf: &[u8], filled: usize, number: u64, cut: bool) -> Begun
     while at < filled {
         match script::line_end(buf, at, filled) {
             LineEnd::At { end, next } => {
-                say(n, &buf[at..end], gone);
+                say(to, n, &buf[at..end], gone)?;
                 n = std::num::wrapping_add_u64(n, 1);
                 gone = false;
                 at = next;
             }
             LineEnd::Nothing => {
-                return Begun {
+                return Ok(Begun {
                     at,
                     number: n,
                     cut: gone,
-                };
+                });
             }
         }
     }
-    Begun {
+    Ok(Begun {
         at,
         number: n,
         cut: gone,
-    }
+    })
 }
 
 // Moves what is filled from a place on to the start.
@@ -106,7 +116,7 @@ fn move_down(buf: &mut [u8], at: usize, filled: usize)
 }
 
 // How much of the buffer is filled, the number of the line that is begun, whether its first bytes are gone, and whether there is more to read.
-#[derive(Drop)]
+#[derive(Clone, Copy)]
 struct Progress {
     filled: usize,
     number: u64,
@@ -115,81 +125,95 @@ struct Progress {
 }
 
 // Takes the lines that end, and makes room.
-fn take_lines(buf: &mut [u8], filled: usize, number: u64, cut: bool) -> Progress
+fn take_lines(
+    to: &mut impl Write,
+    buf: &mut [u8],
+    filled: usize,
+    number: u64,
+    cut: bool,
+) -> io::Result<Progress>
     requires { filled ≤ length buf.old }
-    ensures { result.filled ≤ length buf.new }
+    ensures { IfOk result (λ r. r.filled ≤ length buf.new) }
 {
-    let begun = lines(buf, filled, number, cut);
+    let begun = lines(to, buf, filled, number, cut)?;
     let at = begun.at;
     move_down(buf, at, filled);
     let left = filled - at;
     if left == buf.len() {
-        return Progress {
+        return Ok(Progress {
             filled: 0,
             number: begun.number,
             cut: true,
             more: true,
-        };
+        });
     }
-    Progress {
+    Ok(Progress {
         filled: left,
         number: begun.number,
         cut: begun.cut,
         more: true,
-    }
+    })
 }
 
 // A last line that no newline ends.
-fn finish(buf: &[u8], filled: usize, number: u64, cut: bool)
+fn finish(to: &mut impl Write, buf: &[u8], filled: usize, number: u64, cut: bool) -> io::Result<()>
     requires { filled ≤ length buf.now }
 {
     if cut {
-        say(number, &buf[..filled], cut);
-        return;
+        say(to, number, &buf[..filled], cut)?;
+        return Ok(());
     }
     if 0 < filled {
-        say(number, &buf[..filled], cut);
+        say(to, number, &buf[..filled], cut)?;
     }
+    Ok(())
 }
 
-fn read_some(buf: &mut [u8], filled: usize, number: u64, cut: bool) -> Progress
+fn read_some(
+    from: &mut impl Read,
+    to: &mut impl Write,
+    buf: &mut [u8],
+    filled: usize,
+    number: u64,
+    cut: bool,
+) -> io::Result<Progress>
     requires { filled ≤ length buf.old }
-    ensures { result.filled ≤ length buf.new }
+    ensures { IfOk result (λ r. r.filled ≤ length buf.new) }
 {
-    let got = libc::read(STDIN_FILENO, &mut buf[filled..]);
-    if got <= 0 {
-        finish(buf, filled, number, cut);
-        return Progress {
+    let got = from.read(&mut buf[filled..])?;
+    if got == 0 {
+        finish(to, buf, filled, number, cut)?;
+        return Ok(Progress {
             filled: 0,
             number,
             cut,
             more: false,
-        };
+        });
     }
-    let count = io::count(got, &buf[filled..]);
-    take_lines(buf, filled + count, number, cut)
+    take_lines(to, buf, filled + got, number, cut)
 }
 
-// A proved loop has to end, and nothing says that the input does. So the loop counts its turns down, from a number that no run uses up.
-fn read_all(buf: &mut [u8]) {
+// A proved loop has to end, and nothing says that the input does. So the loop counts its turns, up to a number that no run reaches.
+fn read_all(from: &mut impl Read, to: &mut impl Write, buf: &mut [u8]) -> io::Result<()> {
     let mut filled: usize = 0;
     let mut number: u64 = 1;
     let mut cut = false;
-    let mut turns = u64::MAX;
-    while 0 < turns {
-        let t = read_some(buf, filled, number, cut);
+    for _ in 0..u64::MAX {
+        let t = read_some(from, to, buf, filled, number, cut)?;
         if !t.more {
-            return;
+            return Ok(());
         }
         filled = t.filled;
         number = t.number;
         cut = t.cut;
-        turns -= 1;
     }
+    Ok(())
 }
 
-fn main() {
+fn main(rt: HostRuntime) -> io::Result<()> {
+    let mut out = BufWriter::new(rt.alloc(), io::writer(&rt))?;
     // A line of 65,536 bytes, a carriage return and a newline.
     let mut buf = [0u8; 65538];
-    read_all(&mut buf);
+    read_all(&mut rt.stdin(), &mut out, &mut buf)?;
+    out.flush()
 }

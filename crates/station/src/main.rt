@@ -1,5 +1,7 @@
 // A first station: it shakes hands, adds a seat and a keyboard, takes a key press and its frame, and writes which key was pressed when.
 // What the client sends stands here in its place. A station decodes it from its socket, and sends the first `count` bytes of `out` after each call.
+#![tactic(auto)]
+
 use answers::{Answer, Outcome};
 use control::{CONTROL_LENGTH, QUEUE_LIMIT};
 use converter::request;
@@ -7,28 +9,27 @@ use converter::request::NextRequest;
 use eiproto::eiproto_enum::{DeviceType, KeyState};
 use eiproto::event::DeviceCapability;
 use handshake::handshake::{EisHandshaker, HandshakeMessage, HandshakeOutcome};
-use libc::STDOUT_FILENO;
 use requests::eis::{DeviceRequest, InterfaceRequest, KeyboardRequest, Request, SeatRequest};
 use requests::request::EisRequest;
 use session::{REALS_LENGTH, TEXTS_LENGTH, WORDS_LENGTH};
+use std::io;
+use std::io::{BufWriter, Write};
 
 // Enough for the events of any call.
 const OUT_LENGTH: usize = 1225;
 
-fn write(text: &[u8]) {
-    io::write_all(STDOUT_FILENO, text);
+fn write(to: &mut impl Write, text: &[u8]) -> io::Result<()> {
+    to.write_all(text)
 }
 
 // Whether a call was accepted. A refusal is told by its number.
-fn accepted(answer: Answer) -> bool {
+fn accepted(to: &mut impl Write, answer: Answer) -> io::Result<bool> {
     let outcome = answer.outcome;
     let Outcome::Refused(error) = outcome else {
-        return true;
+        return Ok(true);
     };
-    write(b"refused: ");
-    io::print_decimal(STDOUT_FILENO, error.number() as u64);
-    write(b"\n");
-    false
+    writeln!(to, "refused: {}", error.number())?;
+    Ok(false)
 }
 
 // The client knows an interface, in this version.
@@ -45,7 +46,7 @@ fn shake() -> EisHandshaker {
 }
 
 // The handshake, and the session that it ends in.
-fn begin(control: &mut [u64]) -> bool {
+fn begin(to: &mut impl Write, control: &mut [u64]) -> io::Result<bool> {
     let mut out = [0u8; OUT_LENGTH];
     let mut shaking = shake();
     shaking = knows(shaking, b"ei_connection", 1);
@@ -57,20 +58,20 @@ fn begin(control: &mut [u64]) -> bool {
     let answer = shaking.handle_request(HandshakeMessage::Finish, b"", &mut out);
     let outcome = answer.outcome;
     let HandshakeOutcome::Finished = outcome else {
-        write(b"no handshake\n");
-        return false;
+        write(to, b"no handshake\n")?;
+        return Ok(false);
     };
-    accepted(request::new(control, answer.response))
+    accepted(to, request::new(control, answer.response))
 }
 
 // An id, or that a call gave none.
-#[derive(Drop)]
+#[derive(Clone, Copy)]
 enum Added {
     Id(u64),
     Nothing,
 }
 
-fn add_seat(control: &mut [u64]) -> Added {
+fn add_seat(to: &mut impl Write, control: &mut [u64]) -> io::Result<Added> {
     let mut out = [0u8; OUT_LENGTH];
     let answer = connection::add_seat(
         control,
@@ -81,15 +82,15 @@ fn add_seat(control: &mut [u64]) -> Added {
     );
     let outcome = answer.outcome;
     match outcome {
-        Outcome::Seat(id) => Added::Id(id),
+        Outcome::Seat(id) => Ok(Added::Id(id)),
         _ => {
-            accepted(answer);
-            Added::Nothing
+            accepted(to, answer)?;
+            Ok(Added::Nothing)
         }
     }
 }
 
-fn add_device(control: &mut [u64], seat: u64) -> Added {
+fn add_device(to: &mut impl Write, control: &mut [u64], seat: u64) -> io::Result<Added> {
     let mut out = [0u8; OUT_LENGTH];
     let answer = seat::add_device(
         control,
@@ -102,21 +103,22 @@ fn add_device(control: &mut [u64], seat: u64) -> Added {
     );
     let outcome = answer.outcome;
     match outcome {
-        Outcome::Device(id) => Added::Id(id),
+        Outcome::Device(id) => Ok(Added::Id(id)),
         _ => {
-            accepted(answer);
-            Added::Nothing
+            accepted(to, answer)?;
+            Ok(Added::Nothing)
         }
     }
 }
 
-fn resume(control: &mut [u64], device: u64) -> bool {
+fn resume(to: &mut impl Write, control: &mut [u64], device: u64) -> io::Result<bool> {
     let mut out = [0u8; OUT_LENGTH];
-    accepted(device::resumed(control, device, &mut out))
+    accepted(to, device::resumed(control, device, &mut out))
 }
 
 // A request of the client, on the object of this id and version, at this clock.
 fn receive(
+    to: &mut impl Write,
     control: &mut [u64],
     words: &mut [u64],
     reals: &mut [f32],
@@ -125,36 +127,47 @@ fn receive(
     version: u32,
     sent: Request,
     clock: u64,
-) -> bool {
+) -> io::Result<bool> {
     let mut out = [0u8; OUT_LENGTH];
-    accepted(request::handle_request(
-        control, words, reals, texts, object, version, sent, b"", clock, &mut out,
-    ))
+    accepted(
+        to,
+        request::handle_request(
+            control, words, reals, texts, object, version, sent, b"", clock, &mut out,
+        ),
+    )
 }
 
 // A seat, which the client binds.
-fn open_seat(control: &mut [u64], words: &mut [u64], reals: &mut [f32], texts: &mut [u8]) -> Added {
-    let added = add_seat(control);
+fn open_seat(
+    to: &mut impl Write,
+    control: &mut [u64],
+    words: &mut [u64],
+    reals: &mut [f32],
+    texts: &mut [u8],
+) -> io::Result<Added> {
+    let added = add_seat(to, control)?;
     if let Added::Id(seat) = added {
         let bind = Request::Seat(SeatRequest::Bind {
             capabilities: DeviceCapability::KEYBOARD,
         });
-        receive(control, words, reals, texts, seat, 2, bind, 490);
+        receive(to, control, words, reals, texts, seat, 2, bind, 490)?;
     }
-    added
+    Ok(added)
 }
 
 // A device with a keyboard on the seat. Once the client is ready, it may send.
 fn open_keyboard(
+    to: &mut impl Write,
     control: &mut [u64],
     words: &mut [u64],
     reals: &mut [f32],
     texts: &mut [u8],
     seat: u64,
-) -> Added {
-    let added = add_device(control, seat);
+) -> io::Result<Added> {
+    let added = add_device(to, control, seat)?;
     if let Added::Id(device) = added {
         receive(
+            to,
             control,
             words,
             reals,
@@ -163,14 +176,21 @@ fn open_keyboard(
             3,
             Request::Device(DeviceRequest::Ready),
             492,
-        );
-        resume(control, device);
+        )?;
+        resume(to, control, device)?;
     }
-    added
+    Ok(added)
 }
 
 // The clerk presses a key: the key waits for the client's frame, and gets its time.
-fn press(control: &mut [u64], words: &mut [u64], reals: &mut [f32], texts: &mut [u8], device: u64) {
+fn press(
+    to: &mut impl Write,
+    control: &mut [u64],
+    words: &mut [u64],
+    reals: &mut [f32],
+    texts: &mut [u8],
+    device: u64,
+) -> io::Result<()> {
     // The ids of a device's interfaces follow its own, by capability bit: this one has a keyboard alone.
     let keyboard = std::num::wrapping_add_u64(device, 1);
     let start = Request::Device(DeviceRequest::StartEmulating {
@@ -185,51 +205,72 @@ fn press(control: &mut [u64], words: &mut [u64], reals: &mut [f32], texts: &mut 
         last_serial: 8,
         timestamp: 500,
     });
-    receive(control, words, reals, texts, device, 3, start, 499);
-    receive(control, words, reals, texts, keyboard, 1, key, 500);
-    receive(control, words, reals, texts, device, 3, frame, 501);
+    receive(to, control, words, reals, texts, device, 3, start, 499)?;
+    receive(to, control, words, reals, texts, keyboard, 1, key, 500)?;
+    receive(to, control, words, reals, texts, device, 3, frame, 501)?;
+    Ok(())
 }
 
 // What the station does with a request that it is given.
-fn act(given: EisRequest) {
+fn act(to: &mut impl Write, given: EisRequest) -> io::Result<()> {
     let EisRequest::KeyboardKey { key, time, .. } = given else {
-        return;
+        return Ok(());
     };
-    write(b"key ");
-    io::print_decimal(STDOUT_FILENO, key as u64);
-    write(b" at ");
-    io::print_decimal(STDOUT_FILENO, time);
-    write(b"\n");
+    writeln!(to, "key {key} at {time}")
 }
 
 // All that is queued, oldest first.
-fn take(control: &mut [u64], words: &[u64], reals: &[f32], texts: &[u8]) {
+fn take(
+    to: &mut impl Write,
+    control: &mut [u64],
+    words: &[u64],
+    reals: &[f32],
+    texts: &[u8],
+) -> io::Result<()> {
     let mut text = [0u8; 254];
     let mut left = QUEUE_LIMIT;
     while 0 < left {
         match request::next_request(control, words, reals, texts, &mut text) {
-            NextRequest::Given(given) => act(given),
-            _ => return,
+            NextRequest::Given(given) => act(to, given)?,
+            _ => return Ok(()),
         }
         left -= 1;
     }
+    Ok(())
 }
 
-fn main() {
+fn main(rt: HostRuntime) -> io::Result<()> {
+    let mut out = BufWriter::new(rt.alloc(), io::writer(&rt))?;
     let mut control = [0u64; CONTROL_LENGTH];
     let mut words = [0u64; WORDS_LENGTH];
     let mut reals = [0.0f32; REALS_LENGTH];
     let mut texts = [0u8; TEXTS_LENGTH];
-    if !begin(&mut control) {
-        return;
+    if !begin(&mut out, &mut control)? {
+        return out.flush();
     }
-    let Added::Id(seat) = open_seat(&mut control, &mut words, &mut reals, &mut texts) else {
-        return;
-    };
-    let Added::Id(device) = open_keyboard(&mut control, &mut words, &mut reals, &mut texts, seat)
+    let Added::Id(seat) = open_seat(&mut out, &mut control, &mut words, &mut reals, &mut texts)?
     else {
-        return;
+        return out.flush();
     };
-    press(&mut control, &mut words, &mut reals, &mut texts, device);
-    take(&mut control, &words, &reals, &texts);
+    let Added::Id(device) = open_keyboard(
+        &mut out,
+        &mut control,
+        &mut words,
+        &mut reals,
+        &mut texts,
+        seat,
+    )?
+    else {
+        return out.flush();
+    };
+    press(
+        &mut out,
+        &mut control,
+        &mut words,
+        &mut reals,
+        &mut texts,
+        device,
+    )?;
+    take(&mut out, &mut control, &words, &reals, &texts)?;
+    out.flush()
 }

@@ -1,94 +1,95 @@
 // Puts touches down and up again, and writes each call with its answer and the ids that are held after it. Each change goes through the method on
 // a record that is lent, and so through the value core behind it.
-use libc::STDOUT_FILENO;
+#![tactic(auto)]
+
+use std::io;
+use std::io::{BufWriter, Write};
 use touches::{DownAnswer, DownTouchIds, kept};
 
-fn text(s: &[u8]) {
-    io::write_all(STDOUT_FILENO, s);
+fn text(to: &mut impl Write, s: &[u8]) -> io::Result<()> {
+    to.write_all(s)
 }
 
-fn decimal(n: u32) {
-    io::print_decimal(STDOUT_FILENO, n as u64);
+fn decimal(to: &mut impl Write, n: u32) -> io::Result<()> {
+    write!(to, "{n}")
 }
 
-fn held(d: DownTouchIds) {
+fn held(to: &mut impl Write, d: DownTouchIds) -> io::Result<()> {
     let n = d.len();
-    io::print_decimal(STDOUT_FILENO, n as u64);
-    text(b" held:");
-    let mut i: usize = 0;
-    while i < n {
-        text(b" ");
-        decimal(d.ids[i]);
-        i += 1;
+    write!(to, "{n}")?;
+    text(to, b" held:")?;
+    for id in &d.ids[..n] {
+        text(to, b" ")?;
+        decimal(to, *id)?;
     }
-    text(b"\n");
+    text(to, b"\n")
 }
 
-fn down(d: DownTouchIds, id: u32) -> DownTouchIds {
+fn down(to: &mut impl Write, d: DownTouchIds, id: u32) -> io::Result<DownTouchIds> {
     let r = kept::insert(d, id);
     let answer = r.answer;
-    text(b"down ");
-    decimal(id);
+    text(to, b"down ")?;
+    decimal(to, id)?;
     match answer {
-        DownAnswer::Inserted => text(b": inserted, "),
-        DownAnswer::TooManyTouches => text(b": 4, "),
-        DownAnswer::DuplicatedTouchDown => text(b": 5, "),
+        DownAnswer::Inserted => text(to, b": inserted, ")?,
+        DownAnswer::TooManyTouches => text(to, b": 4, ")?,
+        DownAnswer::DuplicatedTouchDown => text(to, b": 5, ")?,
     }
     let e = r.touches;
-    held(e);
-    e
+    held(to, e)?;
+    Ok(e)
 }
 
-fn up(d: DownTouchIds, id: u32) -> DownTouchIds {
+fn up(to: &mut impl Write, d: DownTouchIds, id: u32) -> io::Result<DownTouchIds> {
     let r = kept::remove(d, id);
-    text(b"up ");
-    decimal(id);
+    text(to, b"up ")?;
+    decimal(to, id)?;
     if r.answer {
-        text(b": removed, ");
+        text(to, b": removed, ")?;
     } else {
-        text(b": not held, ");
+        text(to, b": not held, ")?;
     }
     let e = r.touches;
-    held(e);
-    e
+    held(to, e)?;
+    Ok(e)
 }
 
 // From 1 on.
-fn down_to_14(d: DownTouchIds) -> DownTouchIds {
+fn down_to_14(to: &mut impl Write, d: DownTouchIds) -> io::Result<DownTouchIds> {
     let mut e = d;
-    let mut id: u32 = 1;
-    while id < 15 {
-        e = down(e, id);
-        id += 1;
+    for id in 1..15 {
+        e = down(to, e, id)?;
     }
-    e
+    Ok(e)
 }
 
-fn main() {
+fn main(rt: HostRuntime) -> io::Result<()> {
+    let mut out = BufWriter::new(rt.alloc(), io::writer(&rt))?;
     // Sixteen zeros hold no id 0, which is an id like others.
-    let mut d = up(DownTouchIds::new(), 0);
-    d = down(d, 0);
-    d = down(d, 0);
-    d = down_to_14(d);
+    let mut d = up(&mut out, DownTouchIds::new(), 0)?;
+    d = down(&mut out, d, 0)?;
+    d = down(&mut out, d, 0)?;
+    d = down_to_14(&mut out, d)?;
     // 15 held: 5. 16 held: 4, for a held id and for a new one.
-    d = down(d, 7);
-    d = down(d, 4294967295);
-    d = down(d, 7);
-    d = down(d, 16);
+    d = down(&mut out, d, 7)?;
+    d = down(&mut out, d, 4294967295)?;
+    d = down(&mut out, d, 7)?;
+    d = down(&mut out, d, 16)?;
     // The ids behind it move down, and it comes last when it is down again.
-    d = up(d, 7);
-    d = up(d, 7);
-    d = down(d, 7);
-    d = up(d, 0);
-    d = up(d, 7);
-    text(b"clear, ");
-    held(kept::clear(d));
+    d = up(&mut out, d, 7)?;
+    d = up(&mut out, d, 7)?;
+    d = down(&mut out, d, 7)?;
+    d = up(&mut out, d, 0)?;
+    d = up(&mut out, d, 7)?;
+    text(&mut out, b"clear, ")?;
+    held(&mut out, kept::clear(d))?;
     // A count above sixteen counts as sixteen.
     d = DownTouchIds {
         ids: [9; 16],
         count: 99,
     };
-    d = down(d, 1);
-    d = up(d, 1);
-    d = up(d, 9);
+    d = down(&mut out, d, 1)?;
+    d = up(&mut out, d, 1)?;
+    d = up(&mut out, d, 9)?;
+    out.flush()
 }

@@ -1,12 +1,15 @@
 // Reads lines of bytes in hexadecimal, and writes each again with the answer whether they are
 // UTF-8. A line that begins with `#` is a comment, and is written as it is.
-ghost use Rattle.std.specs.Prelude.{◌≡◌, ◌≤◌, length};
+#![tactic(auto)]
+
+ghost use Rattle.std.specs.Prelude.{◌≡◌, ◌≤◌, length, IfOk};
 ghost use Rattle.utf8_cases.specs.Hex.{value_of};
 ghost use Rattle.utf8_cases.specs.Answers.{Read, is_comment, answer_to};
 
-use libc::{STDIN_FILENO, STDOUT_FILENO};
+use std::io;
+use std::io::{BufWriter, Read, Write};
 
-#[derive(Drop)]
+#[derive(Clone, Copy)]
 enum Verdict {
     Comment,
     // The line has more than 1,024 characters.
@@ -17,7 +20,7 @@ enum Verdict {
 }
 
 // How many bytes a line stands for. Nothing: it is not in hexadecimal.
-#[derive(Drop)]
+#[derive(Clone, Copy)]
 enum Bytes {
     Count(usize),
     Nothing,
@@ -96,99 +99,98 @@ fn answer_to(line: &[u8]) -> Verdict
     }
 }
 
-// Writes the end of a line, and answers whether that was written.
-fn say(a: Verdict) -> bool {
+// Writes the end of a line.
+fn say(to: &mut impl Write, a: Verdict) -> io::Result<()> {
     match a {
-        Verdict::Comment => io::write_all(STDOUT_FILENO, b"\n"),
-        Verdict::TooLong => io::write_all(STDOUT_FILENO, b": too long\n"),
-        Verdict::NotHexadecimal => io::write_all(STDOUT_FILENO, b": not hexadecimal\n"),
-        Verdict::Valid => io::write_all(STDOUT_FILENO, b": valid\n"),
-        Verdict::NotValid => io::write_all(STDOUT_FILENO, b": not valid\n"),
+        Verdict::Comment => to.write_all(b"\n"),
+        Verdict::TooLong => to.write_all(b": too long\n"),
+        Verdict::NotHexadecimal => to.write_all(b": not hexadecimal\n"),
+        Verdict::Valid => to.write_all(b": valid\n"),
+        Verdict::NotValid => to.write_all(b": not valid\n"),
     }
 }
 
 // Ends a line that was written, whose first n characters are in `line`.
-fn end_line(line: &[u8], n: usize)
+fn end_line(to: &mut impl Write, line: &[u8], n: usize) -> io::Result<()>
     requires { n ≤ length line.now }
 {
-    say(answer_to(&line[..n]));
+    say(to, answer_to(&line[..n]))
 }
 
 // Goes through a piece of input, where a line is begun whose first n characters are in `line`:
 // writes it again, with the answer at the end of each line. Answers how many characters of the line
 // that is begun then are in `line`, which takes no more than it has room for.
-fn lines(piece: &[u8], line: &mut [u8], n: usize) -> usize
+fn lines(to: &mut impl Write, piece: &[u8], line: &mut [u8], n: usize) -> io::Result<usize>
     requires { n ≤ length line.old }
-    ensures { result ≤ length line.new }
+    ensures { IfOk result (λ begun. begun ≤ length line.new) }
 {
     let mut begun = n;
     let mut from = 0;
-    let mut at = 0;
-    while at < piece.len() {
-        let c = piece[at];
-        if c == b'\n' {
-            io::write_all(STDOUT_FILENO, &piece[from..at]);
-            end_line(line, begun);
+    for (at, c) in piece.iter().enumerate() {
+        if *c == b'\n' {
+            to.write_all(&piece[from..at])?;
+            end_line(to, line, begun)?;
             begun = 0;
-            at += 1;
-            from = at;
-        } else {
-            at += 1;
-            if begun < line.len() {
-                line[begun] = c;
-                begun += 1;
-            }
+            from = at + 1;
+        } else if begun < line.len() {
+            line[begun] = *c;
+            begun += 1;
         }
     }
-    io::write_all(STDOUT_FILENO, &piece[from..]);
-    begun
+    to.write_all(&piece[from..])?;
+    Ok(begun)
 }
 
 // What one read leaves: how much of a line is begun, and whether there is more to read.
-#[derive(Drop)]
+#[derive(Clone, Copy)]
 struct Progress {
     begun: usize,
     more: bool,
 }
 
-fn read_some(line: &mut [u8], n: usize) -> Progress
+fn read_some(
+    from: &mut impl Read,
+    to: &mut impl Write,
+    line: &mut [u8],
+    n: usize,
+) -> io::Result<Progress>
     requires { n ≤ length line.old }
-    ensures { result.begun ≤ length line.new }
+    ensures { IfOk result (λ p. p.begun ≤ length line.new) }
 {
-    let mut piece = io::buffer();
-    let got = libc::read(STDIN_FILENO, &mut piece);
-    if got <= 0 {
+    let mut piece = [0u8; 4096];
+    let got = from.read(&mut piece)?;
+    if got == 0 {
         // A last line that no newline ends.
         if 0 < n {
-            end_line(line, n);
+            end_line(to, line, n)?;
         }
-        return Progress {
+        return Ok(Progress {
             begun: 0,
             more: false,
-        };
+        });
     }
-    let count = io::count(got, &piece);
-    let begun = lines(&piece[..count], line, n);
-    Progress { begun, more: true }
+    let begun = lines(to, &piece[..got], line, n)?;
+    Ok(Progress { begun, more: true })
 }
 
-// A proved loop has to end, and nothing says that the input does. So the loop counts its turns
-// down, from a number that no run uses up.
-fn read_all(line: &mut [u8]) {
+// A proved loop has to end, and nothing says that the input does. So the loop counts its turns,
+// up to a number that no run reaches.
+fn read_all(from: &mut impl Read, to: &mut impl Write, line: &mut [u8]) -> io::Result<()> {
     let mut n = 0;
-    let mut turns = u64::MAX;
-    while 0 < turns {
-        let turn = read_some(line, n);
+    for _ in 0..u64::MAX {
+        let turn = read_some(from, to, line, n)?;
         if !turn.more {
-            return;
+            break;
         }
         n = turn.begun;
-        turns -= 1;
     }
+    Ok(())
 }
 
-fn main() {
+fn main(rt: HostRuntime) -> io::Result<()> {
+    let mut out = BufWriter::new(rt.alloc(), io::writer(&rt))?;
     // One character more than a line may have tells that it is too long.
     let mut line = [0u8; 1025];
-    read_all(&mut line);
+    read_all(&mut rt.stdin(), &mut out, &mut line)?;
+    out.flush()
 }

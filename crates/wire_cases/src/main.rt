@@ -1,7 +1,10 @@
 // Event records as bytes: each kind, texts of several lengths, records at a place and records that do not fit.
+#![tactic(auto)]
+
 ghost use Rattle.std.specs.Prelude.{◌<◌, ◌≡◌, length};
 
-use libc::STDOUT_FILENO;
+use std::io;
+use std::io::{BufWriter, Write};
 use wire::backend::HANDSHAKE_ID;
 use wire::event::Event;
 
@@ -30,188 +33,217 @@ fn digit(n: u8) -> u8
 }
 
 // A line: a name, and bytes in hexadecimal.
-fn show(name: &[u8], bytes: &[u8]) {
-    io::write_all(STDOUT_FILENO, name);
-    io::write_all(STDOUT_FILENO, b":");
-    let mut i = 0;
-    while i < bytes.len() {
-        let b = bytes[i];
-        let hex = [b' ', digit(b / 16), digit(b % 16)];
-        io::write_all(STDOUT_FILENO, &hex);
-        i += 1;
+fn show(to: &mut impl Write, name: &[u8], bytes: &[u8]) -> io::Result<()> {
+    to.write_all(name)?;
+    to.write_all(b":")?;
+    for b in bytes {
+        let hex = [b' ', digit(*b / 16), digit(*b % 16)];
+        to.write_all(&hex)?;
     }
-    io::write_all(STDOUT_FILENO, b"\n");
+    to.write_all(b"\n")
 }
 
 // An event's record. The longest is of 273 bytes.
-fn record(name: &[u8], object: u64, e: Event, text: &[u8]) {
+fn record(to: &mut impl Write, name: &[u8], object: u64, e: Event, text: &[u8]) -> io::Result<()> {
     let mut out = [0u8; 273];
     let n = wire::event::put_record(&mut out, 0, object, e, text);
-    show(name, &out[..n]);
+    show(to, name, &out[..n])
 }
 
-fn handshake_version(version: u32) {
+fn handshake_version(to: &mut impl Write, version: u32) -> io::Result<()> {
     record(
+        to,
         b"handshake version",
         HANDSHAKE_ID,
         Event::HandshakeVersion { version },
         b"",
-    );
+    )
 }
 
-fn interface_version(interface: u8, version: u32) {
+fn interface_version(to: &mut impl Write, interface: u8, version: u32) -> io::Result<()> {
     let e = Event::InterfaceVersion { interface, version };
-    record(b"interface version", HANDSHAKE_ID, e, b"");
+    record(to, b"interface version", HANDSHAKE_ID, e, b"")
 }
 
-fn connection(id: u64, serial: u32, version: u32) {
+fn connection(to: &mut impl Write, id: u64, serial: u32, version: u32) -> io::Result<()> {
     let e = Event::Connection {
         id,
         serial,
         version,
     };
-    record(b"connection", HANDSHAKE_ID, e, b"");
+    record(to, b"connection", HANDSHAKE_ID, e, b"")
 }
 
-fn seat(object: u64, id: u64, version: u32) {
-    record(b"seat", object, Event::Seat { id, version }, b"");
+fn seat(to: &mut impl Write, object: u64, id: u64, version: u32) -> io::Result<()> {
+    record(to, b"seat", object, Event::Seat { id, version }, b"")
 }
 
-fn capability(object: u64, mask: u64, interface: u8) {
+fn capability(to: &mut impl Write, object: u64, mask: u64, interface: u8) -> io::Result<()> {
     record(
+        to,
         b"capability",
         object,
         Event::Capability { mask, interface },
         b"",
-    );
+    )
 }
 
-fn device(object: u64, id: u64, version: u32) {
-    record(b"device", object, Event::Device { id, version }, b"");
+fn device(to: &mut impl Write, object: u64, id: u64, version: u32) -> io::Result<()> {
+    record(to, b"device", object, Event::Device { id, version }, b"")
 }
 
-fn interface(object: u64, id: u64, interface: u8, version: u32) {
+fn interface(
+    to: &mut impl Write,
+    object: u64,
+    id: u64,
+    interface: u8,
+    version: u32,
+) -> io::Result<()> {
     let e = Event::Interface {
         id,
         interface,
         version,
     };
-    record(b"interface", object, e, b"");
+    record(to, b"interface", object, e, b"")
 }
 
-fn start(object: u64, serial: u32, sequence: u32) {
+fn start(to: &mut impl Write, object: u64, serial: u32, sequence: u32) -> io::Result<()> {
     record(
+        to,
         b"start",
         object,
         Event::StartEmulating { serial, sequence },
         b"",
-    );
+    )
 }
 
-fn frame(object: u64, serial: u32, time: u64) {
-    record(b"frame", object, Event::Frame { serial, time }, b"");
+fn frame(to: &mut impl Write, object: u64, serial: u32, time: u64) -> io::Result<()> {
+    record(to, b"frame", object, Event::Frame { serial, time }, b"")
 }
 
-fn disconnected(serial: u32, reason: u32, explained: bool, text: &[u8]) {
+fn disconnected(
+    to: &mut impl Write,
+    serial: u32,
+    reason: u32,
+    explained: bool,
+    text: &[u8],
+) -> io::Result<()> {
     let e = Event::Disconnected {
         serial,
         reason,
         explained,
     };
-    record(b"disconnected", CONNECTION_ID, e, text);
+    record(to, b"disconnected", CONNECTION_ID, e, text)
 }
 
 // A session's records, of each kind one.
-fn session() {
-    handshake_version(1);
-    interface_version(1, 1);
-    connection(CONNECTION_ID, 7, 1);
-    seat(CONNECTION_ID, SEAT_ID, 2);
-    record(b"name", SEAT_ID, Event::Name, b"aa");
-    capability(SEAT_ID, 1, 6);
-    record(b"done", SEAT_ID, Event::Done, b"");
-    device(SEAT_ID, DEVICE_ID, 3);
+fn session(to: &mut impl Write) -> io::Result<()> {
+    handshake_version(to, 1)?;
+    interface_version(to, 1, 1)?;
+    connection(to, CONNECTION_ID, 7, 1)?;
+    seat(to, CONNECTION_ID, SEAT_ID, 2)?;
+    record(to, b"name", SEAT_ID, Event::Name, b"aa")?;
+    capability(to, SEAT_ID, 1, 6)?;
+    record(to, b"done", SEAT_ID, Event::Done, b"")?;
+    device(to, SEAT_ID, DEVICE_ID, 3)?;
     record(
+        to,
         b"device type",
         DEVICE_ID,
         Event::DeviceType { value: 1 },
         b"",
-    );
-    interface(DEVICE_ID, POINTER_ID, 6, 1);
-    record(b"resumed", DEVICE_ID, Event::Resumed { serial: 8 }, b"");
-    record(b"paused", DEVICE_ID, Event::Paused { serial: 1 }, b"");
-    start(DEVICE_ID, 2, 9);
-    record(b"stop", DEVICE_ID, Event::StopEmulating { serial: 3 }, b"");
-    frame(DEVICE_ID, 4, 500);
-    record(b"callback done", 5, Event::CallbackDone { value: 0 }, b"");
-    record(b"destroyed", SEAT_ID, Event::Destroyed { serial: 8 }, b"");
-    disconnected(7, 5, true, b"hi");
+    )?;
+    interface(to, DEVICE_ID, POINTER_ID, 6, 1)?;
+    record(to, b"resumed", DEVICE_ID, Event::Resumed { serial: 8 }, b"")?;
+    record(to, b"paused", DEVICE_ID, Event::Paused { serial: 1 }, b"")?;
+    start(to, DEVICE_ID, 2, 9)?;
+    record(
+        to,
+        b"stop",
+        DEVICE_ID,
+        Event::StopEmulating { serial: 3 },
+        b"",
+    )?;
+    frame(to, DEVICE_ID, 4, 500)?;
+    record(
+        to,
+        b"callback done",
+        5,
+        Event::CallbackDone { value: 0 },
+        b"",
+    )?;
+    record(
+        to,
+        b"destroyed",
+        SEAT_ID,
+        Event::Destroyed { serial: 8 },
+        b"",
+    )?;
+    disconnected(to, 7, 5, true, b"hi")
 }
 
 // The order of the fields and of their bytes.
-fn orders() {
-    seat(ID, LONG, WORD);
-    capability(ID, LONG, 0x41);
-    device(ID, LONG, WORD);
-    interface(ID, LONG, 0x41, WORD);
-    start(ID, WORD, NEXT);
-    frame(ID, WORD, LONG);
+fn orders(to: &mut impl Write) -> io::Result<()> {
+    seat(to, ID, LONG, WORD)?;
+    capability(to, ID, LONG, 0x41)?;
+    device(to, ID, LONG, WORD)?;
+    interface(to, ID, LONG, 0x41, WORD)?;
+    start(to, ID, WORD, NEXT)?;
+    frame(to, ID, WORD, LONG)?;
     record(
+        to,
         b"callback done",
         ID,
         Event::CallbackDone { value: LONG },
         b"",
-    );
-    interface_version(0x41, WORD);
-    connection(LONG, WORD, NEXT);
+    )?;
+    interface_version(to, 0x41, WORD)?;
+    connection(to, LONG, WORD, NEXT)
 }
 
 // Texts of 0, 1 and 254 bytes, and a text that is lent and not asked for.
-fn texts(long: &[u8]) {
-    record(b"name", SEAT_ID, Event::Name, b"");
-    record(b"name", SEAT_ID, Event::Name, b"a");
-    record(b"name", SEAT_ID, Event::Name, long);
-    record(b"done", SEAT_ID, Event::Done, long);
-    disconnected(WORD, NEXT, false, b"");
-    disconnected(WORD, NEXT, false, long);
-    disconnected(WORD, NEXT, true, b"");
-    disconnected(WORD, NEXT, true, b"a");
-    disconnected(WORD, NEXT, true, long);
+fn texts(to: &mut impl Write, long: &[u8]) -> io::Result<()> {
+    record(to, b"name", SEAT_ID, Event::Name, b"")?;
+    record(to, b"name", SEAT_ID, Event::Name, b"a")?;
+    record(to, b"name", SEAT_ID, Event::Name, long)?;
+    record(to, b"done", SEAT_ID, Event::Done, long)?;
+    disconnected(to, WORD, NEXT, false, b"")?;
+    disconnected(to, WORD, NEXT, false, long)?;
+    disconnected(to, WORD, NEXT, true, b"")?;
+    disconnected(to, WORD, NEXT, true, b"a")?;
+    disconnected(to, WORD, NEXT, true, long)
 }
 
 // A record at a place of twenty bytes 55: how many bytes are written, and the buffer.
-fn placed(at: usize, e: Event, text: &[u8]) {
+fn placed(to: &mut impl Write, at: usize, e: Event, text: &[u8]) -> io::Result<()> {
     let mut out = [0x55u8; 20];
     let n = wire::event::put_record(&mut out, at, SEAT_ID, e, text);
-    io::write_all(STDOUT_FILENO, b"at ");
-    io::print_decimal(STDOUT_FILENO, at as u64);
-    io::write_all(STDOUT_FILENO, b" writes ");
-    io::print_decimal(STDOUT_FILENO, n as u64);
-    show(b"", &out);
+    write!(to, "at {at} writes {n}")?;
+    show(to, b"", &out)
 }
 
 // A record of 14 bytes has 14 bytes of room up to place 6; a name of 10 bytes fills the twenty.
-fn places() {
+fn places(to: &mut impl Write) -> io::Result<()> {
     let e = Event::Destroyed { serial: 8 };
-    placed(0, e, b"");
-    placed(3, e, b"");
-    placed(6, e, b"");
-    placed(7, e, b"");
-    placed(20, e, b"");
-    placed(21, e, b"");
-    placed(0xffff_ffff_ffff_ffff, e, b"");
-    placed(0, Event::Name, b"abcdefghij");
-    placed(0, Event::Name, b"abcdefghijk");
+    placed(to, 0, e, b"")?;
+    placed(to, 3, e, b"")?;
+    placed(to, 6, e, b"")?;
+    placed(to, 7, e, b"")?;
+    placed(to, 20, e, b"")?;
+    placed(to, 21, e, b"")?;
+    placed(to, 0xffff_ffff_ffff_ffff, e, b"")?;
+    placed(to, 0, Event::Name, b"abcdefghij")?;
+    placed(to, 0, Event::Name, b"abcdefghijk")
 }
 
 // Three records, one behind the other.
-fn row() {
+fn row(to: &mut impl Write) -> io::Result<()> {
     let mut out = [0x55u8; 40];
     let a = wire::event::put_record(&mut out, 0, SEAT_ID, Event::Done, b"");
     let b = wire::event::put_record(&mut out, a, SEAT_ID, Event::Name, b"a");
     let e = Event::Destroyed { serial: 8 };
     wire::event::put_record(&mut out, a + b, SEAT_ID, e, b"");
-    show(b"three", &out);
+    show(to, b"three", &out)
 }
 
 // The letters, over and over: the longest text.
@@ -227,11 +259,13 @@ fn letters() -> [u8; 254]
     text
 }
 
-fn main() {
+fn main(rt: HostRuntime) -> io::Result<()> {
+    let mut out = BufWriter::new(rt.alloc(), io::writer(&rt))?;
     let long = letters();
-    session();
-    orders();
-    texts(&long);
-    places();
-    row();
+    session(&mut out)?;
+    orders(&mut out)?;
+    texts(&mut out, &long)?;
+    places(&mut out)?;
+    row(&mut out)?;
+    out.flush()
 }
