@@ -7,14 +7,14 @@ use control::CONTROL_LENGTH;
 use session::{REALS_LENGTH, TEXTS_LENGTH, WORDS_LENGTH};
 use std::env::Env;
 use std::io;
-use std::io::{BufWriter, Write};
+use std::io::Write;
 
 fn tell(to: &mut impl Write, given: u64) -> io::Result<()> {
     writeln!(to, "{given}")
 }
 
 fn main(rt: HostRuntime) -> io::Result<()> {
-    let mut out = BufWriter::new(rt.alloc(), io::writer(&rt))?;
+    let mut out = io::writer(&rt);
     let mut control = [0u64; CONTROL_LENGTH];
     let mut words = [0u64; WORDS_LENGTH];
     let mut reals = [0.0f32; REALS_LENGTH];

@@ -5,7 +5,7 @@ use eiproto::eiproto_eis;
 use eiproto::eiproto_eis::Found;
 use eiproto::event::{DeviceCapability, DeviceCapabilityOf};
 use std::io;
-use std::io::{BufWriter, Write};
+use std::io::Write;
 
 fn text(to: &mut impl Write, s: &[u8]) -> io::Result<()> {
     to.write_all(s)
@@ -155,7 +155,7 @@ fn masks(to: &mut impl Write) -> io::Result<()> {
 }
 
 fn main(rt: HostRuntime) -> io::Result<()> {
-    let mut out = BufWriter::new(rt.alloc(), io::writer(&rt))?;
+    let mut out = io::writer(&rt);
     interfaces(&mut out)?;
     searches(&mut out)?;
     capabilities(&mut out)?;

@@ -17,7 +17,7 @@ use requests::eis::{
 use requests::request::EisRequest;
 use session::{REALS_LENGTH, TEXTS_LENGTH, WORDS_LENGTH};
 use std::io;
-use std::io::{BufWriter, Write};
+use std::io::Write;
 
 // The ids that the session's calls give. A device's interfaces follow it, by capability bit.
 const CONNECTION: u64 = 0xff00_0000_0000_0000;
@@ -414,7 +414,7 @@ fn refusals(to: &mut impl Write) -> io::Result<()> {
 }
 
 fn main(rt: HostRuntime) -> io::Result<()> {
-    let mut out = BufWriter::new(rt.alloc(), io::writer(&rt))?;
+    let mut out = io::writer(&rt);
     keys(&mut out)?;
     rooms(&mut out)?;
     parts(&mut out)?;

@@ -5,7 +5,7 @@ ghost use Rattle.std.specs.Prelude.{◌≤◌, length, IfOk};
 
 use script::{Line, LineEnd};
 use std::io;
-use std::io::{BufWriter, Read, Write};
+use std::io::{Read, Write};
 
 fn text(to: &mut impl Write, s: &[u8]) -> io::Result<()> {
     to.write_all(s)
@@ -211,7 +211,7 @@ fn read_all(from: &mut impl Read, to: &mut impl Write, buf: &mut [u8]) -> io::Re
 }
 
 fn main(rt: HostRuntime) -> io::Result<()> {
-    let mut out = BufWriter::new(rt.alloc(), io::writer(&rt))?;
+    let mut out = io::writer(&rt);
     // A line of 65,536 bytes, a carriage return and a newline.
     let mut buf = [0u8; 65538];
     read_all(&mut rt.stdin(), &mut out, &mut buf)?;

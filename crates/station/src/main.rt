@@ -13,7 +13,7 @@ use requests::eis::{DeviceRequest, InterfaceRequest, KeyboardRequest, Request, S
 use requests::request::EisRequest;
 use session::{REALS_LENGTH, TEXTS_LENGTH, WORDS_LENGTH};
 use std::io;
-use std::io::{BufWriter, Write};
+use std::io::Write;
 
 // Enough for the events of any call.
 const OUT_LENGTH: usize = 1225;
@@ -240,7 +240,7 @@ fn take(
 }
 
 fn main(rt: HostRuntime) -> io::Result<()> {
-    let mut out = BufWriter::new(rt.alloc(), io::writer(&rt))?;
+    let mut out = io::writer(&rt);
     let mut control = [0u64; CONTROL_LENGTH];
     let mut words = [0u64; WORDS_LENGTH];
     let mut reals = [0.0f32; REALS_LENGTH];

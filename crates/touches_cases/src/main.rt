@@ -3,7 +3,7 @@
 #![tactic(auto)]
 
 use std::io;
-use std::io::{BufWriter, Write};
+use std::io::Write;
 use touches::{DownAnswer, DownTouchIds, kept};
 
 fn text(to: &mut impl Write, s: &[u8]) -> io::Result<()> {
@@ -64,7 +64,7 @@ fn down_to_14(to: &mut impl Write, d: DownTouchIds) -> io::Result<DownTouchIds> 
 }
 
 fn main(rt: HostRuntime) -> io::Result<()> {
-    let mut out = BufWriter::new(rt.alloc(), io::writer(&rt))?;
+    let mut out = io::writer(&rt);
     // Sixteen zeros hold no id 0, which is an id like others.
     let mut d = up(&mut out, DownTouchIds::new(), 0)?;
     d = down(&mut out, d, 0)?;

@@ -7,7 +7,7 @@ ghost use Rattle.utf8_cases.specs.Hex.{value_of};
 ghost use Rattle.utf8_cases.specs.Answers.{Read, is_comment, answer_to};
 
 use std::io;
-use std::io::{BufWriter, Read, Write};
+use std::io::{Read, Write};
 
 #[derive(Clone, Copy)]
 enum Verdict {
@@ -188,7 +188,7 @@ fn read_all(from: &mut impl Read, to: &mut impl Write, line: &mut [u8]) -> io::R
 }
 
 fn main(rt: HostRuntime) -> io::Result<()> {
-    let mut out = BufWriter::new(rt.alloc(), io::writer(&rt))?;
+    let mut out = io::writer(&rt);
     // One character more than a line may have tells that it is too long.
     let mut line = [0u8; 1025];
     read_all(&mut rt.stdin(), &mut out, &mut line)?;

@@ -4,7 +4,7 @@
 ghost use Rattle.std.specs.Prelude.{◌<◌, ◌≡◌, length};
 
 use std::io;
-use std::io::{BufWriter, Write};
+use std::io::Write;
 use wire::backend::HANDSHAKE_ID;
 use wire::event::Event;
 
@@ -260,7 +260,7 @@ fn letters() -> [u8; 254]
 }
 
 fn main(rt: HostRuntime) -> io::Result<()> {
-    let mut out = BufWriter::new(rt.alloc(), io::writer(&rt))?;
+    let mut out = io::writer(&rt);
     let long = letters();
     session(&mut out)?;
     orders(&mut out)?;
