@@ -25,12 +25,12 @@ fn is_quiet(told: Told) -> bool {
     }
 }
 
-// The first n bytes. No more than there are.
+// The first n bytes; an error where there are fewer.
 fn put(to: &mut impl Write, bytes: &[u8], n: usize) -> io::Result<()> {
     if n <= bytes.len() {
         return to.write_all(&bytes[..n]);
     }
-    Ok(())
+    Err(io::Error::from(io::ErrorKind::WriteZero))
 }
 
 // No answer is so long: a call writes at most 4,096 bytes of records.
