@@ -19,7 +19,8 @@ use Rattle.model.specs.Plan.{Plan, answer, ignore, edit, send}
 use Rattle.model.specs.Decide.{Found, is_some, version, negotiated_capabilities, pend_after, send_next, send_destroyed, remove_seats, decide}
 use Rattle.model.proofs.Removals.{interfaces_without-sub, seats_without-sub, without_slot-sub, without_seat-sub}
 use Rattle.model.proofs.ReachableHeld.{both}
-use Rattle.model.proofs.Walk.{Noted, Touched, Leaf, walk}
+use Rattle.model.proofs.Leaves.{Noted, Touched, Leaf}
+use Rattle.model.proofs.Walk.{walk}
 
 -- ---- the negotiated capabilities
 

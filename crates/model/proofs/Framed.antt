@@ -25,7 +25,7 @@ use Rattle.model.proofs.Live.{device-stands}
 use Rattle.model.proofs.Within.{step_by}
 use Rattle.model.proofs.Sorted.{stays, Stays, ClosesOne, Sorted, staying, clearing, decide_sorted}
 use Rattle.model.proofs.All.{All}
-use Rattle.model.proofs.Walk.{Closing}
+use Rattle.model.proofs.Leaves.{Closing}
 use Rattle.model.proofs.Gone.{edits_stand, clearing-clears, clearing-gave}
 use Rattle.model.proofs.OneDevice.{framed-run, oldest-rest, standing, none-pending, standing-append}
 use Rattle.model.proofs.Order.{Keeps}

@@ -2,6 +2,7 @@ pub mod Trials
 pub mod Payload
 pub mod Commute
 pub mod EqualTrails
+pub mod Leaves
 pub mod Walk
 pub mod Cut
 pub mod Plans
@@ -25,6 +26,7 @@ pub mod ReachableBits
 pub mod ReachableHeld
 pub mod ReachablePlans
 pub mod Reachable
+pub mod Balance
 pub mod Destroyed
 pub mod Numbers
 pub mod Framed

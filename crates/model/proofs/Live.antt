@@ -27,7 +27,8 @@ use Rattle.model.proofs.Cut.{has-version, Among, Negotiated}
 use Rattle.model.proofs.Reachable.{run-ids, after-sound, fresh-sound}
 use Rattle.model.proofs.Destroyed.{lives_standing}
 use Rattle.model.proofs.Lists.{count-append}
-use Rattle.model.proofs.Walk.{Noted, Touched, Leaf, walk}
+use Rattle.model.proofs.Leaves.{Noted, Touched, Leaf}
+use Rattle.model.proofs.Walk.{walk}
 use Rattle.model.proofs.Within.{step_by}
 
 -- ---- what is found stands in a table

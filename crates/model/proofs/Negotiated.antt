@@ -28,7 +28,8 @@ use Rattle.model.proofs.All.{All, none as no_more, more, all_append}
 use Rattle.model.proofs.ReachableHeld.{both}
 use Rattle.model.proofs.Cut.{every_map, edits-versions}
 use Rattle.model.proofs.Reachable.{after-sound, fresh-sound}
-use Rattle.model.proofs.Walk.{Leaf, walk}
+use Rattle.model.proofs.Leaves.{Leaf}
+use Rattle.model.proofs.Walk.{walk}
 use Rattle.model.proofs.Within.{step_by}
 
 -- ---- the sets

@@ -14,7 +14,8 @@ use Rattle.model.specs.Decide.{Found, negotiated_capabilities, send_next, pend_a
 use Rattle.model.specs.Step.{refuses}
 use Rattle.model.specs.Demand3.{MadeInterface, made_on, made}
 use Rattle.model.proofs.ReachableHeld.{both}
-use Rattle.model.proofs.Walk.{Noted, Leaf, walk, is_timed}
+use Rattle.model.proofs.Leaves.{Noted, Leaf}
+use Rattle.model.proofs.Walk.{walk, is_timed}
 use Rattle.model.proofs.Cut.{has-version, Among, added-among}
 
 -- whether a plan that adds no device may have an edit: a request is pended by a timed one only

@@ -23,7 +23,8 @@ use Rattle.model.proofs.Cut.{Among, added-among}
 use Rattle.model.proofs.Plans.{made_with, name-made, interfaces-made}
 use Rattle.model.proofs.ReachableOrder.{ids_of, new_between, edits-next_id}
 use Rattle.model.proofs.ReachableHeld.{all_quiet, Held, touches_at, edits-held, down_held}
-use Rattle.model.proofs.Walk.{modest, Noted, Touched, Leaf, walk}
+use Rattle.model.proofs.Leaves.{modest, Noted, Touched, Leaf}
+use Rattle.model.proofs.Walk.{walk}
 
 -- ---- the ids that the events of a new device tell
 

@@ -9,7 +9,8 @@ use Rattle.model.specs.Plan.{Result, refusal, Plan, answer, ignore, edit, send}
 use Rattle.model.specs.Decide.{send_next, pend_after, send_destroyed}
 use Rattle.model.specs.Step.{Step, carried_out, source, Counts, counts, over, any_over, refuse_if, limits, refuses, unchanged, settled, bytes_needed, limited, step}
 use Rattle.model.specs.Refusals.{of_session, OwnRefusals}
-use Rattle.model.proofs.Walk.{modest, Leaf, walk}
+use Rattle.model.proofs.Leaves.{modest, Leaf}
+use Rattle.model.proofs.Walk.{walk}
 
 Own : Result → Type 0
 unfolding refusal

@@ -12,7 +12,8 @@ use Rattle.model.specs.Plan.{Plan, answer, ignore, edit, send}
 use Rattle.model.specs.Decide.{send_next, pend_after, seat_added, device_added, send_destroyed, retire_seat, remove_seats, decide}
 use Rattle.model.specs.Framed.{is_frame, Removes}
 use Rattle.model.proofs.All.{All, none, more}
-use Rattle.model.proofs.Walk.{Noted, Closing, Leaf, walk}
+use Rattle.model.proofs.Leaves.{Noted, Closing, Leaf}
+use Rattle.model.proofs.Walk.{walk}
 
 -- whether an edit takes no device out, queues no Frame by itself and, unless `frames`, closes no frame
 unfoldable pub stays : (frames : Bool) → Edit → Bool

@@ -21,7 +21,8 @@ use Rattle.model.proofs.OneDevice.{taken_at, took, took_all, amended_keeps}
 use Rattle.model.proofs.All.{All}
 use Rattle.model.proofs.Finding.{found-holds}
 use Rattle.model.proofs.Owners.{Told, Stands, Owned}
-use Rattle.model.proofs.Walk.{Leaf, walk, is_timed}
+use Rattle.model.proofs.Leaves.{Leaf}
+use Rattle.model.proofs.Walk.{walk, is_timed}
 
 -- a test of an interface that passes: its id's test passes, or another's
 either : (capability id others : Bool) → (capability && id || others) ≡ true → (id ≡ true) ⊎ (others ≡ true)

@@ -31,7 +31,8 @@ use Rattle.model.specs.Decide.{Found, version, negotiated_capabilities, seat_ver
 use Rattle.model.specs.Live.{is_found}
 use Rattle.model.proofs.All.{All, none as nil, more, all_append}
 use Rattle.model.proofs.ReachableHeld.{both}
-use Rattle.model.proofs.Walk.{Touched, Leaf, walk}
+use Rattle.model.proofs.Leaves.{Touched, Leaf}
+use Rattle.model.proofs.Walk.{walk}
 use Rattle.sent_events.specs.Sendable.{Maker, HasMessage, known}
 
 -- ---- capabilities

@@ -12,7 +12,8 @@ use Rattle.model.specs.Edit.{Amend, Edit, enact}
 use Rattle.model.specs.Plan.{Sent, Result, refusal, Plan, answer, ignore, edit, send}
 use Rattle.model.specs.Decide.{Found, send_next, pend_after, send_destroyed, remove_seats, next_of, decide_plain, decide}
 use Rattle.model.specs.Step.{Step, gave, gave_all, carried_out, source, Counts, counts, over, any_over, refuse_if, limits, refuses, unchanged, settled, bytes_needed, limited, step}
-use Rattle.model.proofs.Walk.{Noted, Leaf, walk}
+use Rattle.model.proofs.Leaves.{Noted, Leaf}
+use Rattle.model.proofs.Walk.{walk}
 
 -- whether an edit of the list delivers a request
 unfoldable delivers : List Edit → Bool
