@@ -2,7 +2,7 @@
  * A counter station in one program: a client shakes hands, a clerk keys a token of twenty digits and types a line, and
  * the client goes. The client's side, which would come from a socket, is played by main.
  *
- *   gcc -std=c11 -O2 -Iinclude examples/station.c target/staticlib/libbozterrun.a -o station && ./station
+ *   gcc -std=c11 -O2 -Iinclude examples/station.c crates/bozterrun/out/libbozterrun.a -o station && ./station
  *
  * It writes what examples/station.out has: `sent` is what the client is told, the other lines are what was delivered.
  */
