@@ -1,4 +1,4 @@
-// A whole read handed over by value: for a caller that gathers its records in an array, since one that lends them would be proved by hand.
+// A whole read handed over by value: for a caller that gathers its records in an array.
 #![tactic(auto)]
 
 ghost use Rattle.std.specs.Prelude.{◌≡◌, map, take, min};
