@@ -4,7 +4,7 @@
 usage: bench.py ORACLE [ROUNDS]     run at the repository's root
 
 ORACLE is the oracle's folder (its ./build.sh builds target/release/oracle; Rust is needed, and no network). What is not there yet is built: the oracle, the
-programs bench and bench_reads (`rt check bench bench_reads`), the library (`rt staticlib bozterrun`), and the programs tests/c/bench.c and rust/examples/bench.rs, anew each time. Each of the
+programs bench and bench_reads (`rt run` in crates/bench and in crates/bench_reads), the library (`rt lib` in crates/bozterrun), and the programs tests/c/bench.c and rust/examples/bench.rs, anew each time. Each of the
 oracle's five workloads is run ROUNDS times (81, a minute and a half) by turns, ours and the crate's: for all a turn is the same calls, and making the requests is counted in. The
 time of ours is that of the program less that of its start, divided by the calls. Medians are printed, and how many times faster ours is. Where valgrind is at
 hand, the instructions of a call follow, from the difference of two runs.
@@ -26,17 +26,17 @@ CALLS = {"keys": 7, "touches": 9, "texts": 5, "eight": 7, "deep": 6}
 OWN = {"push": 2, "frame1": 4, "frame64": 130}
 READS = {"single32": "one by one", "read32": "in a read", "messages": "as messages"}
 READ = 32
-ARCHIVE = "target/staticlib/libbozterrun.a"
-PROGRAMS = {"Rattle": "target/bin/bench", "C": "target/c/bench", "Rust": "rust/target/release/examples/bench"}
-READ_PROGRAMS = dict(PROGRAMS, Rattle="target/bin/bench_reads")
+ARCHIVE = "crates/bozterrun/out/libbozterrun.a"
+PROGRAMS = {"Rattle": "crates/bench/out/bench", "C": "target/c/bench", "Rust": "rust/target/release/examples/bench"}
+READ_PROGRAMS = dict(PROGRAMS, Rattle="crates/bench_reads/out/bench_reads")
 
 
 def build(oracle):
     made = os.path.join(oracle, "target/release/oracle")
-    for path, command, cwd in [(made, ["./build.sh"], oracle), (PROGRAMS["Rattle"], ["rt", "check", "bench"], None),
-                               (READ_PROGRAMS["Rattle"], ["rt", "check", "bench_reads"], None), (ARCHIVE, ["rt", "staticlib", "bozterrun"], None)]:
+    for path, command, cwd in [(made, ["./build.sh"], oracle), (PROGRAMS["Rattle"], ["rt", "run"], "crates/bench"),
+                               (READ_PROGRAMS["Rattle"], ["rt", "run"], "crates/bench_reads"), (ARCHIVE, ["rt", "lib"], "crates/bozterrun")]:
         if not os.path.exists(path):
-            subprocess.run(command, cwd=cwd, stdout=subprocess.DEVNULL, check=True)
+            subprocess.run(command, cwd=cwd, stdin=subprocess.DEVNULL, stdout=subprocess.DEVNULL, check=True)
     os.makedirs("target/c", exist_ok=True)
     subprocess.run(["gcc", "-std=c11", "-O2", "-Iinclude", "tests/c/bench.c", ARCHIVE, "-o", PROGRAMS["C"]], check=True)
     env = dict(os.environ, BOZTERRUN_LIB=os.path.abspath(os.path.dirname(ARCHIVE)))

@@ -1,10 +1,10 @@
 #!/usr/bin/env python3
 """Holds docs/DIFFERENCES.md to the program, to the oracle and to the crate's files.
 
-usage: check_differences.py [ORACLE]      run at the repository's root, after `rt check replay`
+usage: check_differences.py [ORACLE]      run at the repository's root, after `rt run` in crates/replay
        check_differences.py --print NAME  the call script of tests/differences/NAME.script, to be played by hand
 
-Each tests/differences/NAME.script is played by target/bin/replay (or by the command in the variable REPLAY). In a script, beside the lines of
+Each tests/differences/NAME.script is played by crates/replay/out/replay (or by the command in the variable REPLAY). In a script, beside the lines of
 docs/CALL-SCRIPTS.md:
 
   #< NAME     the lines of tests/differences/NAME.begin
@@ -103,7 +103,7 @@ def main():
     if len(sys.argv) > 2 or sys.argv[1:2] in (["-h"], ["--help"]):
         sys.exit(__doc__)
     oracle = sys.argv[1] if len(sys.argv) == 2 else None
-    replay = shlex.split(os.environ.get("REPLAY", "target/bin/replay"))
+    replay = shlex.split(os.environ.get("REPLAY", "crates/replay/out/replay"))
     page = open(PAGE).read()
     named = set(re.findall(r"`differences/([a-z0-9-]+)`", page + open(READINGS).read()))
     there = {name[:-7] for name in os.listdir(SCRIPTS) if name.endswith(".script")}

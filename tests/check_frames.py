@@ -1,7 +1,7 @@
 #!/usr/bin/env python3
 """Each press in one frame, checked on trails: replay's, and where the crate has the calls, the crate's own (docs/PROMISES.md has the theorems).
 
-usage: check_frames.py ORACLE REFERENCE FIRST LAST [CALLS [REPLAY]]     run at the repository's root, after `rt check replay`
+usage: check_frames.py ORACLE REFERENCE FIRST LAST [CALLS [REPLAY]]     run at the repository's root, after `rt run` in crates/replay
 
 ORACLE and REFERENCE are the folders of the oracle and of the reference (compare_sessions.py, compare_reference.py). For each seed from FIRST to LAST one random
 script of about CALLS calls (400) of each of the oracle's six kinds, as compare_sessions.py has them, played by both programs, and of each of the reference's kinds
@@ -348,7 +348,7 @@ def main():
         sys.exit(__doc__)
     oracle, reference, first, last = sys.argv[1], sys.argv[2], int(sys.argv[3]), int(sys.argv[4])
     count = sys.argv[5] if len(sys.argv) > 5 else "400"
-    replay = os.path.abspath(sys.argv[6] if len(sys.argv) > 6 else "target/bin/replay")
+    replay = os.path.abspath(sys.argv[6] if len(sys.argv) > 6 else "crates/replay/out/replay")
     sys.path.insert(0, reference)
     import messages
     env = dict(os.environ, PYTHONHASHSEED="0")

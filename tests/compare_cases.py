@@ -1,9 +1,9 @@
 #!/usr/bin/env python3
 """Holds a program to the oracle's cases and to the scripts of tests/released and of tests/negotiated.
 
-usage: compare_cases.py ORACLE [PROGRAM [ARG ...]]     run at the repository's root, after `rt check replay`
+usage: compare_cases.py ORACLE [PROGRAM [ARG ...]]     run at the repository's root, after `rt run` in crates/replay
 
-ORACLE is the oracle's folder (cases/ in it; `./build.sh` there builds target/release/oracle; Rust is needed, and no network). PROGRAM, target/bin/replay
+ORACLE is the oracle's folder (cases/ in it; `./build.sh` there builds target/release/oracle; Rust is needed, and no network). PROGRAM, crates/replay/out/replay
 where none is named, gets each script on standard input. Its trail has to be the oracle's, and what the script has by hand from the first seat or interface
 release of a session on, or the first seat that is given what was not negotiated; the oracle's cases with one of these are left out (releases.py).
 """
@@ -16,7 +16,7 @@ import releases
 def main():
     if len(sys.argv) < 2 or sys.argv[1] in ("-h", "--help"):
         sys.exit(__doc__)
-    program = sys.argv[2:] or ["target/bin/replay"]
+    program = sys.argv[2:] or ["crates/replay/out/replay"]
     scripts = lines_by_hand = calls = different = 0
     for path, lines in releases.cases(sys.argv[1]):
         script = ("\n".join(lines) + "\n").encode()

@@ -1,7 +1,7 @@
 #!/usr/bin/env python3
 """Holds the program replay to the oracle on random handshakes.
 
-usage: compare_handshakes.py ORACLE FIRST LAST     run at the repository's root, after `rt check replay`
+usage: compare_handshakes.py ORACLE FIRST LAST     run at the repository's root, after `rt run` in crates/replay
 
 ORACLE is the oracle's folder (`./build.sh` there builds target/release/oracle; Rust is needed, and no network). Each seed is a script of twenty handshakes, refused and odd calls among them: texts that are
 not UTF-8 or too long, unknown and repeated names, versions at the ends of their range, requests of other interfaces, a short `out`, a Finish that is refused
@@ -75,7 +75,7 @@ def main():
             handshake(r, lines)
         script = "\n".join(lines) + "\n"
         wanted = subprocess.run([oracle], input=script, capture_output=True, text=True).stdout.split("\n")
-        found = subprocess.run(["target/bin/replay"], input=script, capture_output=True, text=True).stdout.split("\n")
+        found = subprocess.run(["crates/replay/out/replay"], input=script, capture_output=True, text=True).stdout.split("\n")
         for at, (w, f) in enumerate(zip(wanted + ["(end)"], found + ["(end)"])):
             if w != f:
                 sys.exit(f"seed {seed}, trail line {at + 1}: the oracle has {w!r}, replay {f!r}")

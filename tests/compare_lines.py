@@ -1,7 +1,7 @@
 #!/usr/bin/env python3
 """Holds replay's reader of script lines to the oracle's on damaged lines.
 
-usage: compare_lines.py ORACLE FIRST LAST     run at the repository's root, after `rt check replay`
+usage: compare_lines.py ORACLE FIRST LAST     run at the repository's root, after `rt run` in crates/replay
 
 ORACLE is the oracle's folder (cases/ in it, and target/release/oracle, which `./build.sh` there builds; Rust is needed, and no network). Each seed is
 a hundred lines: lines of the oracle's cases with characters and words taken away, put in, doubled or exchanged, and random ones, in printable ASCII. Each is
@@ -54,7 +54,7 @@ def main():
             line = damaged(r, r.choice(known)) if r.random() < 0.9 else "".join(r.choice(LETTERS) for _ in range(r.randrange(20)))
             within = r.random() < 0.7 and not releases.is_release(line)
             script = session + [line, "last_serial"] if within else ["start 7", line, "handshake.name t:61"]
-            theirs, ours = (check_differences.play([program], script) for program in (oracle, "target/bin/replay"))
+            theirs, ours = (check_differences.play([program], script) for program in (oracle, "crates/replay/out/replay"))
             if theirs != ours:
                 sys.exit(f"seed {seed}, line {line!r}: the oracle has {theirs[-2:]}, replay {ours[-2:]}")
             lines += 1

@@ -1,7 +1,7 @@
 #!/usr/bin/env python3
 """Holds programs to the reference and to the crate's own parser on a client's bytes: the line `message` of call scripts.
 
-usage: compare_messages.py ORACLE REFERENCE FIRST LAST [PROGRAM ..]     run at the repository's root, after `rt check replay`
+usage: compare_messages.py ORACLE REFERENCE FIRST LAST [PROGRAM ..]     run at the repository's root, after `rt run` in crates/replay
 
 ORACLE is the oracle's folder (`./build.sh` there builds target/release/oracle), REFERENCE the reference's (reference.py and messages.py are needed). Each seed
 from FIRST to LAST is a script of some 450 messages; seeds 1 to 250 have more than 100,000. Sessions are begun by messages, with versions at random, and get
@@ -9,7 +9,7 @@ seats and devices with all interfaces or some; objects are released, removed and
 whole, the next seed through the next, 35 in turn: as it is, cut at every place, lengthened, each byte of its header and of its string's length changed,
 lengths and opcodes at the edges, press states and context types from 0 to 3, bad UTF-8, on dead ids, and for Sync ids around the last one. Then one list is
 filled past its end, and messages of all requests follow, a third of them damaged at random, and random bytes. PROGRAM gets the script on standard input
-(target/bin/replay without one).
+(crates/replay/out/replay without one).
 
 Each message is judged in three ways:
 - The trail of each program is that of the reference, line by line.
@@ -475,7 +475,7 @@ def main():
     oracle, first, last = os.path.join(sys.argv[1], "target/release/oracle"), int(sys.argv[3]), int(sys.argv[4])
     sys.path.insert(0, sys.argv[2])
     import reference
-    programs = sys.argv[5:] or ["target/bin/replay"]
+    programs = sys.argv[5:] or ["crates/replay/out/replay"]
     answers, classes, requests = collections.Counter(), collections.Counter(), collections.Counter()
     messages = calls = lines_held = different = 0
 

@@ -1,7 +1,7 @@
 #!/usr/bin/env python3
 """Holds the program replay to the oracle on random sessions.
 
-usage: compare_sessions.py ORACLE FIRST LAST [CALLS [REPLAY]]     run at the repository's root, after `rt check replay`
+usage: compare_sessions.py ORACLE FIRST LAST [CALLS [REPLAY]]     run at the repository's root, after `rt run` in crates/replay
 
 ORACLE is the oracle's folder (gen.py in it; `./build.sh` there builds target/release/oracle; Rust is needed, and no network). For each seed from FIRST to
 LAST, one script of about CALLS calls (400) for each of gen.py's six profiles, with seats that are given negotiated capabilities alone (negotiation.py) and
@@ -23,7 +23,7 @@ def main():
         sys.exit(__doc__)
     oracle, first, last = sys.argv[1], int(sys.argv[2]), int(sys.argv[3])
     count = sys.argv[4] if len(sys.argv) > 4 else "400"
-    replay = sys.argv[5] if len(sys.argv) > 5 else "target/bin/replay"
+    replay = sys.argv[5] if len(sys.argv) > 5 else "crates/replay/out/replay"
     answers = collections.Counter()
     scripts = calls = different = 0
     for seed in range(first, last + 1):

@@ -228,21 +228,21 @@ def sessions(script, trail):
 
 USES = """-- {title}
 -- Made by tests/equations.py from a call script and {source}. Assumes nothing.
-use mathlib.Core.Path.{{_≡_, refl}}
+use mathlib.Core.Path.{{◌≡◌, refl}}
 use mathlib.Core.Bool.{{true, false}}
-use mathlib.Core.List.{{List, [], _∷_}}
+use mathlib.Core.List.{{List, [], ◌∷◌}}
 use mathlib.Core.Option.{{Option, none, some}}
 use lib.IntN.{{pos, negsuc}}
 use lib.Ieee.{{nan}}
-use Rattle·eiproto.specs.declared.eiproto_enum.ButtonState.{{ButtonState}}
-use Rattle·eiproto.specs.declared.eiproto_enum.DeviceType.{{DeviceType}}
-use Rattle·eiproto.specs.declared.eiproto_enum.DisconnectReason.{{DisconnectReason}}
-use Rattle·eiproto.specs.declared.eiproto_enum.KeyState.{{KeyState}}
-use Rattle·eiproto.specs.declared.event.DeviceCapability.{{DeviceCapability}}
-use Rattle·model.specs.Call.{{Kind, Input, Load, HandshakeRequest, handshake, interface_release, Plain, timed, plain, Turn}}
-use Rattle·model.specs.Session.{{Untimed, Queued}}
-use Rattle·model.specs.Plan.{{Result, accepted, refused, refused_version, value, truth}}
-use Rattle·model_cases·specs.specs.Line.{{Line, line, f32, an, turn, computed}}
+use Rattle.eiproto.specs.declared.eiproto_enum.ButtonState.{{ButtonState}}
+use Rattle.eiproto.specs.declared.eiproto_enum.DeviceType.{{DeviceType}}
+use Rattle.eiproto.specs.declared.eiproto_enum.DisconnectReason.{{DisconnectReason}}
+use Rattle.eiproto.specs.declared.eiproto_enum.KeyState.{{KeyState}}
+use Rattle.eiproto.specs.declared.event.DeviceCapability.{{DeviceCapability}}
+use Rattle.model.specs.Call.{{Kind, Input, Load, HandshakeRequest, handshake, interface_release, Plain, timed, plain, Turn}}
+use Rattle.model.specs.Session.{{Untimed, Queued}}
+use Rattle.model.specs.Plan.{{Result, accepted, refused, refused_version, value, truth}}
+use Rattle.model_cases.specs.Line.{{Line, line, f32, an, turn, computed}}
 """
 
 

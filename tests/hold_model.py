@@ -6,7 +6,8 @@ usage: hold_model.py ORACLE FIRST LAST [N]     run at the repository's root
 
 ORACLE is the oracle's folder (gen.py and cases/ in it; `./build.sh` there builds target/release/oracle; Rust is needed, and no network). For the seeds
 FIRST to LAST and every profile of gen.py a script of about N calls (300) is made, or each script of cases/ is taken, and run through the oracle; equations.py
-turns script and trail into closed equations, and antt checks these in a copy of the crates. In the random scripts seats are given negotiated capabilities alone
+turns script and trail into closed equations, and antt checks these (`rt check`) in a copy of model_cases and of the crates that it stands on, which begins
+with the libraries that `rt lib` in crates/model_cases has made, where it has. In the random scripts seats are given negotiated capabilities alone
 (negotiation.py), and seat and interface releases are taken out of them. The cases that the crate does not decide are left out, and those of tests/released and
 tests/negotiated are taken, with what they have by hand (releases.py). It prints what was compared, and stops with 1 at the first batch that does not agree.
 """
@@ -43,6 +44,28 @@ def scripts_of(oracle, words):
             yield f"{profile.capitalize()}{seed}", f"Seed {seed}, profile {profile}.", lambda seed=seed, profile=profile: made(oracle, seed, profile, calls)
 
 
+def below(crate):
+    """The crate and those of the repository that it stands on, with their lines of crates.txt."""
+    with open("crates.txt") as file:
+        lines = dict(line.split(":", 1) for line in file.read().split("\n") if line and not line.startswith("#"))
+    wanted, found = [crate], {}
+    for name in wanted:
+        if name in lines and name not in found:
+            found[name] = f"{name}:{lines[name]}"
+            wanted += lines[name].split()
+    return found
+
+
+def copied(crates, copy):
+    """Copies these crates: of what was made of them only the libraries."""
+    with open(os.path.join(copy, "crates.txt"), "w") as file:
+        file.write("".join(line + "\n" for line in crates.values()))
+    for name in crates:
+        shutil.copytree(f"crates/{name}", f"{copy}/crates/{name}", ignore=shutil.ignore_patterns("out"))
+        if os.path.isdir(f"crates/{name}/out/rlib"):
+            shutil.copytree(f"crates/{name}/out/rlib", f"{copy}/crates/{name}/out/rlib")
+
+
 def main():
     words = sys.argv[2:]
     if len(sys.argv) < 2 or (words != ["cases"] and len(words) not in (2, 3)):
@@ -50,12 +73,9 @@ def main():
     oracle, work = sys.argv[1], list(scripts_of(sys.argv[1], words))
     scripts = sessions = turns = 0
     with tempfile.TemporaryDirectory() as copy:
-        for name in ("crates", "crates.txt", "target"):
-            if os.path.isdir(name):
-                shutil.copytree(name, os.path.join(copy, name))
-            elif os.path.exists(name):
-                shutil.copy(name, copy)
-        proofs = os.path.join(copy, "crates/model_cases/proofs")
+        copied(below("model_cases"), copy)
+        crate = os.path.join(copy, "crates/model_cases")
+        proofs = os.path.join(crate, "proofs")
         for at in range(0, len(work), BATCH):
             for old in os.listdir(proofs):
                 os.remove(os.path.join(proofs, old))
@@ -72,7 +92,7 @@ def main():
                     f.write(equations.module(title, script, trail))
             with open(os.path.join(proofs, "Lib.antt"), "w") as f:
                 f.write("".join(f"pub mod {m}\n" for m in modules))
-            done = subprocess.run(["rt", "check", "model_cases"], cwd=copy, capture_output=True, text=True)
+            done = subprocess.run(["rt", "check"], cwd=crate, capture_output=True, text=True)
             if done.returncode != 0:
                 print("\n".join(line[:600] for line in (done.stdout + done.stderr).split("\n") if "error" in line or "differ" in line))
                 sys.exit(f"not all of {modules[0]} to {modules[-1]} agree")

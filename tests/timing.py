@@ -1,9 +1,9 @@
 #!/usr/bin/env python3
 """Counts the instructions of each exported function on sessions alike in all but payload, and of texts by make-up.
 
-usage: timing.py [ARCHIVE]     run at the repository's root, after `rt staticlib bozterrun`
+usage: timing.py [ARCHIVE]     run at the repository's root, after `rt lib` in crates/bozterrun
 
-ARCHIVE is the library (target/staticlib/libbozterrun.a). gcc, cargo and valgrind are needed. tests/c/twins.c is run
+ARCHIVE is the library (crates/bozterrun/out/libbozterrun.a). gcc, cargo and valgrind are needed. tests/c/twins.c is run
 under callgrind with ten seeds and with texts of 20 and of 240 bytes: its sessions differ in their payload alone, and
 the texts of odd seeds are not ASCII. For each function the instructions of all its calls are added, what it calls
 included. tests/c/texts.c is run with texts of several lengths and make-ups. Two tables are printed. The rounds of
@@ -150,9 +150,9 @@ def compare_rust(archive):
 def main():
     if len(sys.argv) > 2 or "-h" in sys.argv or "--help" in sys.argv:
         sys.exit(__doc__)
-    archive = sys.argv[1] if len(sys.argv) > 1 else os.path.join(ROOT, "target/staticlib/libbozterrun.a")
+    archive = sys.argv[1] if len(sys.argv) > 1 else os.path.join(ROOT, "crates/bozterrun/out/libbozterrun.a")
     if not os.path.exists(archive):
-        sys.exit(f"{archive} is not there: run `rt staticlib bozterrun`")
+        sys.exit(f"{archive} is not there: run `rt lib` in crates/bozterrun")
     os.makedirs(BUILD, exist_ok=True)
     wrong = compare_twins(build("twins", archive)) + compare_texts(build("texts", archive))
     wrong += compare_rust(archive)
