@@ -4,10 +4,11 @@
 usage: bench.py ORACLE [ROUNDS]     run at the repository's root
 
 ORACLE is the oracle's folder (its ./build.sh builds target/release/oracle; Rust is needed, and no network). What is not there yet is built: the oracle, the
-programs bench and bench_reads (`rt run` in crates/bench and in crates/bench_reads), the library (`rt lib` in crates/bozterrun), and the programs tests/c/bench.c and rust/examples/bench.rs, anew each time. Each of the
-oracle's five workloads is run ROUNDS times (81, a minute and a half) by turns, ours and the crate's: for all a turn is the same calls, and making the requests is counted in. The
-time of ours is that of the program less that of its start, divided by the calls. Medians are printed, and how many times faster ours is. Where valgrind is at
-hand, the instructions of a call follow, from the difference of two runs.
+programs bench and bench_reads (`rt run` in crates/bench and in crates/bench_reads), the library (`rt lib` in crates/bozterrun), and the programs
+tests/c/bench.c and rust/examples/bench.rs, anew each time. Each of the oracle's five workloads is run ROUNDS times (81, a minute and a half) by turns, ours and
+the crate's: for all a turn is the same calls, and making the requests is counted in. The time of ours is that of the program less that of its start, divided by
+the calls. Medians are printed, and how many times faster ours is. Where valgrind is at hand, the instructions of a call follow, from the difference of two
+runs.
 
 Below the line: the queue's own turns, called from Rattle: a Disconnect queued and taken (push and pop), and frames of 1 and of 64 keys with their delivery.
 Last, 31 keys and their frame with their delivery: one by one, gathered in a read that is handed over in one call (from Rattle in an array of 32, by the

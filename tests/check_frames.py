@@ -4,10 +4,10 @@
 usage: check_frames.py ORACLE REFERENCE FIRST LAST [CALLS [REPLAY]]     run at the repository's root, after `rt run` in crates/replay
 
 ORACLE and REFERENCE are the folders of the oracle and of the reference (compare_sessions.py, compare_reference.py). For each seed from FIRST to LAST one random
-script of about CALLS calls (400) of each of the oracle's six kinds, as compare_sessions.py has them, played by both programs, and of each of the reference's kinds
-that have releases, whole reads, a client's bytes and interfaces left out of the handshake, played by replay. In each script the payloads are numbers that no other request has, where they have room for one;
-those of a client's bytes stay as they are. Of a script three beginnings, each with its session begun, are played too, since the property is to hold
-after every call.
+script of about CALLS calls (400) of each of the oracle's six kinds, as compare_sessions.py has them, played by both programs, and of each of the reference's
+kinds that have releases, whole reads, a client's bytes and interfaces left out of the handshake, played by replay. In each script the payloads are numbers that
+no other request has, where they have room for one; those of a client's bytes stay as they are. Of a script three beginnings, each with its session begun, are
+played too, since the property is to hold after every call.
 
 What was taken on each device, and what closed its frames, is told from the calls and their answers. A script then goes on until all that it queued was delivered,
 and closes the frame of each device that has pending requests: so every place can be seen. To hold then:

@@ -5,10 +5,10 @@ usage: compare_events.py ORACLE REFERENCE FIRST LAST [PROGRAM ..]     run at the
 
 ORACLE is the oracle's folder, with its program built; REFERENCE the reference's. For each seed from FIRST to LAST the oracle plays a random script with
 `--wire` and tells every message that the crate's own backend wrote, with the interface of its object and its record. Each PROGRAM (crates/replay/out/replay
-without one) has to write that message of the record, and read that record back from the message; one with a zero byte inside a text, a listed difference, it has to refuse. Then records of every kind that are made here, sound and
-not, and damaged copies of all: a byte changed, cut, lengthened, to an object of another interface, with too little room. What these are answered is told by
-the reference's messages.py; of the sound ones the crate's own proxies are asked too (`--messages`). The last line has the counts; the exit status is 1 where
-an answer differs.
+without one) has to write that message of the record, and read that record back from the message; one with a zero byte inside a text, a listed difference, it
+has to refuse. Then records of every kind that are made here, sound and not, and damaged copies of all: a byte changed, cut, lengthened, to an object of another
+interface, with too little room. What these are answered is told by the reference's messages.py; of the sound ones the crate's own proxies are asked too
+(`--messages`). The last line has the counts; the exit status is 1 where an answer differs.
 """
 import os
 import random

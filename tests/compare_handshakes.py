@@ -3,10 +3,10 @@
 
 usage: compare_handshakes.py ORACLE FIRST LAST     run at the repository's root, after `rt run` in crates/replay
 
-ORACLE is the oracle's folder (`./build.sh` there builds target/release/oracle; Rust is needed, and no network). Each seed is a script of twenty handshakes, refused and odd calls among them: texts that are
-not UTF-8 or too long, unknown and repeated names, versions at the ends of their range, requests of other interfaces, a short `out`, a Finish that is refused
-and tried again. (A Finish that succeeds is the last call of its handshake here; sessions are in compare_sessions.py.) Trails are compared line by line; what they answered is
-counted, so that it can be seen what the scripts reached.
+ORACLE is the oracle's folder (`./build.sh` there builds target/release/oracle; Rust is needed, and no network). Each seed is a script of twenty handshakes,
+refused and odd calls among them: texts that are not UTF-8 or too long, unknown and repeated names, versions at the ends of their range, requests of other
+interfaces, a short `out`, a Finish that is refused and tried again. (A Finish that succeeds is the last call of its handshake here; sessions are in
+compare_sessions.py.) Trails are compared line by line; what they answered is counted, so that it can be seen what the scripts reached.
 """
 import collections
 import random

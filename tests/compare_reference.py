@@ -4,10 +4,10 @@
 usage: compare_reference.py REFERENCE FIRST LAST [CALLS [REPLAY]]     run at the repository's root, after `rt run` in crates/replay
 
 REFERENCE is the reference's folder (check.py, against.py and what they need in it; Python alone is needed). Two things are compared, with the requests that
-have landed: its cases, whose lines are by hand, those that other requests are required for left out; and for each seed from FIRST to LAST one random script
-of about CALLS calls (400) of each of four kinds, which have seat and interface releases in them, whole reads, a client's bytes with events written as messages
-and read back, and handshakes that leave many interfaces out, with seats that are given them all the same. REPLAY is the program (crates/replay/out/replay), which gets
-each script on standard input. What differs is printed with its call, and the last line has the counts.
+have landed: its cases, whose lines are by hand, those that other requests are required for left out; and for each seed from FIRST to LAST one random script of
+about CALLS calls (400) of each of four kinds, which have seat and interface releases in them, whole reads, a client's bytes with events written as messages and
+read back, and handshakes that leave many interfaces out, with seats that are given them all the same. REPLAY is the program (crates/replay/out/replay), which
+gets each script on standard input. What differs is printed with its call, and the last line has the counts.
 """
 import os
 import subprocess
