@@ -37,7 +37,10 @@ def build(oracle):
     for path, command, cwd in [(made, ["./build.sh"], oracle), (PROGRAMS["Rattle"], ["rt", "run"], "crates/bench"),
                                (READ_PROGRAMS["Rattle"], ["rt", "run"], "crates/bench_reads"), (ARCHIVE, ["rt", "lib"], "crates/bozterrun")]:
         if not os.path.exists(path):
-            subprocess.run(command, cwd=cwd, stdin=subprocess.DEVNULL, stdout=subprocess.DEVNULL, check=True)
+            done = subprocess.run(command, cwd=cwd, stdin=subprocess.DEVNULL, stdout=subprocess.PIPE, stderr=subprocess.STDOUT, text=True)
+            if done.returncode:
+                print("\n".join(done.stdout.rstrip().split("\n")[-40:]))
+                sys.exit(f"`{' '.join(command)}` in {cwd} has failed")
     os.makedirs("target/c", exist_ok=True)
     subprocess.run(["gcc", "-std=c11", "-O2", "-Iinclude", "tests/c/bench.c", ARCHIVE, "-o", PROGRAMS["C"]], check=True)
     env = dict(os.environ, BOZTERRUN_LIB=os.path.abspath(os.path.dirname(ARCHIVE)))
