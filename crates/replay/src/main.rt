@@ -7,7 +7,7 @@ ghost use Rattle.std.specs.Prelude.{◌≤◌, length};
 use script_play::End;
 use std::env::{Env, FillError};
 use std::fs::File;
-use std::io::{Read, Write};
+use std::io::{Cursor, Read, Write};
 use std::{io, str};
 
 // Whether the first n bytes are a word.
@@ -45,11 +45,29 @@ fn usage(to: &mut impl Write) {
     );
 }
 
+// How much of an error's text is its reason. Behind that stands a number in brackets, or nothing.
+fn reason(text: &[u8]) -> usize
+    ensures { result ≤ length text.now }
+{
+    for i in 0..text.len() {
+        if text[i] == 0 || text[i..].starts_with(b" (os error ") {
+            return i;
+        }
+    }
+    text.len()
+}
+
 // What failed, a colon and the system's reason, on standard error.
 fn fail(rt: &HostRuntime, what: &[u8], e: io::Error) {
+    let mut text = Cursor::new([0u8; 128]);
+    let _ = write!(text, "{e}");
+    let told = text.get_ref();
+    let n = reason(told);
     let mut err = rt.stderr();
     let _ = err.write_all(what);
-    let _ = writeln!(err, ": {e}");
+    let _ = err.write_all(b": ");
+    let _ = err.write_all(&told[..n]);
+    let _ = err.write_all(b"\n");
 }
 
 // How it ended, on standard error.
