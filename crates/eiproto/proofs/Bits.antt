@@ -32,6 +32,20 @@ pub bits-length : (m : ℕ) → m < 2 ^ 64 → length (bits_of m) ≡ ones m
 unfolding bits_of
 bits-length m h = length_from 64 0 m h
 
+most_from : (k p m : ℕ) → length (bits_from k p m) ≤ k
+unfolding bits_from
+most_from zero p m = omega arith
+most_from (suc k) p m = go (eqb (m % 2) 1) (most_from k (p + 1) (m / 2))
+  where
+    go : (t : Bool) → length (bits_from k (p + 1) (m / 2)) ≤ k → length (cond t (p ∷ []) [] ++ bits_from k (p + 1) (m / 2)) ≤ suc k
+    go true h = omega arith
+    go false h = omega arith
+
+-- 64 at most
+pub bits_fit : (m : ℕ) → length (bits_of m) ≤ 64
+unfolding bits_of
+bits_fit m = most_from 64 0 m
+
 -- ---- the lowest
 
 pub bits_none : bits_of 0 ≡ []
@@ -111,6 +125,13 @@ lowest m a h =
       less = omega (arith, f.1.0, without_is m, pow_pos (lowest_bit m));
       bits = f.1.1 ∙ rest_of (lowest_bit m) (m - 2 ^ lowest_bit m) ∙ ap (λ (x : ℕ). lowest_bit m ∷ bits_of x) (without_is m);
     }
+
+-- one by one: none is left at 0, else the lowest is first
+pub bits_zero : (m : ℕ) → m ≡ 0 → bits_of m ≡ []
+bits_zero m e = rw e bits_none
+
+pub bits_next : (m b r : ℕ) → (m ≡ 0 → ⊥) → m < 2 ^ 64 → b ≡ lowest_bit m → r ≡ without_lowest m → bits_of m ≡ b ∷ bits_of r
+bits_next m b r n h p q = rw (p, q) (lowest m (omega arith) h).bits
 
 -- ---- those that two masks share, and those of a part
 

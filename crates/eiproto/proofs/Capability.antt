@@ -2,17 +2,17 @@
 use Prim.Native.Nat.{ℕ, ◌^◌}
 use mathlib.Core.Path.{◌≡◌, refl, sym, ap, ◌∙◌}
 use mathlib.Core.List.{[], ◌∷◌, map}
+use Rattle.std.specs.Prelude.{Option, Some, None}
 use Rattle.eiproto.proofs.Variant.{parsed}
 use Rattle.eiproto.specs.Capability.{capabilities, capability_index, capability_mask, capability_interface, capability_by, interface_of_bit}
 use Rattle.eiproto.specs.declared.event.DeviceCapability.{DeviceCapability}
 use Rattle.eiproto.specs.declared.event.DeviceCapability.TheVariants.{Pointer, PointerAbsolute, Keyboard, Touch, Scroll, Button, Text}
-use Rattle.eiproto.specs.declared.event.DeviceCapabilityOf.{DeviceCapabilityOf}
 
 -- each of its three numbers is read as the capability again, and its mask has its bit alone
 pub record Numbered (c : DeviceCapability) : Type 0 where
-  pub index : capability_by capability_index (capability_index c) ≡ DeviceCapabilityOf.Case c
-  pub mask : capability_by capability_mask (capability_mask c) ≡ DeviceCapabilityOf.Case c
-  pub interface : capability_by capability_interface (capability_interface c) ≡ DeviceCapabilityOf.Case c
+  pub index : capability_by capability_index (capability_index c) ≡ Some c
+  pub mask : capability_by capability_mask (capability_mask c) ≡ Some c
+  pub interface : capability_by capability_interface (capability_interface c) ≡ Some c
   pub power : capability_mask c ≡ 2 ^ capability_index c
 
 pub numbered : (c : DeviceCapability) → Numbered c
@@ -26,13 +26,13 @@ numbered Text = record { index = refl; mask = refl; interface = refl; power = re
 
 -- a number that is read as a capability is the capability's
 pub capability-number_of : (number : DeviceCapability → ℕ) (n : ℕ) (c : DeviceCapability)
-    → capability_by number n ≡ DeviceCapabilityOf.Case c → n ≡ number c
+    → capability_by number n ≡ Some c → n ≡ number c
 capability-number_of number n c e =
-    sym (parsed number DeviceCapabilityOf.Case DeviceCapabilityOf.Unknown n told (λ x. refl) refl capabilities) ∙ ap told e
+    sym (parsed number Some None n told (λ x. refl) refl capabilities) ∙ ap told e
   where
-    told : DeviceCapabilityOf → ℕ
-    told (DeviceCapabilityOf.Case x) = number x
-    told DeviceCapabilityOf.Unknown = n
+    told : Option DeviceCapability → ℕ
+    told (Some x) = number x
+    told None = n
 
 -- the interfaces by bit
 pub by_bit : map interface_of_bit (0 ∷ 1 ∷ 2 ∷ 3 ∷ 4 ∷ 5 ∷ 6 ∷ 7 ∷ []) ≡ 6 ∷ 7 ∷ 10 ∷ 11 ∷ 8 ∷ 9 ∷ 12 ∷ 0 ∷ []

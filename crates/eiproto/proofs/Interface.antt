@@ -1,19 +1,24 @@
 -- The table of interfaces: its rows, and the search by name. Assumes nothing.
-use Prim.Native.Nat.{ℕ, zero, suc, ◌+◌, ◌-◌, ◌≤◌, ◌<◌}
+use Prim.Native.Nat.{ℕ, zero, suc, ◌+◌, ◌≤◌, ◌<◌}
 use mathlib.Core.Path.{◌≡◌, refl, sym, ap, ap₂, ◌∙◌}
 use mathlib.Core.Logic.{dite}
 use mathlib.Core.Bool.{Bool, true, false, cond, ◌&&◌, false≢true}
 use mathlib.Core.List.{List, [], ◌∷◌, map}
 use mathlib.Core.Option.{Option, none, some}
 use native.Mathlib.Omega.{arith}
+use Rattle.std.proofs.Common.{nat_eq}
+use Rattle.std.specs.Prelude.{Some}
+use Rattle.std.specs.List.{find, range_with_len}
+use Rattle.std.specs.Cmp.Lexicographic.{pointwise}
+use Rattle.eiproto.specs.Told.{told}
 use native.Mathlib.Decide.{dec_lt}
 use native.Mathlib.Numerals.{add-one}
 use borrow.Author.Tests.{eq-eqb, ne_eqb, eqb-true}
 use lib.Dec.{eqb}
-use lib.ListN.{length, get_or, drop, replicate, length-append, length-replicate, drop_of_length-le, get_or-map, get_or-append, get_or-eq_default}
+use lib.ListN.{length, get_or, drop, drop_of_length-le, get_or-map, get_or-eq_default}
 use lib.Seq.{drop-cons}
 use Rattle.eiproto.specs.declared.eiproto_eis.Interface.{Interface}
-use Rattle.eiproto.specs.Interface.{Row, row, table, row_of, interfaces, interface_name, server_version, padded, same_bytes, lookup_from, lookup}
+use Rattle.eiproto.specs.Interface.{Row, row, table, row_of, interfaces, interface_name, same_bytes, lookup_from, lookup}
 
 -- within a list the default does not matter
 get_d_any : {A : Type 0} (l : List A) (i : ℕ) (d e : A) → i < length l → get_or l i d ≡ get_or l i e
@@ -21,40 +26,21 @@ get_d_any [] i d e h = absurd (omega arith)
 get_d_any (x ∷ l) zero d e h = refl
 get_d_any (x ∷ l) (suc i) d e h = get_d_any l i d e (omega arith)
 
--- the row at a number, of the table with each row padded, is the padded row of the number; past the table that is the row of 0
-pub is_row : (d : Interface) (i : ℕ) → i < 13 → get_or (map padded table) i d ≡ padded (row_of i)
+-- A table in code: where a column of it is a column of the rows, so is what it has at a number. Past the table a number has row 0's.
+pub column : {A B : Type 0} (f : A → B) (g : Row → B) (l : List A) (d : A) (i : ℕ) → map f l ≡ map g table → i < 13 → f (get_or l i d) ≡ g (row_of i)
 unfolding row_of
-is_row d i h = get_d_any (map padded table) i d (padded (row "" 0)) h ∙ get_or-map padded table i (row "" 0)
+column {B = B} f g l d i e h =
+    sym (get_or-map f l i d) ∙ ap (λ (bs : List B). get_or bs i (f d)) e ∙ get_d_any (map g table) i (f d) (g (row "" 0)) h ∙ get_or-map g table i (row "" 0)
 
-pub no_row : (i : ℕ) → 12 < i → padded (row "" 0) ≡ padded (row_of i)
+-- the rows as the code's table has them, whose names lie at these places
+abbrev pub lent : List (ℕ × ℕ) → List Row → List Interface
+lent [] rs = []
+lent (p ∷ ps) [] = []
+lent (p ∷ ps) (r ∷ rs) = record { name = record { ref_ptr = p; now = r.name }; version = r.version } ∷ lent ps rs
+
+pub past : (i : ℕ) → 12 < i → row "" 0 ≡ row_of i
 unfolding row_of
-no_row i h = ap padded (sym (get_or-eq_default table (row "" 0) h))
-
-module _ (i : ℕ) (r : Interface) (is : r ≡ padded (row_of i)) where
-  pub len_of : r.len ≡ length (interface_name i)
-  unfolding interface_name padded
-  len_of = ap (λ (x : Interface). x.len) is
-
-  pub version_of : r.version ≡ server_version i
-  unfolding server_version padded
-  version_of = ap (λ (x : Interface). x.version) is
-
-  pub len_fits : length r.name ≡ 19 → r.len ≤ 19
-  unfolding interface_name padded
-  len_fits h =
-      omega (
-        arith,
-        len_of,
-        ap (λ (x : Interface). length x.name) is,
-        length-append (interface_name i) (replicate (19 - length (interface_name i)) 0),
-        length-replicate (19 - length (interface_name i)) zero,
-      )
-
-  pub byte_of : (k : ℕ) → k < r.len → get_or r.name k 0 ≡ get_or (interface_name i) k 0
-  unfolding interface_name padded
-  byte_of k h =
-      ap (λ (x : Interface). get_or x.name k 0) is
-      ∙ get_or-append (interface_name i) (replicate (19 - length (interface_name i)) 0) 0 k (omega (arith, len_of))
+past i h = sym (get_or-eq_default table (row "" 0) h)
 
 -- names compared byte by byte
 pub same_not : (a b : List ℕ) → (length b ≡ length a → ⊥) → false ≡ same_bytes a b
@@ -82,23 +68,34 @@ module _ (a b : List ℕ) (k : ℕ) where
   unfolding same_bytes
   same_end ha hb = rw (drop_of_length-le a ha, drop_of_length-le b hb)
 
--- the search, from its start, one row further, and past the last row
-pub look_start : (name : List ℕ) → lookup name ≡ lookup_from 1 (drop 1 table) name
-unfolding lookup table
-look_start name = refl
+-- `==` of two slices of bytes
+pub same_is : (a b : List ℕ) → pointwise nat_eq a b ≡ same_bytes a b
+unfolding same_bytes
+same_is [] [] = refl
+same_is [] (y ∷ ys) = refl
+same_is (x ∷ xs) [] = refl
+same_is (x ∷ xs) (y ∷ ys) = ap (λ (t : Bool). eqb x y && t) (same_is xs ys)
 
-module _ (name : List ℕ) (i : ℕ) where
-  pub look_hit : i < 13 → true ≡ same_bytes (interface_name i) name → some i ≡ lookup_from i (drop i table) name
-  unfolding lookup_from interface_name row_of
-  look_hit h e = rw (drop-cons table i (row "" 0) h, ← e)
+-- the search through the numbers from i on, of which each is tested by its row's name
+looked : (test : ℕ → Bool) (name : List ℕ) (i : ℕ) (rs : List Row) → ((k : ℕ) → k < length rs → test (i + k) ≡ same_bytes (get_or rs k (row "" 0)).name name)
+    → told (find test (range_with_len i (length rs))) ≡ lookup_from i rs name
+unfolding lookup_from
+looked test name i [] h = refl
+looked test name i (r ∷ rs) h =
+    let z : i + 0 ≡ i = omega arith in
+    let first : test i ≡ same_bytes r.name name = ap test (sym z) ∙ h 0 (omega arith) in
+    rw first (go (same_bytes r.name name) (looked test name (i + 1) rs (λ k l. let y : i + 1 + k ≡ i + suc k = omega arith in ap test y ∙ h (suc k) (omega arith))))
+  where
+    go : (t : Bool) → told (find test (range_with_len (i + 1) (length rs))) ≡ lookup_from (i + 1) rs name
+        → told (cond t (Some i) (find test (range_with_len (i + 1) (length rs)))) ≡ cond t (some i) (lookup_from (i + 1) rs name)
+    go true e = refl
+    go false e = e
 
-  pub look_miss : i < 13 → false ≡ same_bytes (interface_name i) name → lookup_from i (drop i table) name ≡ lookup_from (i + 1) (drop (i + 1) table) name
-  unfolding lookup_from interface_name row_of
-  look_miss h e = rw (drop-cons table i (row "" 0) h, ← e, add-one)
-
-  pub look_end : 13 ≤ i → none ≡ lookup_from i (drop i table) name
-  unfolding lookup_from table
-  look_end h = rw (drop_of_length-le table h)
+pub looked_up : (name : List ℕ) → told (find (λ i. pointwise nat_eq (interface_name i) name) (range_with_len 1 12)) ≡ lookup name
+unfolding lookup interface_name row_of table
+looked_up name =
+    looked (λ i. pointwise nat_eq (interface_name i) name) name 1 interfaces
+    (λ k l. let z : 1 + k ≡ suc k = omega arith in same_is (interface_name (1 + k)) name ∙ ap (λ (j : ℕ). same_bytes (get_or table j (row "" 0)).name name) z)
 
 -- ---- what the search finds
 

@@ -1,10 +1,9 @@
 -- Capabilities of devices: index, mask and interface (`DeviceCapability` of src/event.rs). Assumes nothing.
-use Rattle.std.specs.Prelude.{ℕ, ◌^◌, Bool, List, [], ◌∷◌, leb}
+use Rattle.std.specs.Prelude.{ℕ, ◌^◌, Bool, List, [], ◌∷◌, leb, Option, Some, None}
 use Rattle.eiproto.specs.Variant.{parse}
 use Rattle.eiproto.specs.Interface.{ei_pointer, ei_pointer_absolute, ei_scroll, ei_button, ei_keyboard, ei_touchscreen, ei_text}
 use Rattle.eiproto.specs.declared.event.DeviceCapability.{DeviceCapability}
 use Rattle.eiproto.specs.declared.event.DeviceCapability.TheVariants.{Pointer, PointerAbsolute, Keyboard, Touch, Scroll, Button, Text}
-use Rattle.eiproto.specs.declared.event.DeviceCapabilityOf.{DeviceCapabilityOf}
 
 -- in the order of their bits
 abbrev pub capabilities : List DeviceCapability
@@ -41,13 +40,13 @@ capability_interface Button = ei_button
 capability_interface Text = ei_text
 
 -- the capability of which `number` is n, or that there is none
-abbrev pub capability_by : (DeviceCapability → ℕ) → ℕ → DeviceCapabilityOf
-capability_by number n = parse number DeviceCapabilityOf.Case DeviceCapabilityOf.Unknown capabilities n
+abbrev pub capability_by : (DeviceCapability → ℕ) → ℕ → Option DeviceCapability
+capability_by number n = parse number Some None capabilities n
 
 -- the interface of what was found; 0 where nothing was
-abbrev pub interface_told : DeviceCapabilityOf → ℕ
-interface_told (DeviceCapabilityOf.Case c) = capability_interface c
-interface_told DeviceCapabilityOf.Unknown = 0
+abbrev pub interface_told : Option DeviceCapability → ℕ
+interface_told (Some c) = capability_interface c
+interface_told None = 0
 
 -- the interface of the capability at a bit; 0 where the bit is no capability's
 unfoldable pub interface_of_bit : ℕ → ℕ

@@ -1,10 +1,8 @@
 -- The twelve interfaces, their names and the server's versions. Assumes nothing.
-use Rattle.std.specs.Prelude.{ℕ, ◌+◌, ◌-◌, Bool, true, false, cond, ◌&&◌, List, [], ◌∷◌, ◌++◌, eqb, get_or, length, replicate}
+use Rattle.std.specs.Prelude.{ℕ, ◌+◌, Bool, true, false, cond, ◌&&◌, List, [], ◌∷◌, eqb, get_or}
 use Prim.Native.Char.{code}
 use Prim.Native.String.{String, [] as end, ◌∷◌ as ◌then◌}
 use Rattle.std.proofs.Math.Option.{Option, none, some}
-use Rattle.eiproto.specs.declared.eiproto_eis.Found.{Found}
-use Rattle.eiproto.specs.declared.eiproto_eis.Interface.{Interface}
 
 -- the bytes of an ASCII text
 unfoldable pub ascii : String → List ℕ
@@ -98,10 +96,6 @@ unfoldable pub server_version : ℕ → ℕ
 unfolding row_of
 server_version i = (row_of i).version
 
--- a row as the code's table has it: the name with zeros behind it up to 19 bytes, the longest name's length, and its own length
-unfoldable pub padded : Row → Interface
-padded r = record { name = r.name ++ replicate (19 - length r.name) 0; len = length r.name; version = r.version }
-
 -- two names are the same, byte for byte
 unfoldable pub same_bytes : List ℕ → List ℕ → Bool
 same_bytes [] [] = true
@@ -119,8 +113,3 @@ lookup_from i (r ∷ rs) name = cond (same_bytes r.name name) (some i) (lookup_f
 unfoldable pub lookup : List ℕ → Option ℕ
 unfolding lookup_from interfaces
 lookup name = lookup_from 1 interfaces name
-
--- what an answer of `find` says
-abbrev pub number_found : Found → Option ℕ
-number_found (Found.Interface i) = some i
-number_found Found.Unknown = none

@@ -1,3 +1,4 @@
+pub mod Told
 pub mod Variant
 pub mod Enum
 pub mod Interface

@@ -1,11 +1,12 @@
 // Capabilities of devices, and masks of them: bit b of a mask is the capability at index b.
 ghost use Rattle.std.specs.Prelude.{◌≡◌, length};
+ghost use Rattle.std.specs.Iterator.{YieldsFirst, item_count};
 ghost use Rattle.eiproto.specs.Bits.{bits_of, lowest_bit, without_lowest, bits_below, contains, common};
 ghost use Rattle.eiproto.specs.Capability.{capability_index, capability_mask, capability_interface, capability_by, interface_of_bit, unknown_bits};
 
 use crate::eiproto_eis;
 
-#[derive(Clone, Copy)]
+#[derive(Clone, Copy, Debug, PartialEq, Eq)]
 pub enum DeviceCapability {
     // Capability for relative pointer motion.
     Pointer,
@@ -23,12 +24,7 @@ pub enum DeviceCapability {
     Text,
 }
 
-#[derive(Clone, Copy)]
-pub enum DeviceCapabilityOf {
-    Case(DeviceCapability),
-    Unknown,
-}
-
+// Constants and functions with no self, masks as numbers: docs/DECISIONS.md, Forms by place.
 impl DeviceCapability {
     // The masks.
     pub const POINTER: u64 = 1 << 0;
@@ -91,61 +87,58 @@ impl DeviceCapability {
     }
 
     // The capability at the place of a bit.
-    pub fn from_index(index: u32) -> DeviceCapabilityOf
+    pub fn from_index(index: u32) -> Option<DeviceCapability>
         ensures { result ≡ capability_by capability_index index }
     {
         match index {
-            0 => DeviceCapabilityOf::Case(DeviceCapability::Pointer),
-            1 => DeviceCapabilityOf::Case(DeviceCapability::PointerAbsolute),
-            2 => DeviceCapabilityOf::Case(DeviceCapability::Keyboard),
-            3 => DeviceCapabilityOf::Case(DeviceCapability::Touch),
-            4 => DeviceCapabilityOf::Case(DeviceCapability::Scroll),
-            5 => DeviceCapabilityOf::Case(DeviceCapability::Button),
-            6 => DeviceCapabilityOf::Case(DeviceCapability::Text),
-            _ => DeviceCapabilityOf::Unknown,
+            0 => Some(DeviceCapability::Pointer),
+            1 => Some(DeviceCapability::PointerAbsolute),
+            2 => Some(DeviceCapability::Keyboard),
+            3 => Some(DeviceCapability::Touch),
+            4 => Some(DeviceCapability::Scroll),
+            5 => Some(DeviceCapability::Button),
+            6 => Some(DeviceCapability::Text),
+            _ => None,
         }
     }
 
     // The capability that has the mask: none for a mask of no bit, of several or of an unknown one.
-    pub fn from_mask(mask: u64) -> DeviceCapabilityOf
+    pub fn from_mask(mask: u64) -> Option<DeviceCapability>
         ensures { result ≡ capability_by capability_mask mask }
     {
         match mask {
-            DeviceCapability::POINTER => DeviceCapabilityOf::Case(DeviceCapability::Pointer),
-            DeviceCapability::POINTER_ABSOLUTE => DeviceCapabilityOf::Case(
-                DeviceCapability::PointerAbsolute,
-            ),
-            DeviceCapability::KEYBOARD => DeviceCapabilityOf::Case(DeviceCapability::Keyboard),
-            DeviceCapability::TOUCH => DeviceCapabilityOf::Case(DeviceCapability::Touch),
-            DeviceCapability::SCROLL => DeviceCapabilityOf::Case(DeviceCapability::Scroll),
-            DeviceCapability::BUTTON => DeviceCapabilityOf::Case(DeviceCapability::Button),
-            DeviceCapability::TEXT => DeviceCapabilityOf::Case(DeviceCapability::Text),
-            _ => DeviceCapabilityOf::Unknown,
+            DeviceCapability::POINTER => Some(DeviceCapability::Pointer),
+            DeviceCapability::POINTER_ABSOLUTE => Some(DeviceCapability::PointerAbsolute),
+            DeviceCapability::KEYBOARD => Some(DeviceCapability::Keyboard),
+            DeviceCapability::TOUCH => Some(DeviceCapability::Touch),
+            DeviceCapability::SCROLL => Some(DeviceCapability::Scroll),
+            DeviceCapability::BUTTON => Some(DeviceCapability::Button),
+            DeviceCapability::TEXT => Some(DeviceCapability::Text),
+            _ => None,
         }
     }
 
     // The number of the interface of a bit; 0 where the bit is no capability's.
+    #[tactic(auto, unfolding(crate::specs::Capability::interface_of_bit))]
     pub fn interface_of_bit(bit: u32) -> u8
         ensures { result ≡ interface_of_bit bit }
     {
-        match DeviceCapability::from_index(bit) {
-            DeviceCapabilityOf::Case(cap) => DeviceCapability::interface(cap),
-            DeviceCapabilityOf::Unknown => 0,
-        }
+        DeviceCapability::from_index(bit).map_or(0, DeviceCapability::interface)
     }
 
     // How many bits of a mask are set.
     pub fn count(mask: u64) -> u32
         ensures { result ≡ length (bits_of mask) }
     {
-        u64::count_ones(mask)
+        mask.count_ones()
     }
 
     // The lowest set bit, which is the next in ascending order; 64 where none is set.
+    #[tactic(auto, using(crate::proofs::Bits::lowest_is))]
     pub fn lowest(mask: u64) -> u32
         ensures { result ≡ lowest_bit mask }
     {
-        u64::trailing_zeros(mask)
+        mask.trailing_zeros()
     }
 
     // The mask without its lowest set bit.
@@ -155,18 +148,18 @@ impl DeviceCapability {
         if mask == 0 {
             return 0;
         }
-        let b = DeviceCapability::lowest(mask);
-        mask - (1 << b)
+        mask - (1 << DeviceCapability::lowest(mask))
     }
 
     // How many bits of a mask are set below a bit.
+    #[tactic(auto, using(crate::proofs::Bits::one_shl, crate::proofs::Bits::below_is, crate::proofs::Bits::below_all))]
     pub fn count_below(mask: u64, bit: u32) -> u32
         ensures { result ≡ bits_below mask bit }
     {
         if 63 < bit {
-            return u64::count_ones(mask);
+            return mask.count_ones();
         }
-        u64::count_ones(mask % (1 << bit))
+        (mask % (1 << bit)).count_ones()
     }
 
     // Whether a bit above bit 6 is set, which is no capability's.
@@ -188,5 +181,27 @@ impl DeviceCapability {
         ensures { result ≡ common a b }
     {
         a & b
+    }
+}
+
+// The set bits of a mask, ascending.
+#[derive(Clone, Debug, Drop)]
+pub struct Bits(pub u64);
+
+impl Iterator for Bits {
+    type Item = u32;
+
+    ghost next_gives = { YieldsFirst (λ b. bits_of b.0) };
+
+    ghost remaining = { item_count (λ b. bits_of b.0) };
+
+    #[tactic(auto, using(crate::proofs::Bits::bits_zero, crate::proofs::Bits::bits_next))]
+    fn next(&mut self) -> Option<u32> {
+        if self.0 == 0 {
+            return None;
+        }
+        let bit = DeviceCapability::lowest(self.0);
+        self.0 = DeviceCapability::without_lowest(self.0);
+        Some(bit)
     }
 }

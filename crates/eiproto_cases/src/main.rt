@@ -2,121 +2,59 @@
 #![tactic(auto)]
 
 use eiproto::eiproto_eis;
-use eiproto::eiproto_eis::Found;
-use eiproto::event::{DeviceCapability, DeviceCapabilityOf};
+use eiproto::event::{Bits, DeviceCapability};
 use std::io;
 use std::io::Write;
 
-fn text(to: &mut impl Write, s: &[u8]) -> io::Result<()> {
-    to.write_all(s)
-}
-
-fn decimal(to: &mut impl Write, n: u64) -> io::Result<()> {
-    write!(to, "{n}")
-}
-
-fn byte(to: &mut impl Write, b: u8) -> io::Result<()> {
-    let one = [b];
-    text(to, &one)
-}
-
-fn name(to: &mut impl Write, i: u8) -> io::Result<()> {
-    for k in 0..eiproto_eis::name_len(i) {
-        byte(to, eiproto_eis::name_byte(i, k))?;
-    }
-    Ok(())
-}
-
 // Number, name and version of an interface.
 fn interface(to: &mut impl Write, i: u8) -> io::Result<()> {
-    decimal(to, i as u64)?;
-    text(to, b" ")?;
-    name(to, i)?;
-    text(to, b" ")?;
-    decimal(to, eiproto_eis::version(i) as u64)?;
-    text(to, b"\n")
+    write!(to, "{i} ")?;
+    to.write_all(eiproto_eis::name(i))?;
+    writeln!(to, " {}", eiproto_eis::version(i))
 }
 
 // A name and the number that is found for it.
 fn search(to: &mut impl Write, name: &[u8]) -> io::Result<()> {
-    text(to, name)?;
+    to.write_all(name)?;
     match eiproto_eis::find(name) {
-        Found::Interface(i) => {
-            text(to, b" is ")?;
-            decimal(to, i as u64)?;
-            text(to, b"\n")?;
-        }
-        Found::Unknown => text(to, b" is unknown\n")?,
+        Some(i) => writeln!(to, " is {i}"),
+        None => writeln!(to, " is unknown"),
     }
-    Ok(())
 }
 
 // Bit, mask and interface of a capability.
 fn capability(to: &mut impl Write, bit: u32) -> io::Result<()> {
-    text(to, b"bit ")?;
-    decimal(to, bit as u64)?;
     match DeviceCapability::from_index(bit) {
-        DeviceCapabilityOf::Case(cap) => {
-            text(to, b" mask ")?;
-            decimal(to, DeviceCapability::mask(cap))?;
-            text(to, b" interface ")?;
-            decimal(to, DeviceCapability::interface(cap) as u64)?;
-            text(to, b"\n")?;
+        Some(cap) => {
+            let mask = DeviceCapability::mask(cap);
+            let interface = DeviceCapability::interface(cap);
+            writeln!(to, "bit {bit} mask {mask} interface {interface}")
         }
-        DeviceCapabilityOf::Unknown => text(to, b" is no capability\n")?,
+        None => writeln!(to, "bit {bit} is no capability"),
     }
-    Ok(())
 }
 
-// A bit with its interface.
-fn bit(to: &mut impl Write, b: u32) -> io::Result<()> {
-    text(to, b" ")?;
-    decimal(to, b as u64)?;
-    text(to, b"/")?;
-    decimal(to, DeviceCapability::interface_of_bit(b) as u64)
-}
-
-fn bits(to: &mut impl Write, mask: u64) -> io::Result<()> {
-    let mut m = mask;
-    while m != 0 {
-        bit(to, DeviceCapability::lowest(m))?;
-        m = DeviceCapability::without_lowest(m);
-    }
-    Ok(())
-}
-
-// A mask, how many bits it has, and which.
+// A mask, how many bits it has, and which, each with its interface.
 fn mask(to: &mut impl Write, mask: u64) -> io::Result<()> {
-    decimal(to, mask)?;
-    text(to, b" has ")?;
-    decimal(to, DeviceCapability::count(mask) as u64)?;
-    text(to, b":")?;
-    bits(to, mask)?;
-    if DeviceCapability::has_unknown(mask) {
-        text(to, b" invalid")?;
+    write!(to, "{mask} has {}:", DeviceCapability::count(mask))?;
+    for bit in Bits(mask) {
+        write!(to, " {bit}/{}", DeviceCapability::interface_of_bit(bit))?;
     }
-    text(to, b"\n")
+    if DeviceCapability::has_unknown(mask) {
+        write!(to, " invalid")?;
+    }
+    writeln!(to)
 }
 
 // Whether a mask contains another, and what they share.
 fn pair(to: &mut impl Write, whole: u64, part: u64) -> io::Result<()> {
-    decimal(to, whole)?;
-    if DeviceCapability::contains(whole, part) {
-        text(to, b" contains ")?;
+    let contains = if DeviceCapability::contains(whole, part) {
+        "contains"
     } else {
-        text(to, b" lacks some of ")?;
-    }
-    decimal(to, part)?;
-    text(to, b", shared ")?;
-    decimal(to, DeviceCapability::common(whole, part))?;
-    text(to, b"\n")
-}
-
-fn interfaces(to: &mut impl Write) -> io::Result<()> {
-    for i in 0..14 {
-        interface(to, i)?;
-    }
-    Ok(())
+        "lacks some of"
+    };
+    let shared = DeviceCapability::common(whole, part);
+    writeln!(to, "{whole} {contains} {part}, shared {shared}")
 }
 
 fn searches(to: &mut impl Write) -> io::Result<()> {
@@ -131,13 +69,6 @@ fn searches(to: &mut impl Write) -> io::Result<()> {
     search(to, b"EI_SEAT")?;
     search(to, b"ei_handshake")?;
     search(to, b"ei_pointer_absolute_and_more")
-}
-
-fn capabilities(to: &mut impl Write) -> io::Result<()> {
-    for bit in 0..8 {
-        capability(to, bit)?;
-    }
-    Ok(())
 }
 
 fn masks(to: &mut impl Write) -> io::Result<()> {
@@ -156,9 +87,13 @@ fn masks(to: &mut impl Write) -> io::Result<()> {
 
 fn main(rt: HostRuntime) -> io::Result<()> {
     let mut out = io::writer(&rt);
-    interfaces(&mut out)?;
+    for i in 0..14 {
+        interface(&mut out, i)?;
+    }
     searches(&mut out)?;
-    capabilities(&mut out)?;
+    for bit in 0..8 {
+        capability(&mut out, bit)?;
+    }
     masks(&mut out)?;
     out.flush()
 }

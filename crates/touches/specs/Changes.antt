@@ -1,7 +1,7 @@
 -- What each change makes of a record, by value or where it is: d is the record before, and e the record after it.
-use Rattle.std.specs.Prelude.{ℕ, ◌≤◌, ◌≡◌, Bool, true, false, List, [], ◌∷◌, ◌++◌, length}
+use Rattle.std.specs.Prelude.{ℕ, ◌≤◌, ◌≡◌, Bool, true, false, List, [], ◌∷◌, ◌++◌, length, Result}
 use Rattle.touches.specs.declared.DownTouchIds.{DownTouchIds}
-use Rattle.touches.specs.declared.DownAnswer.{DownAnswer}
+use Rattle.touches.specs.declared.DownError.{DownError}
 use Rattle.touches.specs.Touches.{touches_limit, held, member, without, refusal, down_refusal}
 
 -- a record made or changed: these ids are held, and counted, sixteen at most. What the places behind them hold is left free
@@ -11,7 +11,7 @@ pub record Holds (ids : List ℕ) (e : DownTouchIds) : Type 0 where
   pub within : e.count ≤ touches_limit
 
 -- a Down that is not refused puts the id last. "A refusal returns the session unchanged": e is d, to the last bit
-pub record Inserts (id : ℕ) (d e : DownTouchIds) (answer : DownAnswer) : Type 0 where
+pub record Inserts (id : ℕ) (d e : DownTouchIds) (answer : Result (Unit {0}) DownError) : Type 0 where
   pub answers : refusal answer ≡ down_refusal id (held d)
   pub inserted : down_refusal id (held d) ≡ 0 → Holds (held d ++ (id ∷ [])) e
   pub refused : (down_refusal id (held d) ≡ 0 → ⊥) → e ≡ d

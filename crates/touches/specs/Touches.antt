@@ -1,8 +1,8 @@
 -- The held ids as a list, and what is asked of it.
-use Rattle.std.specs.Prelude.{ℕ, suc, Bool, false, ◌||◌, cond, List, [], ◌∷◌, eqb, leb, take, length}
+use Rattle.std.specs.Prelude.{ℕ, Bool, false, ◌||◌, cond, List, [], ◌∷◌, eqb, leb, take, length, Result, Ok, Err}
 use Rattle.touches.specs.declared.DownTouchIds.{DownTouchIds}
-use Rattle.touches.specs.declared.DownAnswer.{DownAnswer}
-use Rattle.touches.specs.declared.DownAnswer.TheVariants.{Inserted, TooManyTouches, DuplicatedTouchDown}
+use Rattle.touches.specs.declared.DownError.{DownError}
+use Rattle.touches.specs.declared.DownError.TheVariants.{TooManyTouches, DuplicatedTouchDown}
 
 -- the most ids that are held
 abbrev pub touches_limit : ℕ
@@ -17,21 +17,16 @@ unfoldable pub member : ℕ → List ℕ → Bool
 member x [] = false
 member x (y ∷ ys) = eqb x y || member x ys
 
--- the place of the first x, and the list's length where there is none
-unfoldable pub position : ℕ → List ℕ → ℕ
-position x [] = 0
-position x (y ∷ ys) = cond (eqb x y) 0 (suc (position x ys))
-
 -- the list without the first x
 unfoldable pub without : ℕ → List ℕ → List ℕ
 without x [] = []
 without x (y ∷ ys) = cond (eqb x y) ys (y ∷ without x ys)
 
 -- the number of a refused Down, 0 for none
-abbrev pub refusal : DownAnswer → ℕ
-refusal Inserted = 0
-refusal TooManyTouches = 4
-refusal DuplicatedTouchDown = 5
+abbrev pub refusal : Result (Unit {0}) DownError → ℕ
+refusal (Ok _) = 0
+refusal (Err TooManyTouches) = 4
+refusal (Err DuplicatedTouchDown) = 5
 
 -- "4 TOO_MANY_TOUCHES: Down while 16 ids are held, even for a held id. 5 DUPLICATED_TOUCH_DOWN: Down for a held id, fewer than 16 held."
 unfoldable pub down_refusal : ℕ → List ℕ → ℕ

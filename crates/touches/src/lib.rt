@@ -4,10 +4,8 @@
 // (`insert`, `remove`, `clear`), of a record that is lent and changed where it is.
 #![tactic(auto)]
 
-pub mod kept;
-
-ghost use Rattle.std.specs.Prelude.{◌≡◌, [], length};
-ghost use Rattle.touches.specs.Touches.{held, member, position};
+ghost use Rattle.std.specs.Prelude.{◌≡◌, ◌==◌, true, false, [], length, position, MatchOption, MatchResult};
+ghost use Rattle.touches.specs.Touches.{held, member};
 ghost use Rattle.touches.specs.Changes.{Holds, Inserts, Removes};
 
 // The source's EIS_MAX_TOUCHES.
@@ -15,31 +13,17 @@ pub const EIS_MAX_TOUCHES: usize = 16;
 
 // The first `count` ids are held, in the order in which they went down; what the places behind them hold means nothing. A count above
 // sixteen, which no function here makes, counts as sixteen: nothing is inserted, and what is removed leaves fifteen.
-#[derive(Clone, Copy)]
+#[derive(Clone, Copy, Debug, PartialEq, Eq)]
 pub struct DownTouchIds {
     pub ids: [u32; EIS_MAX_TOUCHES],
     pub count: usize,
 }
 
-// How a Down ends, with the source's names for its two errors.
-#[derive(Clone, Copy)]
-pub enum DownAnswer {
-    Inserted,
+// Why a Down is refused, with the source's names.
+#[derive(Clone, Copy, Debug, PartialEq, Eq)]
+pub enum DownError {
     TooManyTouches,
     DuplicatedTouchDown,
-}
-
-#[derive(Clone, Copy)]
-pub struct Insertion {
-    pub touches: DownTouchIds,
-    pub answer: DownAnswer,
-}
-
-// The answer: whether the id was held.
-#[derive(Clone, Copy)]
-pub struct Removal {
-    pub touches: DownTouchIds,
-    pub answer: bool,
 }
 
 impl DownTouchIds {
@@ -52,85 +36,61 @@ impl DownTouchIds {
         }
     }
 
-    pub fn len(self) -> usize
-        ensures { result ≡ length (held self) }
+    pub fn len(&self) -> usize
+        ensures { result ≡ length (held self.now) }
     {
-        if self.count < EIS_MAX_TOUCHES {
-            self.count
-        } else {
-            EIS_MAX_TOUCHES
-        }
+        self.count.min(EIS_MAX_TOUCHES)
     }
 
-    // The place of the first such id; the number of ids where there is none.
-    fn position(self, id: u32) -> usize
-        ensures { result ≡ position id (held self) }
+    // The ids that are held.
+    pub fn held(&self) -> &[u32]
+        ensures { result.now ≡ held self.now }
     {
-        let n = self.len();
-        let mut i: usize = 0;
-        while i < n {
-            if self.ids[i] == id {
-                return i;
-            }
-            i += 1;
-        }
-        n
+        &self.ids[..self.len()]
     }
 
-    pub fn contains(self, id: u32) -> bool
-        ensures { result ≡ member id (held self) }
+    // The place of the first such id.
+    fn position(&self, id: u32) -> Option<usize>
+        ensures { result ≡ position (λ held. id == held) (held self.now) }
     {
-        self.position(id) < self.len()
+        self.held().iter().position(|held| id == *held)
     }
 
-    // The new id comes last. A refusal hands the very record back.
-    pub fn inserted(self, id: u32) -> Insertion
-        ensures { Inserts id self result.touches result.answer }
+    pub fn contains(&self, id: u32) -> bool
+        ensures { result ≡ member id (held self.now) }
+    {
+        self.position(id).is_some()
+    }
+
+    // The new id comes last.
+    pub fn inserted(mut self, id: u32) -> Result<Self, DownError>
+        ensures { MatchResult result (λ after. Inserts id self after (Ok tt)) (λ error. Inserts id self self (Err error)) }
     {
         let n = self.len();
         if n == EIS_MAX_TOUCHES {
-            return Insertion {
-                touches: self,
-                answer: DownAnswer::TooManyTouches,
-            };
+            return Err(DownError::TooManyTouches);
         }
         if self.contains(id) {
-            return Insertion {
-                touches: self,
-                answer: DownAnswer::DuplicatedTouchDown,
-            };
+            return Err(DownError::DuplicatedTouchDown);
         }
-        let mut touches = self;
-        touches.ids[n] = id;
-        touches.count = n + 1;
-        Insertion {
-            touches,
-            answer: DownAnswer::Inserted,
-        }
+        self.ids[n] = id;
+        self.count = n + 1;
+        Ok(self)
     }
 
-    // The ids behind it move down. Where it is not held, the very record is handed back.
-    pub fn removed(self, id: u32) -> Removal
-        ensures { Removes id self result.touches result.answer }
+    // The ids behind it move down. Nothing where it is not held.
+    pub fn removed(self, id: u32) -> Option<Self>
+        ensures { MatchOption result (Removes id self self false) (λ after. Removes id self after true) }
     {
+        let k = self.position(id)?;
         let n = self.len();
-        let mut k = self.position(id);
-        if n <= k {
-            return Removal {
-                touches: self,
-                answer: false,
-            };
-        }
         let mut touches = self;
-        while k + 1 < n {
-            touches.ids[k] = self.ids[k + 1];
-            k += 1;
+        // One by one: copy_from_slice takes more instructions where few touches are held.
+        for place in k + 1..n {
+            touches.ids[place - 1] = self.ids[place];
         }
         touches.count = n - 1;
-        Removal {
-            touches,
-            answer: true,
-        }
+        Some(touches)
     }
 
     // None is held: a paused device's touches are forgotten.
@@ -141,25 +101,29 @@ impl DownTouchIds {
         self
     }
 
-    pub fn insert(&mut self, id: u32) -> DownAnswer
+    pub fn insert(&mut self, id: u32) -> Result<(), DownError>
         ensures { Inserts id self.old self.new result }
     {
-        let done = Self::inserted(*self, id);
-        *self = done.touches;
-        done.answer
+        *self = self.inserted(id)?;
+        Ok(())
     }
 
+    // Whether it was held.
     pub fn remove(&mut self, id: u32) -> bool
         ensures { Removes id self.old self.new result }
     {
-        let done = Self::removed(*self, id);
-        *self = done.touches;
-        done.answer
+        match self.removed(id) {
+            Some(touches) => {
+                *self = touches;
+                true
+            }
+            None => false,
+        }
     }
 
     pub fn clear(&mut self)
         ensures { Holds [] self.new }
     {
-        *self = Self::cleared(*self);
+        *self = self.cleared();
     }
 }

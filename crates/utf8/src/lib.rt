@@ -5,8 +5,8 @@ ghost use Rattle.std.specs.Prelude.{◌≡◌, ℕ, ◌+◌, ◌≤◌, ◌<◌,
 ghost use Rattle.utf8.specs.Rfc3629.{utf8_char, after, is_utf8};
 ghost use Rattle.utf8.specs.Lead.{asked, begins};
 
-// What a character's first octet says of those that follow it.
-#[derive(Clone, Copy)]
+// What a character's first octet says of those that follow it: three answers, so it is no Option.
+#[derive(Clone, Copy, Debug, PartialEq, Eq)]
 enum Lead {
     // There are none.
     Alone,
@@ -40,12 +40,7 @@ fn lead_of(first: u8) -> Lead
 fn has_octet(text: &[u8], at: usize, low: u8, high: u8) -> bool
     ensures { result ≡ begins (low, high) (drop at text.now) }
 {
-    if at < text.len() {
-        let x = text[at];
-        low <= x && x <= high
-    } else {
-        false
-    }
+    at < text.len() && low <= text[at] && text[at] <= high
 }
 
 // Eight octets of the text in one: it is ASCII only where each of them is.
@@ -69,20 +64,20 @@ fn ascii_eights(text: &[u8]) -> usize
     ensures fact_1 { result ≤ length text.now }
     ensures fact_2 { is_utf8 text.now ≡ is_utf8 (drop result text.now) }
 {
-    let mut i: usize = 0;
-    while 8 <= text.len() - i {
-        if eight_or(text, i) >= 0x80 {
-            return i;
+    let eights = text.len() / 8;
+    for eight in 0..eights {
+        if eight_or(text, 8 * eight) >= 0x80 {
+            return 8 * eight;
         }
-        i += 8;
     }
-    i
+    8 * eights
 }
 
 // Whether the text is UTF-8.
 pub fn valid(text: &[u8]) -> bool
     ensures { result ≡ is_utf8 text.now }
 {
+    // By hand: a step takes a character of one to four octets.
     let mut i = ascii_eights(text);
     while i < text.len() {
         match lead_of(text[i]) {
@@ -92,13 +87,11 @@ pub fn valid(text: &[u8]) -> bool
                     return false;
                 }
                 i += 2;
-                let mut left = tails;
-                while 0 < left {
+                for tail in 0..tails {
                     if !has_octet(text, i, 0x80, 0xBF) {
                         return false;
                     }
                     i += 1;
-                    left -= 1;
                 }
             }
             Lead::Bad => return false,

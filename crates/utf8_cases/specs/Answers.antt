@@ -1,25 +1,24 @@
 -- The answer to a line. Assumes nothing.
-use Rattle.std.specs.Prelude.{ℕ, ◌≤◌, ◌≡◌, Bool, false, cond, List, [], ◌∷◌, leb, eqb, length, take}
+use Rattle.std.specs.Prelude.{ℕ, ◌≤◌, ◌≡◌, Bool, false, cond, List, [], ◌∷◌, leb, eqb, length, take, Some, None}
+use Rattle.std.specs.Prelude as rust
 use Rattle.std.proofs.Math.Option.{Option, none, some}
 use Rattle.utf8.specs.Rfc3629.{is_utf8}
 use Rattle.utf8_cases.specs.Hex.{bytes_of}
 use Rattle.utf8_cases.specs.declared.Verdict.{Verdict}
 use Rattle.utf8_cases.specs.declared.Verdict.TheVariants.{Comment, TooLong, NotHexadecimal, Valid, NotValid}
-use Rattle.utf8_cases.specs.declared.Bytes.{Bytes}
-use Rattle.utf8_cases.specs.declared.Bytes.TheVariants.{Count, Nothing}
 
 -- what a reading of a line says: so many bytes at the start of the text, or that the line is not in hexadecimal
-abbrev pub told : Bytes → List ℕ → Option (List ℕ)
-told (Count n) text = some (take n text)
-told Nothing text = none
+abbrev pub told : rust.Option ℕ → List ℕ → Option (List ℕ)
+told (Some n) text = some (take n text)
+told None text = none
 
 -- how many bytes that are
-abbrev pub count_of : Bytes → ℕ
-count_of (Count n) = n
-count_of Nothing = 0
+abbrev pub count_of : rust.Option ℕ → ℕ
+count_of (Some n) = n
+count_of None = 0
 
 -- the bytes of the line stand at the start of the text
-pub record Read (line text : List ℕ) (r : Bytes) : Type 0 where
+pub record Read (line text : List ℕ) (r : rust.Option ℕ) : Type 0 where
   pub fits : count_of r ≤ length text
   pub bytes : told r text ≡ bytes_of line
 

@@ -2,7 +2,7 @@
 // UTF-8. A line that begins with `#` is a comment, and is written as it is.
 #![tactic(auto)]
 
-ghost use Rattle.std.specs.Prelude.{◌≡◌, ◌≤◌, length, IfOk};
+ghost use Rattle.std.specs.Prelude.{◌≡◌, ◌≤◌, length, IfOk, IfSome};
 ghost use Rattle.utf8_cases.specs.Hex.{value_of};
 ghost use Rattle.utf8_cases.specs.Answers.{Read, is_comment, answer_to};
 
@@ -19,13 +19,6 @@ enum Verdict {
     NotValid,
 }
 
-// How many bytes a line stands for. Nothing: it is not in hexadecimal.
-#[derive(Clone, Copy)]
-enum Bytes {
-    Count(usize),
-    Nothing,
-}
-
 fn value_of(c: u8) -> u8
     ensures { result ≡ value_of c }
 {
@@ -37,44 +30,41 @@ fn value_of(c: u8) -> u8
     }
 }
 
-// Puts the bytes that the line stands for at the start of text.
-fn bytes_of(line: &[u8], text: &mut [u8]) -> Bytes
+// Puts the bytes that the line stands for at the start of text, and answers how many they are. None: it is not in hexadecimal.
+fn bytes_of(line: &[u8], text: &mut [u8]) -> Option<usize>
     requires { length line.now ≤ length text.old }
     ensures { Read line.now text.new result }
 {
     let mut n: usize = 0;
+    // By hand: a step takes one character or two.
     let mut i: usize = 0;
     while i < line.len() {
         if line[i] == b' ' {
             i += 1;
         } else {
             if line.len() - i < 2 {
-                return Bytes::Nothing;
+                return None;
             }
             let high = value_of(line[i]);
             let low = value_of(line[i + 1]);
             if 15 < high {
-                return Bytes::Nothing;
+                return None;
             }
             if 15 < low {
-                return Bytes::Nothing;
+                return None;
             }
             text[n] = high * 16 + low;
             n += 1;
             i += 2;
         }
     }
-    Bytes::Count(n)
+    Some(n)
 }
 
 fn is_comment(line: &[u8]) -> bool
     ensures { result ≡ is_comment line.now }
 {
-    if 0 < line.len() {
-        line[0] == b'#'
-    } else {
-        false
-    }
+    line.first() == Some(&b'#')
 }
 
 fn answer_to(line: &[u8]) -> Verdict
@@ -87,27 +77,25 @@ fn answer_to(line: &[u8]) -> Verdict
         return Verdict::TooLong;
     }
     let mut text = [0u8; 1024];
-    match bytes_of(line, &mut text) {
-        Bytes::Count(n) => {
-            if utf8::valid(&text[..n]) {
-                Verdict::Valid
-            } else {
-                Verdict::NotValid
-            }
-        }
-        Bytes::Nothing => Verdict::NotHexadecimal,
+    let Some(n) = bytes_of(line, &mut text) else {
+        return Verdict::NotHexadecimal;
+    };
+    if utf8::valid(&text[..n]) {
+        Verdict::Valid
+    } else {
+        Verdict::NotValid
     }
 }
 
 // Writes the end of a line.
 fn say(to: &mut impl Write, a: Verdict) -> io::Result<()> {
-    match a {
-        Verdict::Comment => to.write_all(b"\n"),
-        Verdict::TooLong => to.write_all(b": too long\n"),
-        Verdict::NotHexadecimal => to.write_all(b": not hexadecimal\n"),
-        Verdict::Valid => to.write_all(b": valid\n"),
-        Verdict::NotValid => to.write_all(b": not valid\n"),
-    }
+    to.write_all(match a {
+        Verdict::Comment => b"\n",
+        Verdict::TooLong => b": too long\n",
+        Verdict::NotHexadecimal => b": not hexadecimal\n",
+        Verdict::Valid => b": valid\n",
+        Verdict::NotValid => b": not valid\n",
+    })
 }
 
 // Ends a line that was written, whose first n characters are in `line`.
@@ -141,21 +129,15 @@ fn lines(to: &mut impl Write, piece: &[u8], line: &mut [u8], n: usize) -> io::Re
     Ok(begun)
 }
 
-// What one read leaves: how much of a line is begun, and whether there is more to read.
-#[derive(Clone, Copy)]
-struct Progress {
-    begun: usize,
-    more: bool,
-}
-
+// One read: how much of a line is begun behind it. None: there was nothing more to read.
 fn read_some(
     from: &mut impl Read,
     to: &mut impl Write,
     line: &mut [u8],
     n: usize,
-) -> io::Result<Progress>
+) -> io::Result<Option<usize>>
     requires { n ≤ length line.old }
-    ensures { IfOk result (λ p. p.begun ≤ length line.new) }
+    ensures { IfOk result (λ read. IfSome read (λ begun. begun ≤ length line.new)) }
 {
     let mut piece = [0u8; 4096];
     let got = from.read(&mut piece)?;
@@ -164,13 +146,10 @@ fn read_some(
         if 0 < n {
             end_line(to, line, n)?;
         }
-        return Ok(Progress {
-            begun: 0,
-            more: false,
-        });
+        return Ok(None);
     }
     let begun = lines(to, &piece[..got], line, n)?;
-    Ok(Progress { begun, more: true })
+    Ok(Some(begun))
 }
 
 // A proved loop has to end, and nothing says that the input does. So the loop counts its turns,
@@ -178,11 +157,10 @@ fn read_some(
 fn read_all(from: &mut impl Read, to: &mut impl Write, line: &mut [u8]) -> io::Result<()> {
     let mut n = 0;
     for _ in 0..u64::MAX {
-        let turn = read_some(from, to, line, n)?;
-        if !turn.more {
+        let Some(begun) = read_some(from, to, line, n)? else {
             break;
-        }
-        n = turn.begun;
+        };
+        n = begun;
     }
     Ok(())
 }

@@ -1,5 +1,4 @@
 -- `utf8::eight_or` meets its contract. Assumes nothing.
-use borrow.Author.Rules.{rules}
 use Rattle.utf8.proofs.Scan.{within-ors}
 use Rattle.utf8.proofs.eight_or.Goals as goal
 

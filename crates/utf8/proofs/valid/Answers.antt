@@ -1,11 +1,10 @@
 -- `utf8::valid` meets its contract: what is left to test is told by the place in the text and, within a character, by the octets that
 -- are left of it. Assumes nothing.
-use Prim.Native.Nat.{◌+◌, ◌-◌, ◌≤◌}
+use Prim.Native.Nat.{◌+◌, ◌-◌}
 use mathlib.Core.Path.{◌≡◌, ap, sym, ◌∙◌}
 use mathlib.Core.List.{[], ◌∷◌}
 use native.Mathlib.Omega.{arith}
-use borrow.Author.Rules.{rules}
-use lib.ListN.{length, drop, replicate}
+use lib.ListN.{drop, replicate}
 use Rattle.utf8.specs.Rfc3629.{utf8_tail, goes_on, is_utf8}
 use Rattle.utf8.specs.Lead.{asked}
 use Rattle.utf8.proofs.Scan.{first, none_first, there, next, none-next, tails-left, at_end}
@@ -33,9 +32,9 @@ returns-then-not-has_octet c =
     let o = c.has_octet in
     none-next t (i + 1) (c.in-More.low, c.in-More.high) o.result o.ensures (replicate c.in-More.tails utf8_tail) (follows_at) (not_from_false _ c.if-not-has_octet.true)
 
-pub loop-left-init : goal.loop-left-init
+pub loop-tail-init : goal.loop-tail-init
 unfolding asked
-loop-left-init c =
+loop-tail-init c =
     let follows_at : is_utf8 c.args.text.now ≡ goes_on ((c.in-More.low, c.in-More.high) ∷ replicate c.in-More.tails utf8_tail) (drop (c.loop-i.i + 1) c.args.text.now) = let j = c.loop-i in
     first c.args.text.now j.i c.loop-i-test.true j.invariant.1 ((c.in-More.low, c.in-More.high) ∷ replicate c.in-More.tails utf8_tail)
     (sym (ap asked c.in-More.is) ∙ c.lead_of.ensures) in
@@ -44,33 +43,35 @@ loop-left-init c =
     let o = c.has_octet in
     let k = there t (i + 1) (c.in-More.low, c.in-More.high) o.result o.ensures (not_from_true _ c.if-not-has_octet.false) in
     let e : i + 1 + 1 ≡ i + 2 = omega arith in
-    (omega arith, omega arith, rw e at (next t (i + 1) (c.in-More.low, c.in-More.high) o.result o.ensures (replicate c.in-More.tails utf8_tail) (follows_at) (not_from_true _ c.if-not-has_octet.false)))
+    let z : c.in-More.tails ≡ c.in-More.tails - 0 = omega arith in
+    (omega arith, omega arith, rw (e, z) at (next t (i + 1) (c.in-More.low, c.in-More.high) o.result o.ensures (replicate c.in-More.tails utf8_tail) (follows_at) (not_from_true _ c.if-not-has_octet.false)))
 
 pub loop-i-preserved : goal.loop-i-preserved
 unfolding is_utf8
 loop-i-preserved c =
-    let k = c.loop-left in
-    let e : k.left ≡ 0 = omega arith in
+    let k = c.loop-tail in
+    let e : c.in-More.tails - k.tail ≡ 0 = omega arith in
     (omega arith, rw e at k.invariant.2)
 
 pub returns-then-not-has_octet-2 : goal.returns-then-not-has_octet-2
 unfolding utf8_tail
 returns-then-not-has_octet-2 c =
-    let left_one_at : is_utf8 c.args.text.now ≡ goes_on (utf8_tail ∷ replicate (c.loop-left.left - 1) utf8_tail) (drop c.loop-left.i c.args.text.now) = rw (tails-left c.loop-left.left (omega arith)) at c.loop-left.invariant.2 in
+    let left_one_at : is_utf8 c.args.text.now ≡ goes_on (utf8_tail ∷ replicate ((c.in-More.tails - c.loop-tail.tail) - 1) utf8_tail) (drop c.loop-tail.i c.args.text.now) = rw (tails-left (c.in-More.tails - c.loop-tail.tail) (omega arith)) at c.loop-tail.invariant.2 in
     let t = c.args.text.now in
-    let k = c.loop-left in
-    let o = c.has_octet-in-loop-left in
-    none-next t k.i utf8_tail o.result o.ensures (replicate (k.left - 1) utf8_tail) (left_one_at) (not_from_false _ c.if-not-has_octet-2.true)
+    let k = c.loop-tail in
+    let o = c.has_octet-in-loop-tail in
+    none-next t k.i utf8_tail o.result o.ensures (replicate ((c.in-More.tails - k.tail) - 1) utf8_tail) (left_one_at) (not_from_false _ c.if-not-has_octet-2.true)
 
-pub loop-left-preserved : goal.loop-left-preserved
+pub loop-tail-preserved : goal.loop-tail-preserved
 unfolding utf8_tail
-loop-left-preserved c =
-    let left_one_at : is_utf8 c.args.text.now ≡ goes_on (utf8_tail ∷ replicate (c.loop-left.left - 1) utf8_tail) (drop c.loop-left.i c.args.text.now) = rw (tails-left c.loop-left.left (omega arith)) at c.loop-left.invariant.2 in
+loop-tail-preserved c =
+    let left_one_at : is_utf8 c.args.text.now ≡ goes_on (utf8_tail ∷ replicate ((c.in-More.tails - c.loop-tail.tail) - 1) utf8_tail) (drop c.loop-tail.i c.args.text.now) = rw (tails-left (c.in-More.tails - c.loop-tail.tail) (omega arith)) at c.loop-tail.invariant.2 in
     let t = c.args.text.now in
-    let k = c.loop-left in
-    let o = c.has_octet-in-loop-left in
+    let k = c.loop-tail in
+    let o = c.has_octet-in-loop-tail in
     let h = there t k.i utf8_tail o.result o.ensures (not_from_true _ c.if-not-has_octet-2.false) in
-    (omega arith, omega arith, next t k.i utf8_tail o.result o.ensures (replicate (k.left - 1) utf8_tail) (left_one_at) (not_from_true _ c.if-not-has_octet-2.false))
+    let e : c.in-More.tails - k.tail - 1 ≡ c.in-More.tails - (k.tail + 1) = omega arith in
+    (omega arith, omega arith, rw e at (next t k.i utf8_tail o.result o.ensures (replicate (c.in-More.tails - k.tail - 1) utf8_tail) (left_one_at) (not_from_true _ c.if-not-has_octet-2.false)))
 
 pub returns-in-Bad : goal.returns-in-Bad
 unfolding asked

@@ -1,22 +1,13 @@
 -- `utf8::valid` meets its contract: what is left to test is told by the place in the text and, within a character, by the octets that
 -- are left of it. Assumes nothing.
-use Prim.Native.Nat.{◌+◌, ◌-◌, ◌≤◌}
-use mathlib.Core.Path.{◌≡◌, ap, sym, ◌∙◌}
-use mathlib.Core.List.{[], ◌∷◌}
-use native.Mathlib.Omega.{arith}
-use borrow.Author.Rules.{rules}
+use Prim.Native.Nat.{◌-◌, ◌≤◌}
+use mathlib.Core.Path.{◌≡◌}
 use lib.ListN.{length, drop, replicate}
 use Rattle.utf8.specs.Rfc3629.{utf8_tail, goes_on, is_utf8}
-use Rattle.utf8.specs.Lead.{asked}
-use Rattle.utf8.proofs.Scan.{first, none_first, there, next, none-next, tails-left, at_end}
-use Rattle.std.proofs.lemmas.Bool.{not_from_false, not_from_true}
 use Rattle.utf8.proofs.valid.Given as goal
 
-abbrev pub invariant-loop-left : goal.invariant-loop-left
-invariant-loop-left l = (l.initial.i ≤ l.i) × (l.i ≤ length l.text) × (is_utf8 l.text ≡ goes_on (replicate l.left utf8_tail) (drop l.i l.text))
-
-abbrev pub decreases-loop-left : goal.decreases-loop-left
-decreases-loop-left l = l.left
+abbrev pub invariant-loop-tail : goal.invariant-loop-tail
+invariant-loop-tail l = (l.initial.i ≤ l.i) × (l.i ≤ length l.text) × (is_utf8 l.text ≡ goes_on (replicate (l.tails - l.tail) utf8_tail) (drop l.i l.text))
 
 abbrev pub invariant-loop-i : goal.invariant-loop-i
 invariant-loop-i l = (l.i ≤ length l.text) × (is_utf8 l.text ≡ is_utf8 (drop l.i l.text))

@@ -10,8 +10,8 @@ use lib.Seq.{length-take-le}
 use Rattle.utf8.specs.Rfc3629.{is_utf8}
 use Rattle.utf8_cases.specs.Answers.{Read, told, count_of, is_comment, verdict, answer_to}
 use Rattle.utf8_cases.specs.declared.Verdict.TheVariants.{Comment, TooLong, Valid, NotValid}
-use Rattle.utf8_cases.specs.declared.Bytes.{Bytes}
-use Rattle.utf8_cases.specs.declared.Bytes.TheVariants.{Count, Nothing}
+use Rattle.std.specs.Prelude.{Some, None}
+use Rattle.std.specs.Prelude as rust
 use Rattle.utf8_cases.proofs.answer_to.Goals as goal
 
 module _ (l : List ℕ) where
@@ -23,8 +23,8 @@ module _ (l : List ℕ) where
   unfolding answer_to
   too_long e h = rw (e, lt-leb (length l) 1024 h)
 
-  module _ (text : List ℕ) (r : Bytes) (e : is_comment l ≡ false) (h : length l ≤ 1024) (d : Read l text r) where
-    judged : (b : Bytes) → r ≡ b → verdict (told b text) ≡ answer_to l
+  module _ (text : List ℕ) (r : rust.Option ℕ) (e : is_comment l ≡ false) (h : length l ≤ 1024) (d : Read l text r) where
+    judged : (b : rust.Option ℕ) → r ≡ b → verdict (told b text) ≡ answer_to l
     unfolding answer_to
     judged b g = rw (e, le-leb (length l) 1024 h, ← d.bytes, g)
 
@@ -47,26 +47,26 @@ returns-then-line-gt1024 c =
 pub slice_bounds-text-end : goal.slice_bounds-text-end
 slice_bounds-text-end c =
     let b = c.bytes_of in
-    rw (ap count_of c.in-Count.is) at b.ensures.fits
+    rw (ap count_of c.in-Some.is) at b.ensures.fits
 
 pub slice_bounds-valid-end : goal.slice_bounds-valid-end
 slice_bounds-valid-end c =
-    sym (length-take-le c.in-Count.n c.bytes_of.new.text (rw (ap count_of c.in-Count.is) at c.bytes_of.ensures.fits))
+    sym (length-take-le c.in-Some.n c.bytes_of.new.text (rw (ap count_of c.in-Some.is) at c.bytes_of.ensures.fits))
 
 pub returns-then-valid : goal.returns-then-valid
 returns-then-valid c =
     let l = c.args.line.now in
-    yes_valid (take c.in-Count.n c.bytes_of.new.text) (sym c.valid.ensures ∙ c.if-valid.true)
-    ∙ judged l c.bytes_of.new.text c.bytes_of.result (sym c.is_comment.ensures ∙ c.if-is_comment.false) c.if-line-gt1024.false c.bytes_of.ensures (Count c.in-Count.n) c.in-Count.is
+    yes_valid (take c.in-Some.n c.bytes_of.new.text) (sym c.valid.ensures ∙ c.if-valid.true)
+    ∙ judged l c.bytes_of.new.text c.bytes_of.result (sym c.is_comment.ensures ∙ c.if-is_comment.false) c.if-line-gt1024.false c.bytes_of.ensures (Some c.in-Some.n) c.in-Some.is
 
 pub returns-else-valid : goal.returns-else-valid
 returns-else-valid c =
     let l = c.args.line.now in
-    no_valid (take c.in-Count.n c.bytes_of.new.text) (sym c.valid.ensures ∙ c.if-valid.false)
-    ∙ judged l c.bytes_of.new.text c.bytes_of.result (sym c.is_comment.ensures ∙ c.if-is_comment.false) c.if-line-gt1024.false c.bytes_of.ensures (Count c.in-Count.n) c.in-Count.is
+    no_valid (take c.in-Some.n c.bytes_of.new.text) (sym c.valid.ensures ∙ c.if-valid.false)
+    ∙ judged l c.bytes_of.new.text c.bytes_of.result (sym c.is_comment.ensures ∙ c.if-is_comment.false) c.if-line-gt1024.false c.bytes_of.ensures (Some c.in-Some.n) c.in-Some.is
 
-pub returns-in-Nothing : goal.returns-in-Nothing
+pub returns-in_default : goal.returns-in_default
 unfolding verdict
-returns-in-Nothing c =
+returns-in_default c =
     let l = c.args.line.now in
-    judged l c.bytes_of.new.text c.bytes_of.result (sym c.is_comment.ensures ∙ c.if-is_comment.false) c.if-line-gt1024.false c.bytes_of.ensures Nothing c.in-Nothing.is
+    judged l c.bytes_of.new.text c.bytes_of.result (sym c.is_comment.ensures ∙ c.if-is_comment.false) c.if-line-gt1024.false c.bytes_of.ensures None c.in_default.is

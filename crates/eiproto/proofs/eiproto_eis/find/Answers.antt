@@ -1,29 +1,21 @@
--- The loop's invariant: the first row with the name is the first from i on. Assumes nothing.
+-- The first number from 1 to 12 whose name it is. Assumes nothing.
+use mathlib.Core.Path.{◌≡◌, refl, sym, ap, ◌∙◌}
 use borrow.Author.Rules.{rules}
-use Prim.Native.Nat.{◌-◌, ◌≤◌}
-use mathlib.Core.Path.{◌≡◌, sym, ◌∙◌}
-use native.Mathlib.Omega.{arith}
-use lib.ListN.{drop}
-use Rattle.eiproto.specs.Interface.{table, lookup_from, lookup}
-use Rattle.eiproto.proofs.Interface.{look_start, look_hit, look_miss, look_end}
+use Rattle.std.proofs.Common.{nat_eq, tests}
+use Rattle.std.specs.List.{find, range_with_len}
+use Rattle.std.specs.Cmp.Lexicographic.{pointwise}
+use Rattle.std.proofs.lemmas.Iterator.{YieldsList-from_range}
+use Rattle.std.proofs.lemmas.Iterator.Adapters.{option_map_id}
+use Rattle.std.proofs.lemmas.Iterator.Search.{find_from_yields_List}
+use Rattle.eiproto.specs.Told.{told}
+use Rattle.eiproto.specs.Interface.{interface_name}
+use Rattle.eiproto.proofs.Interface.{looked_up}
 use Rattle.eiproto.proofs.eiproto_eis.find.Goals as goal
 
-pub loop-i-init : goal.loop-i-init
-loop-i-init c = (omega arith, look_start c.args.name.now)
-
-pub returns-then-is_name : goal.returns-then-is_name
-returns-then-is_name c =
-    look_hit c.args.name.now c.loop-i.i (omega arith)
-    (sym c.if-is_name.true ∙ c.is_name.ensures)
-    ∙ sym c.loop-i.invariant.1
-
-pub loop-i-preserved : goal.loop-i-preserved
-loop-i-preserved c = (
-  omega arith,
-  c.loop-i.invariant.1
-      ∙ look_miss c.args.name.now c.loop-i.i (omega arith)
-      (sym c.if-is_name.false ∙ c.is_name.ensures),
-)
-
 pub returns : goal.returns
-returns c = look_end c.args.name.now c.loop-i.i (omega arith) ∙ sym c.loop-i.invariant.1
+returns c =
+    let found : c.find.result ≡ find (λ i. pointwise nat_eq (interface_name i) c.args.name.now) (range_with_len 1 12) =
+    sym (option_map_id c.find.result)
+    ∙ find_from_yields_List (λ i. pointwise nat_eq (interface_name i) c.args.name.now) _ _ c.find.result c.find.ensures.ran
+    (YieldsList-from_range 1 13 12 refl refl) (λ x b q k. search (rules, tests)) in
+    ap told found ∙ looked_up c.args.name.now

@@ -10,20 +10,21 @@ use borrow.Author.Tests.{le-leb, lt-leb}
 use lib.ListN.{length, set, length-take, length-append}
 use lib.Seq.{take-suc-set}
 use Rattle.touches.specs.declared.DownTouchIds.{DownTouchIds}
-use Rattle.touches.specs.declared.DownAnswer.TheVariants.{Inserted, TooManyTouches, DuplicatedTouchDown}
+use Rattle.std.specs.Prelude.{Ok, Err}
+use Rattle.touches.specs.declared.DownError.TheVariants.{TooManyTouches, DuplicatedTouchDown}
 use Rattle.touches.specs.Touches.{held, member, down_refusal}
 use Rattle.touches.specs.Changes.{Holds, Inserts}
 use Rattle.touches.proofs.Laws.{held_bound}
 use Rattle.touches.proofs.DownTouchIds.inserted.Goals as goal
 
 module _ (id : ℕ) (d : DownTouchIds) where
-  too_many : 16 ≤ length (held d) → Inserts id d d TooManyTouches
+  too_many : 16 ≤ length (held d) → Inserts id d d (Err TooManyTouches)
   unfolding down_refusal
   too_many h =
       let r : down_refusal id (held d) ≡ 4 = rw (le-leb 16 (length (held d)) h) in
       record { answers = sym r; inserted = λ z. absurd (omega arith); refused = λ n. refl }
 
-  duplicated : length (held d) < 16 → member id (held d) ≡ true → Inserts id d d DuplicatedTouchDown
+  duplicated : length (held d) < 16 → member id (held d) ≡ true → Inserts id d d (Err DuplicatedTouchDown)
   unfolding down_refusal
   duplicated h m =
       let r : down_refusal id (held d) ≡ 5 = rw (lt-leb 16 (length (held d)) h, m) in
@@ -39,7 +40,7 @@ module _ (id : ℕ) (d : DownTouchIds) where
         within = omega arith;
       }
 
-  new : (n : ℕ) → n ≡ length (held d) → length d.ids ≡ 16 → n < 16 → member id (held d) ≡ false → Inserts id d (record { ids = set d.ids n id; count = n + 1 }) Inserted
+  new : (n : ℕ) → n ≡ length (held d) → length d.ids ≡ 16 → n < 16 → member id (held d) ≡ false → Inserts id d (record { ids = set d.ids n id; count = n + 1 }) (Ok tt)
   unfolding down_refusal
   new n e l h m =
       let r : down_refusal id (held d) ≡ 0 = rw (lt-leb 16 (length (held d)) (omega arith), m) in
@@ -55,22 +56,22 @@ returns-then-contains c =
     omega (arith, held_bound d, c.if-n-eq-EIS_MAX_TOUCHES.false) in
     duplicated c.args.id c.args.self (omega (arith, few_at)) (sym c.contains.ensures ∙ c.if-contains.true)
 
-pub offset_bounds-touches-n : goal.offset_bounds-touches-n
-offset_bounds-touches-n c =
+pub offset_bounds-self-n : goal.offset_bounds-self-n
+offset_bounds-self-n c =
     let few_at : c.len-n.result < 16 = let d = c.args.self in
     let l : length d.ids ≡ 16 = search rules in
     omega (arith, held_bound d, c.if-n-eq-EIS_MAX_TOUCHES.false) in
     omega (arith, few_at)
 
-pub bounds-touches-n : goal.bounds-touches-n
-bounds-touches-n c =
+pub bounds-self-n : goal.bounds-self-n
+bounds-self-n c =
     let few_at : c.len-n.result < 16 = let d = c.args.self in
     let l : length d.ids ≡ 16 = search rules in
     omega (arith, held_bound d, c.if-n-eq-EIS_MAX_TOUCHES.false) in
     few_at
 
-pub overflow_add-touches : goal.overflow_add-touches
-overflow_add-touches c =
+pub overflow_add-self : goal.overflow_add-self
+overflow_add-self c =
     let few_at : c.len-n.result < 16 = let d = c.args.self in
     let l : length d.ids ≡ 16 = search rules in
     omega (arith, held_bound d, c.if-n-eq-EIS_MAX_TOUCHES.false) in

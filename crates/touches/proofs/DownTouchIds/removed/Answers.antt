@@ -1,52 +1,52 @@
--- From the id's place on, each place gets the id behind it: the ids before k are the held ones up to k, without it. Assumes nothing.
+-- The ids behind the id's place move down one by one. Assumes nothing.
 use Prim.Native.Nat.{ℕ, suc, ◌+◌, ◌-◌, ◌≤◌, ◌<◌}
 use mathlib.Core.Path.{◌≡◌, refl, sym, ap, ◌∙◌}
 use mathlib.Core.Bool.{true, false, false≢true}
 use native.Mathlib.Numerals.{add-one}
 use native.Mathlib.Omega.{arith}
 use borrow.Author.Rules.{rules}
-use borrow.Author.Tests.{lt-ltb, le-ltb}
+use borrow.Author.Tests.{lt-ltb}
+use lib.Dec.{eqb}
 use lib.ListN.{length, take, get_or, set, length-take, length-set}
 use lib.Seq.{take_all, take-take, take-suc-set, length-take-le}
+use Rattle.std.specs.Prelude.{Some, None}
+use Rattle.std.specs.List.{position}
 use Rattle.touches.specs.declared.DownTouchIds.{DownTouchIds}
-use Rattle.touches.specs.Touches.{held, member, position, without}
+use Rattle.touches.specs.Touches.{held, member, without}
 use Rattle.touches.specs.Changes.{Removes}
-use Rattle.touches.proofs.Laws.{held_bound, held_at, member-position, without-first, without-next}
+use Rattle.touches.proofs.Laws.{held_bound, held_at, place, place-member, position_none, position_some, without-first, without-next}
 use Rattle.touches.proofs.DownTouchIds.removed.Invariants.{Moved}
 use Rattle.touches.proofs.DownTouchIds.removed.Goals as goal
 
 module _ (id : ℕ) (d : DownTouchIds) where
-  unheld : length (held d) ≤ position id (held d) → Removes id d d false
-  unheld h =
-      let m : member id (held d) ≡ false = sym (member-position id (held d)) ∙ le-ltb (position id (held d)) (length (held d)) h in
+  unheld : position (λ y. eqb id y) (held d) ≡ None → Removes id d d false
+  unheld e =
+      let m = position_none id (held d) e in
       record { answers = sym m; removed = λ t. absurd (false≢true (sym m ∙ t)); unheld = λ f. refl }
 
-  begins : length d.ids ≡ 16 → position id (held d) < length (held d) → Moved id d (position id (held d)) d
-  begins l h =
-      let n : position id (held d) ≤ d.count = omega (arith, length-take d.count d.ids) in
-      record {
-        from = omega arith;
-        to = h;
-        most = omega (arith, held_bound d);
-        places = l;
-        ids = sym (without-first id (held d) h ∙ take-take (position id (held d)) d.count d.ids n);
-      }
+  begins : (k : ℕ) → length d.ids ≡ 16 → position (λ y. eqb id y) (held d) ≡ Some k → Moved id d k d
+  begins k l e =
+      let p = position_some id (held d) k e in
+      let n : k ≤ d.count = omega (arith, length-take d.count d.ids) in
+      let w : without id (take (suc k) (held d)) ≡ take k (held d) = rw p.0 at (without-first id (held d) p.1) in
+      record { from = omega arith; to = omega arith; places = l; ids = sym (w ∙ take-take k d.count d.ids n) }
 
-  goes_on : (k : ℕ) (e : DownTouchIds) → Moved id d k e → k + 1 < length (held d) → Moved id d (k + 1) (record { ids = set e.ids k (get_or d.ids (k + 1) 0); count = e.count })
-  goes_on k e m h =
-      let g : k < length e.ids = omega arith in
+  goes_on : (k : ℕ) (e : DownTouchIds) → length d.ids ≡ 16 → Moved id d k e → k + 1 < length (held d) → Moved id d (k + 1) (record { ids = set e.ids k (get_or d.ids (k + 1) 0); count = e.count })
+  goes_on k e l m h =
+      let b = held_bound d in
+      let g : k < length e.ids = omega (arith, m.places) in
       record {
-        from = omega arith;
+        from = omega (arith, m.from);
         to = h;
-        most = m.most;
         places = length-set e.ids k (get_or d.ids (k + 1) 0) ∙ m.places;
         ids = rw (← held_at d (k + 1) h, add-one, take-suc-set e.ids k (get_or (held d) (suc k) 0) g, m.ids, without-next id (held d) k m.from (omega arith));
       }
 
-  ends : (k : ℕ) (e : DownTouchIds) → Moved id d k e → length (held d) ≤ k + 1 → Removes id d (record { ids = e.ids; count = length (held d) - 1 }) true
-  ends k e m h =
+  ends : (k : ℕ) (e : DownTouchIds) → Moved id d k e → length d.ids ≡ 16 → length (held d) ≤ k + 1 → Removes id d (record { ids = e.ids; count = length (held d) - 1 }) true
+  ends k e m l h =
+      let b = held_bound d in
       let n : length (held d) - 1 ≡ k = omega arith in
-      let t : member id (held d) ≡ true = sym (member-position id (held d)) ∙ lt-ltb (position id (held d)) (length (held d)) (omega arith) in
+      let t : member id (held d) ≡ true = sym (place-member id (held d)) ∙ lt-ltb (place id (held d)) (length (held d)) (omega arith) in
       let i : take k e.ids ≡ without id (held d) = m.ids ∙ ap (without id) (take_all (suc k) (held d) (omega arith)) in
       record {
         answers = sym t;
@@ -58,18 +58,23 @@ module _ (id : ℕ) (d : DownTouchIds) where
         unheld = λ f. absurd (false≢true (sym f ∙ t));
       }
 
-pub returns-then-n-k : goal.returns-then-n-k
-returns-then-n-k c =
-    unheld c.args.id c.args.self (omega arith)
+pub returns-in_err-k : goal.returns-in_err-k
+returns-in_err-k c =
+    let none : c.position.result ≡ None = search rules in
+    rw c.from_residual.ensures (unheld c.args.id c.args.self (sym c.position.ensures ∙ none))
 
-pub loop-k-init : goal.loop-k-init
-loop-k-init c =
-    rw (← c.position-k.ensures) at (begins c.args.id c.args.self (search rules) (omega arith))
+pub loop-place-init : goal.loop-place-init
+loop-place-init c =
+    let some : c.position.result ≡ Some c.in_ok-k.k = search rules in
+    (c.in_ok-k.k, (refl, begins c.args.id c.args.self c.in_ok-k.k (search rules) (sym c.position.ensures ∙ some)))
 
-pub loop-k-preserved : goal.loop-k-preserved
-loop-k-preserved c =
-    goes_on c.args.id c.args.self c.loop-k.k c.loop-k.touches c.loop-k.invariant (omega arith)
+pub loop-place-preserved : goal.loop-place-preserved
+loop-place-preserved c =
+    let i = c.loop-place.invariant in
+    let z : c.loop-place.place - 1 ≡ i.0 = omega (arith, i.1.0) in
+    (i.0 + 1, (omega (arith, i.1.0), rw (z, i.1.0) (goes_on c.args.id c.args.self i.0 c.loop-place.touches (search rules) i.1.1 (omega (arith, i.1.0)))))
 
 pub returns : goal.returns
 returns c =
-    rw (← c.len-n.ensures) at (ends c.args.id c.args.self c.loop-k.k c.loop-k.touches c.loop-k.invariant (omega arith))
+    let i = c.loop-place.invariant in
+    rw c.len-n.ensures (ends c.args.id c.args.self i.0 c.loop-place.touches i.1.1 (search rules) (omega (arith, i.1.0)))

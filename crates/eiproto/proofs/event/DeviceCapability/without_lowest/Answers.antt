@@ -1,5 +1,4 @@
 -- The lowest set bit's power of 2 is taken off. Assumes nothing.
-use borrow.Author.Rules.{rules}
 use Prim.Native.Nat.{ℕ, ◌-◌}
 use mathlib.Core.Path.{ap, sym, ◌∙◌}
 use native.Mathlib.Omega.{arith}
@@ -16,9 +15,9 @@ overflow_shl-result c = omega (arith, lowest c.args.mask (omega arith) (omega ar
 pub overflow_sub-result : goal.overflow_sub-result
 overflow_sub-result c =
     let m = c.args.mask in
-    omega (arith, lowest_power m c.lowest-b.result (omega arith) (omega arith) c.lowest-b.ensures, (lowest m (omega arith) (omega arith)).fits)
+    omega (arith, lowest_power m c.lowest.result (omega arith) (omega arith) c.lowest.ensures, (lowest m (omega arith) (omega arith)).fits)
 
 pub returns : goal.returns
 returns c =
     let m = c.args.mask in
-    ap (λ (x : ℕ). m - x) (lowest_power m c.lowest-b.result (omega arith) (omega arith) c.lowest-b.ensures) ∙ without_is m
+    ap (λ (x : ℕ). m - x) (lowest_power m c.lowest.result (omega arith) (omega arith) c.lowest.ensures) ∙ without_is m
