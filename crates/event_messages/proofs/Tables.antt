@@ -1,5 +1,5 @@
 -- The table of kinds: the code's is the definition's, and past its ends there is none. Assumes nothing.
-use Prim.Native.Nat.{ℕ, zero, suc, ◌+◌, ◌*◌, ◌-◌, ◌/◌, ◌%◌, ◌≤◌, ◌<◌}
+use Prim.Native.Nat.{ℕ, zero, suc, ◌-◌, ◌≤◌, ◌<◌}
 use mathlib.Core.Bool.{Bool, true, not, ◌&&◌, ◌||◌}
 use mathlib.Core.List.{List, [], ◌∷◌, ◌++◌}
 use mathlib.Core.Logic.{dite}
@@ -38,18 +38,15 @@ past_opcodes i op h =
     (λ l. let n : length (get_or table i []) ≤ 12 = leb-true _ _ (at (λ i. leb (length (get_or table i [])) 12) 13 refl i l) in sym (get_or-eq_default (get_or table i []) 0 (omega arith)))
     (λ m. past_interfaces i op (omega arith))
 
--- the rows one behind another, each with zeros up to twelve
-abbrev flat : List (List ℕ) → List ℕ
-flat [] = []
-flat (r ∷ rs) = r ++ (replicate (12 - length r) 0 ++ flat rs)
+-- the rows, each with zeros up to twelve
+abbrev filled : List (List ℕ) → List (List ℕ)
+filled [] = []
+filled (r ∷ rs) = (r ++ replicate (12 - length r) 0) ∷ filled rs
 
-pub kind_in_lem : (interface opcode : ℕ) → interface < 13 → opcode < 12 → get_or (flat table) (interface * 12 + opcode) 0 ≡ kind_of interface opcode
+pub kind_in_lem : (interface opcode : ℕ) → interface < 13 → opcode < 12 → get_or (get_or (filled table) interface []) opcode 0 ≡ kind_of interface opcode
 unfolding kind_of
 kind_in_lem i op l m =
-    let k = i * 12 + op in
-    let q : k / 12 ≡ i = omega arith in
-    let r : k % 12 ≡ op = omega arith in
-    eqb-true _ _ (at (λ k. eqb (get_or (flat table) k 0) (kind_of (k / 12) (k % 12))) 156 refl k (omega arith)) ∙ rw (q, r)
+    eqb-true _ _ (at (λ op. eqb (get_or (get_or (filled table) i []) op 0) (kind_of i op)) 12 (at (λ i. upto (λ op. eqb (get_or (get_or (filled table) i []) op 0) (kind_of i op)) 12) 13 refl i l) op m)
 
 -- the last kind is 18
 pub kind-most : (interface opcode : ℕ) → kind_of interface opcode ≤ 18

@@ -3,18 +3,18 @@ use Rattle.std.specs.Prelude.{ℕ, ◌+◌, Bool, true, false, cond, ◌&&◌, �
 use Rattle.eiproto.specs.Interface.{interface_name}
 use Rattle.event_messages.specs.Message.{le, uint32, uint64, string, null}
 use Rattle.event_messages.specs.Stands.{between, sendable_text}
-use Rattle.event_messages.specs.declared.Argument.{Argument}
-use Rattle.event_messages.specs.declared.Argument.TheVariants.{None, Uint32, Uint64, Interface, Reason, DeviceType, Text, Explanation}
+use Rattle.event_messages.specs.declared.EventArgument.{EventArgument}
+use Rattle.event_messages.specs.declared.EventArgument.TheVariants.{None, Uint32, Uint64, Interface, Reason, DeviceType, Text, Explanation}
 use Rattle.event_messages.specs.declared.Shape.{Shape}
 use Rattle.event_messages.specs.declared.Values.{Values}
 
 -- ---- the table
 
-abbrev pub shape : (first second third : Argument) → (swapped : Bool) → Shape
+abbrev pub shape : (first second third : EventArgument) → (swapped : Bool) → Shape
 shape a b c swapped = record { first = a; second = b; third = c; swapped = swapped }
 
 -- a kind's values in the record's order
-abbrev pub row : (first second third : Argument) → Shape
+abbrev pub row : (first second third : EventArgument) → Shape
 row a b c = shape a b c false
 
 abbrev pub no_shape : Shape
@@ -39,7 +39,7 @@ shape_of kind = get_or shapes kind no_shape
 -- ---- a value
 
 -- its bytes in a record; a text's are behind them
-abbrev pub width : Argument → ℕ
+abbrev pub width : EventArgument → ℕ
 width None = 0
 width Uint32 = 4
 width Uint64 = 8
@@ -50,7 +50,7 @@ width Text = 0
 width Explanation = 1
 
 -- whether the record has a text
-abbrev pub has_text : Argument → Bool
+abbrev pub has_text : EventArgument → Bool
 has_text None = false
 has_text Uint32 = false
 has_text Uint64 = false
@@ -61,7 +61,7 @@ has_text Text = true
 has_text Explanation = true
 
 -- its bytes in a message
-unfoldable pub sent : Argument → (value : ℕ) → (text : List ℕ) → List ℕ
+unfoldable pub sent : EventArgument → (value : ℕ) → (text : List ℕ) → List ℕ
 unfolding le string
 sent None x text = []
 sent Uint32 x text = uint32 x
@@ -77,7 +77,7 @@ abbrev pub explains : (value size : ℕ) → Bool
 explains x size = eqb x 128 || (eqb x 0 && eqb size 0)
 
 -- the values that can be sent
-abbrev pub allowed : Argument → (value size : ℕ) → Bool
+abbrev pub allowed : EventArgument → (value size : ℕ) → Bool
 allowed None x size = true
 allowed Uint32 x size = true
 allowed Uint64 x size = true

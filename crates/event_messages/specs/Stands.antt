@@ -8,7 +8,8 @@ use Rattle.wire.specs.declared.event.Event.TheVariants.{Seat, Name, Capability, 
 use Rattle.event_messages.specs.Table.{kind_of}
 use Rattle.event_messages.specs.Message.{arguments, message}
 use Rattle.event_messages.specs.declared.MessageError.{MessageError}
-use Rattle.event_messages.specs.declared.Written.{Written}
+use Rattle.event_messages.specs.Written.{Written}
+use Rattle.std.specs.Prelude.{Ok, Err}
 
 -- ---- what can be sent
 
@@ -66,6 +67,6 @@ pub record Stands (interface : ℕ) (bytes sent : List ℕ) : Type 0 where
 -- The bytes asked for stand at the front of the buffer, every other byte as it was, and their number is answered; or there are such bytes, and
 -- the buffer is shorter: 19; or there are none: the refusal. A refusal leaves the buffer as it was.
 pub data Turned (Asked : List ℕ → Type 0) (refusal : MessageError) (out later : List ℕ) : Written → Type 0 where
-  given : {bytes : List ℕ} → Asked bytes → length bytes ≤ length out → later ≡ splice out 0 bytes → Turned Asked refusal out later (Written.Bytes (length bytes))
-  short : {bytes : List ℕ} → Asked bytes → length out < length bytes → later ≡ out → Turned Asked refusal out later (Written.Refused MessageError.ShortOut)
-  none : ((bytes : List ℕ) → Asked bytes → ⊥) → later ≡ out → Turned Asked refusal out later (Written.Refused refusal)
+  given : {bytes : List ℕ} → Asked bytes → length bytes ≤ length out → later ≡ splice out 0 bytes → Turned Asked refusal out later (Ok (length bytes))
+  short : {bytes : List ℕ} → Asked bytes → length out < length bytes → later ≡ out → Turned Asked refusal out later (Err MessageError.ShortOut)
+  none : ((bytes : List ℕ) → Asked bytes → ⊥) → later ≡ out → Turned Asked refusal out later (Err refusal)

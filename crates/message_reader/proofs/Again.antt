@@ -12,8 +12,8 @@ use Rattle.wire.proofs.Splices.{splice_here}
 use Rattle.eiproto.specs.Interface.{interface_name}
 use Rattle.event_messages.specs.Message.{string, null, message}
 use Rattle.event_messages.specs.Shape.{shape_of, sent, sent_arguments, allowed, allowed_all}
-use Rattle.event_messages.specs.declared.Argument.{Argument}
-use Rattle.event_messages.specs.declared.Argument.TheVariants.{None, Uint32, Uint64, Interface, Reason, DeviceType, Text, Explanation}
+use Rattle.event_messages.specs.declared.EventArgument.{EventArgument}
+use Rattle.event_messages.specs.declared.EventArgument.TheVariants.{None, Uint32, Uint64, Interface, Reason, DeviceType, Text, Explanation}
 use Rattle.event_messages.specs.declared.Shape.{Shape}
 use Rattle.event_messages.specs.declared.Values.{Values}
 use Rattle.event_messages.proofs.Events.{parts}
@@ -26,7 +26,7 @@ use Rattle.message_reader.specs.Back.{Said}
 -- ---- no message has more than 284 bytes
 
 -- the most bytes of a value
-abbrev most : Argument → ℕ
+abbrev most : EventArgument → ℕ
 most None = 0
 most Uint32 = 4
 most Uint64 = 8
@@ -39,7 +39,7 @@ most Explanation = 260
 string-most : (t : List ℕ) → length t ≤ 254 → length (string t) ≤ 260
 string-most t h = rw (length-string t) (omega arith)
 
-sent-most : (a : Argument) (x : ℕ) (t : List ℕ) → length t ≤ 254 → allowed a x (length t) ≡ true → length (sent a x t) ≤ most a
+sent-most : (a : EventArgument) (x : ℕ) (t : List ℕ) → length t ≤ 254 → allowed a x (length t) ≡ true → length (sent a x t) ≤ most a
 unfolding sent
 sent-most None x t h e = omega arith
 sent-most Uint32 x t h e = omega arith

@@ -15,13 +15,13 @@ use Rattle.wire.proofs.Bytes.{be-mod}
 use Rattle.event_messages.specs.Message.{le, string}
 use Rattle.event_messages.specs.Shape.{width, has_text, sent, explains, allowed}
 use Rattle.event_messages.specs.Stands.{between}
-use Rattle.event_messages.specs.declared.Argument.{Argument}
-use Rattle.event_messages.specs.declared.Argument.TheVariants.{None, Uint32, Uint64, Interface, Reason, DeviceType, Text, Explanation}
+use Rattle.event_messages.specs.declared.EventArgument.{EventArgument}
+use Rattle.event_messages.specs.declared.EventArgument.TheVariants.{None, Uint32, Uint64, Interface, Reason, DeviceType, Text, Explanation}
 use Rattle.event_messages.proofs.Tests.{both_hold}
 use Rattle.message_writer.proofs.Bytes.{length-string}
 use Rattle.message_writer.proofs.Names.{name-short}
 use Rattle.message_writer.proofs.Reduced.{le-mod}
-use Rattle.message_reader.specs.declared.Progress.{Progress}
+use Rattle.message_reader.specs.declared.ReadSoFar.{ReadSoFar}
 use Rattle.message_reader.specs.Read.{word_at, text_at, string_size, bytes_of, name_at, progress_of, with_name, with_text, with_explanation, argument_read}
 use Rattle.message_reader.proofs.Steps.{no_string, some-string}
 use Rattle.message_reader.proofs.Numbers.{word-le, double_le, string-count, string-text, string-part}
@@ -34,16 +34,16 @@ none_of [] e = refl
 none_of (x ∷ t) e = absurd (omega (arith, eqb-true (length (x ∷ t)) 0 e))
 
 -- what is read of a value's bytes: the next place, a value that is sent and recorded alike, and a text's bytes
-pub record Got (m : List ℕ) (a : Argument) (x : ℕ) (text : List ℕ) (p q : Progress) : Type 0 where
+pub record Got (m : List ℕ) (a : EventArgument) (x : ℕ) (text : List ℕ) (p q : ReadSoFar) : Type 0 where
   pub next : q.at ≡ p.at + length (sent a x text)
   pub same : sent a q.value text ≡ sent a x text
   pub field : be (width a) q.value ≡ be (width a) x
   pub fits : allowed a q.value (length text) ≡ true
   pub part : bytes_of m q.start q.length ≡ cond (has_text a) text (bytes_of m p.start p.length)
 
-module _ (m : List ℕ) (text rest : List ℕ) (small : length text ≤ 254) (p : Progress) where
+module _ (m : List ℕ) (text rest : List ℕ) (small : length text ≤ 254) (p : ReadSoFar) where
   -- a value that is the very one
-  exactly : (a : Argument) (x : ℕ) (q : Progress) → q.value ≡ x → allowed a x (length text) ≡ true → q.at ≡ p.at + length (sent a x text)
+  exactly : (a : EventArgument) (x : ℕ) (q : ReadSoFar) → q.value ≡ x → allowed a x (length text) ≡ true → q.at ≡ p.at + length (sent a x text)
       → bytes_of m q.start q.length ≡ cond (has_text a) text (bytes_of m p.start p.length) → Got m a x text p q
   exactly a x q e f n t = record {
     next = n;
@@ -85,7 +85,7 @@ module _ (m : List ℕ) (text rest : List ℕ) (small : length text ≤ 254) (p 
       rw (no_string m p n)
       (exactly Explanation x (progress_of (p.at + 4) 0 0 0) (sym (eqb-true x 0 b.0)) h (rw t) (none_of text b.1))
 
-  pub got : (a : Argument) (x : ℕ) → allowed a x (length text) ≡ true → drop p.at m ≡ sent a x text ++ rest → Got m a x text p (argument_read a m p)
+  pub got : (a : EventArgument) (x : ℕ) → allowed a x (length text) ≡ true → drop p.at m ≡ sent a x text ++ rest → Got m a x text p (argument_read a m p)
   unfolding sent be with_name with_text
   got None x h e = record { next = sym (add-zero p.at); same = refl; field = refl; fits = refl; part = refl }
   got Uint32 x h e =

@@ -22,7 +22,8 @@ use Rattle.event_messages.specs.Table.{kind_of}
 use Rattle.event_messages.specs.declared.MessageError.{MessageError}
 use Rattle.event_messages.specs.declared.Shape.{Shape}
 use Rattle.event_messages.specs.declared.Values.{Values}
-use Rattle.event_messages.specs.declared.Written.{Written}
+use Rattle.event_messages.specs.Written.{Written}
+use Rattle.std.specs.Prelude.{Ok, Err}
 use Rattle.event_messages.proofs.Events.{Same, kind-least, every, some, laid_by}
 use Rattle.event_messages.proofs.Tables.{upto, at as upto_at, past_opcodes, kind-most}
 use Rattle.message_writer.proofs.Normal.{message-reduced}
@@ -58,11 +59,11 @@ module _ (object kind : ℕ) (v : Values) (text : List ℕ) {s : Shape} (is : s 
   unfolding record_of
   fields_so e f g = rw (e, f, g, is)
 
-  pub no_room : (out : List ℕ) → length out < fixed_size s + length text → Turned (λ bytes. bytes ≡ record_of object kind v text) MessageError.Malformed out out (Written.Refused MessageError.ShortOut)
+  pub no_room : (out : List ℕ) → length out < fixed_size s + length text → Turned (λ bytes. bytes ≡ record_of object kind v text) MessageError.Malformed out out (Err MessageError.ShortOut)
   no_room out h = Turned.short refl (rw (length_of object kind v text, ← is) h) refl
 
   pub record_put : {out later : List ℕ} {r : ℕ} → fixed_size s + length text ≤ length out → PutWhole out later 0 (record_of object kind v text) r
-      → Turned (λ bytes. bytes ≡ record_of object kind v text) MessageError.Malformed out later (Written.Bytes (fixed_size s + length text))
+      → Turned (λ bytes. bytes ≡ record_of object kind v text) MessageError.Malformed out later (Ok (fixed_size s + length text))
   record_put {out} {later} h p =
       let l : length (record_of object kind v text) ≡ fixed_size s + length text = rw is (length_of object kind v text) in
       let f = fitted_all out 0 (record_of object kind v text) (omega arith) in

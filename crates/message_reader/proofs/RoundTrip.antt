@@ -13,7 +13,8 @@ use Rattle.event_messages.specs.Message.{message}
 use Rattle.event_messages.specs.Shape.{shape_of, fixed_size, textual, sent_arguments}
 use Rattle.event_messages.specs.Stands.{Turned}
 use Rattle.event_messages.specs.declared.MessageError.{MessageError}
-use Rattle.event_messages.specs.declared.Written.{Written}
+use Rattle.event_messages.specs.Written.{Written}
+use Rattle.std.specs.Prelude.{Ok}
 use Rattle.event_messages.proofs.Events.{parts}
 use Rattle.event_messages.proofs.Tables.{upto, at, kind-most}
 use Rattle.message_writer.specs.Number.{big_at, values_in}
@@ -28,7 +29,7 @@ use Rattle.message_reader.proofs.Back.{one_record}
 
 module _ {Asked : List ℕ → Type 0} {refusal : MessageError} {out later : List ℕ} where
   -- bytes that were asked for stand at the front of the buffer
-  wrote : {w : Written} {n : ℕ} → Turned Asked refusal out later w → w ≡ Written.Bytes n → Asked (take n later)
+  wrote : {w : Written} {n : ℕ} → Turned Asked refusal out later w → w ≡ Ok n → Asked (take n later)
   unfolding splice
   wrote {w} {n} (Turned.given {bytes} a l e) p =
       let k : length bytes ≡ n = cc in
@@ -40,7 +41,7 @@ module _ {Asked : List ℕ → Type 0} {refusal : MessageError} {out later : Lis
   gives : {w : Written} (r : List ℕ) → Asked r → ((b : List ℕ) → Asked b → b ≡ r) → length r ≤ length out → Turned Asked refusal out later w → Gives r out later w
   gives r is once room (Turned.given {bytes} a l e) =
       let k = once bytes a in
-      (ap (λ (b : List ℕ). Written.Bytes (length b)) k, e ∙ ap (λ (b : List ℕ). splice out 0 b) k)
+      (ap (λ (b : List ℕ). Ok (length b)) k, e ∙ ap (λ (b : List ℕ). splice out 0 b) k)
   gives r is once room (Turned.short {bytes} a l e) = absurd (omega (arith, ap (λ (b : List ℕ). length b) (once bytes a)))
   gives r is once room (Turned.none nothing e) = absurd (nothing r is)
 

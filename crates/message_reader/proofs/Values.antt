@@ -1,17 +1,17 @@
 -- All values of a message, read back. Assumes nothing.
-use Prim.Native.Nat.{ℕ, ◌+◌, ◌≤◌}
+use Prim.Native.Nat.{ℕ, ◌≤◌}
 use mathlib.Core.Bool.{Bool, true, false, cond, ◌||◌}
 use mathlib.Core.List.{List, [], ◌++◌, append-nil}
 use mathlib.Core.Path.{◌≡◌, refl, sym, subst, ◌∙◌}
 use lib.ListN.{length, drop}
 use Rattle.wire.specs.Bits.{be}
 use Rattle.event_messages.specs.Shape.{width, has_text, sent, sent_arguments, allowed, allowed_all}
-use Rattle.event_messages.specs.declared.Argument.{Argument}
+use Rattle.event_messages.specs.declared.EventArgument.{EventArgument}
 use Rattle.event_messages.specs.declared.Shape.{Shape}
 use Rattle.event_messages.specs.declared.Values.{Values}
 use Rattle.event_messages.proofs.Events.{parts}
 use Rattle.message_writer.proofs.Arguments.{text-short}
-use Rattle.message_reader.specs.declared.Progress.{Progress}
+use Rattle.message_reader.specs.declared.ReadSoFar.{ReadSoFar}
 use Rattle.message_reader.specs.declared.Read.{Read}
 use Rattle.message_reader.specs.Read.{bytes_of, begun, argument_read, read_of, values_read}
 use Rattle.message_reader.specs.Back.{values_in, text_in}
@@ -39,7 +39,7 @@ pub record Alike (m : List ℕ) (s : Shape) (v : Values) (text : List ℕ) (r : 
   pub third : be (width s.third) r.third ≡ be (width s.third) v.third
 
 -- three values read one behind another
-record Walked (m text : List ℕ) (a b c : Argument) (x y z : ℕ) : Type 0 where
+record Walked (m text : List ℕ) (a b c : EventArgument) (x y z : ℕ) : Type 0 where
   one : Got m a x text begun (argument_read a m begun)
   two : Got m b y text (argument_read a m begun) (argument_read b m (argument_read a m begun))
   three : Got m c z text (argument_read b m (argument_read a m begun)) (argument_read c m (argument_read b m (argument_read a m begun)))
@@ -49,7 +49,7 @@ module _ (m : List ℕ) (s : Shape) (v : Values) (text : List ℕ) (allow : allo
   short : length text ≤ 254
   short = text-short text (parts s v text allow).text
 
-  alike : (p q r : Progress) {a b c : Progress} → Got m s.first v.first text p a → Got m s.second v.second text q b → Got m s.third v.third text r c
+  alike : (p q r : ReadSoFar) {a b c : ReadSoFar} → Got m s.first v.first text p a → Got m s.second v.second text q b → Got m s.third v.third text r c
       → bytes_of m c.start c.length ≡ text
       → Alike m s v text (read_of a b c c)
   unfolding sent_arguments allowed_all text_in values_in
@@ -64,7 +64,7 @@ module _ (m : List ℕ) (s : Shape) (v : Values) (text : List ℕ) (allow : allo
         third = three.field;
       }
 
-  walked : (a b c : Argument) (x y z : ℕ) → allowed a x (length text) ≡ true → allowed b y (length text) ≡ true → allowed c z (length text) ≡ true
+  walked : (a b c : EventArgument) (x y z : ℕ) → allowed a x (length text) ≡ true → allowed b y (length text) ≡ true → allowed c z (length text) ≡ true
       → drop 16 m ≡ sent a x text ++ (sent b y text ++ sent c z text) → Walked m text a b c x y z
   walked a b c x y z ha hb hc e =
       let one = got m text (sent b y text ++ sent c z text) short begun a x ha e in

@@ -3,17 +3,17 @@
 #![tactic(auto)]
 
 ghost use Rattle.std.specs.Prelude.{◌+◌, ◌≤◌, ◌<◌, true, ◌≡◌, length};
-ghost use Rattle.event_messages.specs.Shape.{shape_of};
+ghost use Rattle.wire.specs.Fields.{number_of};
+ghost use Rattle.event_messages.specs.Shape.{shape_of, width};
 ghost use Rattle.event_messages.specs.Stands.{Stands, Turned};
 ghost use Rattle.event_messages.specs.declared.MessageError.{MessageError};
-ghost use Rattle.message_reader.specs.Read.{word_at, double_at, text_at, name_at, with_name, with_text, with_explanation, argument_read, Onward, values_read};
+ghost use Rattle.message_reader.specs.Read.{word_at, double_at, text_at, name_at, with_name, with_text, with_explanation, argument_read, Onward, read_of, values_read};
 ghost use Rattle.message_reader.specs.Back.{Said, record_of};
 
 use eiproto::eiproto_eis;
-use eiproto::eiproto_eis::Found;
-use event_messages::{Argument, EVENT_MESSAGE_LENGTH, MessageError, Shape, Values, Written};
+use event_messages::{EVENT_MESSAGE_LENGTH, EventArgument, MessageError, Shape, Values};
 use wire::event;
-use wire::event::Fields;
+use wire::event::{Fields, Number};
 
 // Numbers at a place of a message; 0 where it ends before.
 fn word_at(message: &[u8], at: usize) -> u32
@@ -37,79 +37,71 @@ fn double_at(message: &[u8], at: usize) -> u64
 }
 
 // A part of a message.
-#[derive(Clone, Copy)]
-struct Part {
+#[derive(Clone, Copy, Debug, PartialEq, Eq)]
+struct TextPart {
     start: usize,
     length: usize,
 }
 
-const NO_PART: Part = Part {
+const NO_PART: TextPart = TextPart {
     start: 0,
     length: 0,
 };
 
 // The text of a string, without what closes it; no part where there is none.
-fn text_at(message: &[u8], at: usize) -> Part
+fn text_at(message: &[u8], at: usize) -> TextPart
     requires { at ≤ 1000 }
     ensures { (result ≡ text_at message.now at) × ((result.length ≤ 254) × (result.start + result.length ≤ length message.now)) }
 {
     let count = word_at(message, at) as usize;
-    if count < 1 {
+    if count < 1 || 255 < count || message.len() < at + 4 + count {
         return NO_PART;
     }
-    if 255 < count {
-        return NO_PART;
-    }
-    if message.len() < at + 4 + count {
-        return NO_PART;
-    }
-    Part {
+    TextPart {
         start: at + 4,
         length: count - 1,
     }
 }
 
 // The number of the interface that a part of the message names, 0 for none.
-fn name_at(message: &[u8], part: Part) -> u64
+fn name_at(message: &[u8], part: TextPart) -> u64
     requires { part.start + part.length ≤ length message.now }
     ensures { result ≡ name_at message.now part }
 {
-    let start = part.start;
-    let end = start + part.length;
-    match eiproto_eis::find(&message[start..end]) {
-        Found::Interface(number) => number as u64,
-        Found::Unknown => 0,
+    let end = part.start + part.length;
+    match eiproto_eis::find(&message[part.start..end]) {
+        Some(number) => u64::from(number),
+        None => 0,
     }
 }
 
 // How far a message is read: the next value's place, the value before it, and the text's part.
-#[derive(Clone, Copy)]
-struct Progress {
+#[derive(Clone, Copy, Debug, PartialEq, Eq)]
+struct ReadSoFar {
     at: usize,
     value: u64,
     start: usize,
     length: usize,
 }
 
-fn with_name(message: &[u8], p: Progress) -> Progress
+fn with_name(message: &[u8], p: ReadSoFar) -> ReadSoFar
     requires { (p.at ≤ 600) × (p.start + p.length ≤ length message.now) }
     ensures { Onward message.now p (with_name message.now p) result }
 {
     let part = text_at(message, p.at);
-    Progress {
+    ReadSoFar {
         at: p.at + message_writer::string_length(part.length),
         value: name_at(message, part),
-        start: p.start,
-        length: p.length,
+        ..p
     }
 }
 
-fn with_text(message: &[u8], p: Progress, value: u64) -> Progress
+fn with_text(message: &[u8], p: ReadSoFar, value: u64) -> ReadSoFar
     requires { p.at ≤ 600 }
     ensures { Onward message.now p (with_text message.now p value) result }
 {
     let part = text_at(message, p.at);
-    Progress {
+    ReadSoFar {
         at: p.at + message_writer::string_length(part.length),
         value,
         start: part.start,
@@ -118,12 +110,12 @@ fn with_text(message: &[u8], p: Progress, value: u64) -> Progress
 }
 
 // A string is an explanation, if an empty one; no string is none.
-fn with_explanation(message: &[u8], p: Progress) -> Progress
+fn with_explanation(message: &[u8], p: ReadSoFar) -> ReadSoFar
     requires { p.at ≤ 600 }
     ensures { Onward message.now p (with_explanation message.now p) result }
 {
     if word_at(message, p.at) == 0 {
-        return Progress {
+        return ReadSoFar {
             at: p.at + 4,
             value: 0,
             start: 0,
@@ -133,52 +125,31 @@ fn with_explanation(message: &[u8], p: Progress) -> Progress
     with_text(message, p, 128)
 }
 
-fn read_argument(argument: Argument, message: &[u8], p: Progress) -> Progress
+fn read_argument(argument: EventArgument, message: &[u8], p: ReadSoFar) -> ReadSoFar
     requires { (p.at ≤ 600) × (p.start + p.length ≤ length message.now) }
     ensures { Onward message.now p (argument_read argument message.now p) result }
 {
     let at = p.at;
-    let start = p.start;
-    let length = p.length;
     match argument {
-        Argument::None => Progress {
-            at,
-            value: 0,
-            start,
-            length,
-        },
-        Argument::Uint32 => Progress {
+        EventArgument::None => ReadSoFar { value: 0, ..p },
+        EventArgument::Uint32 | EventArgument::Reason | EventArgument::DeviceType => ReadSoFar {
             at: at + 4,
-            value: word_at(message, at) as u64,
-            start,
-            length,
+            value: u64::from(word_at(message, at)),
+            ..p
         },
-        Argument::Uint64 => Progress {
+        EventArgument::Uint64 => ReadSoFar {
             at: at + 8,
             value: double_at(message, at),
-            start,
-            length,
+            ..p
         },
-        Argument::Interface => with_name(message, p),
-        Argument::Reason => Progress {
-            at: at + 4,
-            value: word_at(message, at) as u64,
-            start,
-            length,
-        },
-        Argument::DeviceType => Progress {
-            at: at + 4,
-            value: word_at(message, at) as u64,
-            start,
-            length,
-        },
-        Argument::Text => with_text(message, p, 0),
-        Argument::Explanation => with_explanation(message, p),
+        EventArgument::Interface => with_name(message, p),
+        EventArgument::Text => with_text(message, p, 0),
+        EventArgument::Explanation => with_explanation(message, p),
     }
 }
 
 // The values in the record's order, and the text's part of the message.
-#[derive(Clone, Copy)]
+#[derive(Clone, Copy, Debug, PartialEq, Eq)]
 struct Read {
     first: u64,
     second: u64,
@@ -187,33 +158,10 @@ struct Read {
     length: usize,
 }
 
-fn read_values(message: &[u8], s: Shape) -> Read
-    ensures { (result ≡ values_read message.now s) × (result.start + result.length ≤ length message.now) }
+// The three values as they were read, the third last.
+fn read_of(first: ReadSoFar, second: ReadSoFar, third: ReadSoFar) -> Read
+    ensures { result ≡ read_of first second third third }
 {
-    let one = s.first;
-    let two = s.second;
-    let three = s.third;
-    let begun = Progress {
-        at: 16,
-        value: 0,
-        start: 0,
-        length: 0,
-    };
-    if s.swapped {
-        let second = read_argument(two, message, begun);
-        let first = read_argument(one, message, second);
-        let third = read_argument(three, message, first);
-        return Read {
-            first: first.value,
-            second: second.value,
-            third: third.value,
-            start: third.start,
-            length: third.length,
-        };
-    }
-    let first = read_argument(one, message, begun);
-    let second = read_argument(two, message, first);
-    let third = read_argument(three, message, second);
     Read {
         first: first.value,
         second: second.value,
@@ -221,6 +169,27 @@ fn read_values(message: &[u8], s: Shape) -> Read
         start: third.start,
         length: third.length,
     }
+}
+
+fn read_values(message: &[u8], s: Shape) -> Read
+    ensures { (result ≡ values_read message.now s) × (result.start + result.length ≤ length message.now) }
+{
+    let begun = ReadSoFar {
+        at: 16,
+        value: 0,
+        start: 0,
+        length: 0,
+    };
+    if s.swapped {
+        let second = read_argument(s.second, message, begun);
+        let first = read_argument(s.first, message, second);
+        let third = read_argument(s.third, message, first);
+        return read_of(first, second, third);
+    }
+    let first = read_argument(s.first, message, begun);
+    let second = read_argument(s.second, message, first);
+    let third = read_argument(s.third, message, second);
+    read_of(first, second, third)
 }
 
 // Whether the message is the one that is written of the values and the text.
@@ -235,57 +204,66 @@ fn is_message(message: &[u8], object: u64, opcode: u32, kind: u8, v: Values, tex
     let length = message_writer::message_length(s, v, text);
     let mut again = [0u8; EVENT_MESSAGE_LENGTH];
     message_writer::put_message(&mut again, object, opcode, s, v, text);
-    check::same(message, &again[..length])
+    message == &again[..length]
+}
+
+// A value as a record's number.
+fn number(argument: EventArgument, value: u64) -> Number
+    ensures { result ≡ number_of (width argument) value }
+{
+    Number {
+        bytes: event_messages::width(argument),
+        value,
+    }
 }
 
 // The record of a kind, at the front of the buffer, where there is room for it.
-fn write_record(out: &mut [u8], object: u64, kind: u8, v: Values, text: &[u8]) -> Written
+fn write_record(
+    out: &mut [u8],
+    object: u64,
+    kind: u8,
+    v: Values,
+    text: &[u8],
+) -> Result<usize, MessageError>
     requires { (kind < 19) × (length text.now ≤ 254) }
     ensures { Turned (λ bytes. bytes ≡ record_of object kind v text.now) MessageError.Malformed out.old out.new result }
 {
     let s = event_messages::shape_of(kind);
-    let one = s.first;
-    let two = s.second;
-    let three = s.third;
     let size = event_messages::fixed_size(s) + text.len();
     if out.len() < size {
-        return Written::Refused(MessageError::ShortOut);
+        return Err(MessageError::ShortOut);
     }
     let f = Fields {
-        kind: kind as u64,
-        n1: event_messages::width(one),
-        x1: v.first,
-        n2: event_messages::width(two),
-        x2: v.second,
-        n3: event_messages::width(three),
-        x3: v.third,
+        kind,
+        first: number(s.first, v.first),
+        second: number(s.second, v.second),
+        third: number(s.third, v.third),
         text: true,
     };
     event::put_whole(out, 0, object, f, text);
-    Written::Bytes(size)
+    Ok(size)
 }
 
 // The message, to an object of the interface, read as a record, 0 for the handshake's.
-pub fn read_message(interface: u32, message: &[u8], out: &mut [u8]) -> Written
+pub fn read_message(interface: u32, message: &[u8], out: &mut [u8]) -> Result<usize, MessageError>
     ensures { Turned (λ bytes. Stands interface bytes message.now) MessageError.Malformed out.old out.new result }
 {
     let opcode = word_at(message, 12);
     let kind = event_messages::kind_at(interface, opcode);
     if kind == 0 {
-        return Written::Refused(MessageError::Malformed);
+        return Err(MessageError::Malformed);
     }
     let object = double_at(message, 0);
     let read = read_values(message, event_messages::shape_of(kind));
-    let start = read.start;
-    let end = start + read.length;
-    let text = &message[start..end];
+    let end = read.start + read.length;
+    let text = &message[read.start..end];
     let v = Values {
         first: read.first,
         second: read.second,
         third: read.third,
     };
     if !is_message(message, object, opcode, kind, v, text) {
-        return Written::Refused(MessageError::Malformed);
+        return Err(MessageError::Malformed);
     }
     write_record(out, object, kind, v, text)
 }

@@ -11,7 +11,7 @@ use lib.ListN.{length, get_or-eq_default}
 use Rattle.eiproto.specs.Interface.{Row, row, table, row_of, interface_name}
 use Rattle.event_messages.specs.Stands.{between}
 use Rattle.event_messages.specs.Shape.{allowed}
-use Rattle.event_messages.specs.declared.Argument.{Argument}
+use Rattle.event_messages.specs.declared.EventArgument.{EventArgument}
 use Rattle.event_messages.proofs.Tests.{both_hold}
 use Rattle.event_messages.proofs.Tables.{at}
 
@@ -23,7 +23,7 @@ name-short i =
     (λ l. leb-true (length (interface_name i)) 19 (at (λ i. leb (length (interface_name i)) 19) 13 refl i l))
     (λ m. let e : row_of i ≡ row "" 0 = get_or-eq_default table (row "" 0) {n = i} (omega arith) in omega (arith, ap (λ (r : Row). length r.name) e))
 
-pub named : {a : Argument} (x n : ℕ) → a ≡ Argument.Interface → allowed a x n ≡ true → x ≤ 12
+pub named : {a : EventArgument} (x n : ℕ) → a ≡ EventArgument.Interface → allowed a x n ≡ true → x ≤ 12
 named x n e h =
     let q : between 1 12 x ≡ true = rw e at h in
     let two : (leb 1 x ≡ true) × (leb x 12 ≡ true) = both_hold q in

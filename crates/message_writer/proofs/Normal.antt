@@ -16,9 +16,9 @@ use Rattle.event_messages.specs.Opcode.{HasOpcode}
 use Rattle.event_messages.specs.Shape.{shape_of, width, fixed_size, sent_arguments, allowed_all}
 use Rattle.event_messages.specs.Stands.{Stands}
 use Rattle.event_messages.specs.Table.{kind_of}
-use Rattle.event_messages.specs.declared.Argument.{Argument}
-use Rattle.event_messages.specs.declared.Argument.TheVariants.{None, Uint32, Uint64, Interface, Reason, DeviceType, Text, Explanation}
-use Rattle.event_messages.specs.declared.Opcode.{Opcode}
+use Rattle.event_messages.specs.declared.EventArgument.{EventArgument}
+use Rattle.event_messages.specs.declared.EventArgument.TheVariants.{None, Uint32, Uint64, Interface, Reason, DeviceType, Text, Explanation}
+use Rattle.std.specs.Prelude.{Some}
 use Rattle.event_messages.specs.declared.Shape.{Shape}
 use Rattle.event_messages.specs.declared.Values.{Values}
 use Rattle.event_messages.proofs.Events.{every, some, kind-least, laid_by, parts}
@@ -109,7 +109,7 @@ pub record Normal (interface : ℕ) (r m : List ℕ) : Type 0 where
   pub fits : allowed_all (shape_of (get_or r 0 0 / 8)) (values_in r (shape_of (get_or r 0 0 / 8))) (drop (fixed_size (shape_of (get_or r 0 0 / 8))) r) ≡ true
   pub told : m ≡ message (big_at r 2 8) opcode (sent_arguments (shape_of (get_or r 0 0 / 8)) (values_in r (shape_of (get_or r 0 0 / 8))) (drop (fixed_size (shape_of (get_or r 0 0 / 8))) r))
 
-width-most : (a : Argument) → width a ≤ 8
+width-most : (a : EventArgument) → width a ≤ 8
 width-most None = omega arith
 width-most Uint32 = omega arith
 width-most Uint64 = omega arith
@@ -250,7 +250,7 @@ module _ {interface fixed : ℕ} {r t : List ℕ} {s : Shape} {v : Values} (shap
   pub refused : allowed_all s v t ≡ false → (m : List ℕ) → Stands interface r m → ⊥
   refused n m st = false≢true (sym (rw (behind, valued, sized, shaped) at n) ∙ (normal st).fits)
 
-  pub accepted : (opcode : ℕ) → 10 ≤ length r → get_or r 0 0 % 8 * 256 + get_or r 1 0 ≡ length r → HasOpcode interface (get_or r 0 0 / 8) (Opcode.Number opcode) → fixed ≤ length r → allowed_all s v t ≡ true
+  pub accepted : (opcode : ℕ) → 10 ≤ length r → get_or r 0 0 % 8 * 256 + get_or r 1 0 ≡ length r → HasOpcode interface (get_or r 0 0 / 8) (Some opcode) → fixed ≤ length r → allowed_all s v t ≡ true
       → ((i : ℕ) → get_or r i 0 < 256) → Stands interface r (message (big_at r 2 8) opcode (sent_arguments s v t))
   accepted opcode ten said has enough fits octets =
       stands r octets

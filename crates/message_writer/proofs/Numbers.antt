@@ -1,13 +1,15 @@
 -- Numbers of bytes, most and least significant first. Assumes nothing.
-use Prim.Native.Nat.{ℕ, zero, suc, ◌+◌, ◌*◌, ◌/◌, ◌%◌, ◌^◌, ◌≤◌, ◌<◌}
-use mathlib.Core.List.{List, [], ◌∷◌, ◌++◌}
+use Prim.Native.Nat.{ℕ, zero, suc, ◌+◌, ◌-◌, ◌*◌, ◌/◌, ◌%◌, ◌^◌, ◌≤◌, ◌<◌}
+use mathlib.Core.List.{List, [], ◌∷◌, ◌++◌, append-nil}
 use mathlib.Core.Path.{◌≡◌, refl, sym, ◌∙◌}
-use native.Mathlib.Nat.{mul-suc, lt_of_lt_of_le}
+use native.Mathlib.Nat.{mul-suc}
 use native.Mathlib.Numerals.{add-one}
 use native.Mathlib.Omega.{arith}
-use lib.Arith.{digits_lt}
-use lib.ListN.{length, get_or, take, drop, length-drop}
-use lib.Pow.{pow_mono, pow-add, mod-pow-add}
+use borrow.Rule.Slice.PartMut.{put_mid}
+use Rattle.std.specs.Int.{w64, from_be_bytes}
+use lib.ListN.{length, get_or, take, drop, replicate, length-drop, length-append, length-replicate}
+use Rattle.std.proofs.lemmas.List.{take-replicate, drop_all}
+use lib.Pow.{mod-pow-add}
 use lib.Seq.{take-suc, get_or-drop}
 use Rattle.wire.specs.Bits.{be}
 use Rattle.message_writer.specs.Number.{joined, big_at}
@@ -32,14 +34,35 @@ module _ (l : List ℕ) (at i : ℕ) (h : at + i < length l) where
       let m : i < length (drop at l) = omega (arith, length-drop at l) in
       rw (add-one, take-suc (drop at l) i 0 m, joined_snoc 0 (take i (drop at l)) (get_or (drop at l) i 0), get_or-drop at l i 0)
 
-pub byte_more : (n b i : ℕ) → n < 2 ^ (8 * i) → b < 256 → n * 256 + b < 2 ^ (8 * (i + 1))
-byte_more n b i h g =
-    let e : 2 ^ (8 * (i + 1)) ≡ 2 ^ (8 * i) * 256 = rw (add-one, mul-suc 8 i) (pow-add 2 (8 * i) 8) in
-    rw e (digits_lt h g)
+-- ---- the library's number of eight bytes, the most significant first
 
--- up to eight bytes are a u64
-pub fits_below : (n b i : ℕ) → n < 2 ^ (8 * i) → b < 256 → i < 8 → n * 256 + b < 2 ^ 64
-fits_below n b i h g l = lt_of_lt_of_le (byte_more n b i h g) (pow_mono {i = 8 * (i + 1)} {j = 64} (omega arith))
+eight : (l : List ℕ) → length l ≡ 8 → from_be_bytes w64 l ≡ joined 0 l
+unfolding joined
+eight [] q = absurd (omega arith)
+eight (a ∷ []) q = absurd (omega arith)
+eight (a ∷ b ∷ []) q = absurd (omega arith)
+eight (a ∷ b ∷ c ∷ []) q = absurd (omega arith)
+eight (a ∷ b ∷ c ∷ d ∷ []) q = absurd (omega arith)
+eight (a ∷ b ∷ c ∷ d ∷ e ∷ []) q = absurd (omega arith)
+eight (a ∷ b ∷ c ∷ d ∷ e ∷ f ∷ []) q = absurd (omega arith)
+eight (a ∷ b ∷ c ∷ d ∷ e ∷ f ∷ g ∷ []) q = absurd (omega arith)
+eight (a ∷ b ∷ c ∷ d ∷ e ∷ f ∷ g ∷ h ∷ []) q = omega arith
+eight (a ∷ b ∷ c ∷ d ∷ e ∷ f ∷ g ∷ h ∷ i ∷ l) q = absurd (omega arith)
+
+-- zeros in front leave it
+zeros-joined : (n : ℕ) (l : List ℕ) → joined 0 (replicate n 0 ++ l) ≡ joined 0 l
+unfolding joined
+zeros-joined zero l = refl
+zeros-joined (suc n) l = zeros-joined n l
+
+-- bytes that are the last of eight, behind zeros
+pub last_bytes : (k : ℕ) (xs ys : List ℕ) → ys ≡ xs → length xs ≡ k → k ≤ 8 → from_be_bytes w64 (put_mid (8 - k) (8 - (8 - k)) (replicate {A = ℕ} 8 0) ys) ≡ joined 0 xs
+last_bytes k xs ys e n h =
+    let a : take {A = ℕ} (8 - k) (replicate {A = ℕ} 8 0) ≡ replicate {A = ℕ} (8 - k) 0 = take-replicate {X = ℕ} (8 - k) 8 0 (omega arith) in
+    let b : drop {A = ℕ} (8 - (8 - k)) (drop {A = ℕ} (8 - k) (replicate {A = ℕ} 8 0)) ≡ [] =
+    drop_all (8 - (8 - k)) (drop {A = ℕ} (8 - k) (replicate {A = ℕ} 8 0)) (omega (arith, length-drop (8 - k) (replicate {A = ℕ} 8 0))) in
+    let whole : put_mid (8 - k) (8 - (8 - k)) (replicate {A = ℕ} 8 0) ys ≡ replicate {A = ℕ} (8 - k) 0 ++ xs = rw (e, a, b, append-nil) in
+    rw whole (eight (replicate {A = ℕ} (8 - k) 0 ++ xs) (simp (length-append, length-replicate) (omega arith)) ∙ zeros-joined (8 - k) xs)
 
 module _ (l : List ℕ) (octets : (i : ℕ) → get_or l i 0 < 256) where
   -- a number of k bytes has those bytes

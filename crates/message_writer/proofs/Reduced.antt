@@ -11,8 +11,8 @@ use lib.ListN.{length}
 use lib.Pow.{field, mod-mod-pow}
 use Rattle.event_messages.specs.Message.{le}
 use Rattle.event_messages.specs.Shape.{width, explains, sent, sent_arguments, allowed, allowed_all, values_of}
-use Rattle.event_messages.specs.declared.Argument.{Argument}
-use Rattle.event_messages.specs.declared.Argument.TheVariants.{None, Uint32, Uint64, Interface, Reason, DeviceType, Text, Explanation}
+use Rattle.event_messages.specs.declared.EventArgument.{EventArgument}
+use Rattle.event_messages.specs.declared.EventArgument.TheVariants.{None, Uint32, Uint64, Interface, Reason, DeviceType, Text, Explanation}
 use Rattle.event_messages.specs.declared.Shape.{Shape}
 use Rattle.event_messages.specs.declared.Values.{Values}
 use Rattle.event_messages.proofs.Events.{parts}
@@ -44,7 +44,7 @@ module _ (x : ℕ) where
           mod-eq_of_lt (omega (arith, eqb-true x 0 two.0))
 
 -- a value that can be sent: so can it be modulo its width, and it is the same bytes
-pub allowed-reduced : (a : Argument) (x n : ℕ) → allowed a x n ≡ true → allowed a (x % 2 ^ (8 * width a)) n ≡ true
+pub allowed-reduced : (a : EventArgument) (x n : ℕ) → allowed a x n ≡ true → allowed a (x % 2 ^ (8 * width a)) n ≡ true
 allowed-reduced None x n h = refl
 allowed-reduced Uint32 x n h = refl
 allowed-reduced Uint64 x n h = refl
@@ -54,7 +54,7 @@ allowed-reduced DeviceType x n h = rw (within x 1 2 (2 ^ 32) (omega arith) h) h
 allowed-reduced Text x n h = refl
 allowed-reduced Explanation x n h = rw (bit x n h) h
 
-pub sent-reduced : (a : Argument) (x n : ℕ) (t : List ℕ) → allowed a x n ≡ true → sent a (x % 2 ^ (8 * width a)) t ≡ sent a x t
+pub sent-reduced : (a : EventArgument) (x n : ℕ) (t : List ℕ) → allowed a x n ≡ true → sent a (x % 2 ^ (8 * width a)) t ≡ sent a x t
 unfolding sent
 sent-reduced None x n t h = refl
 sent-reduced Uint32 x n t h = le-mod 4 x

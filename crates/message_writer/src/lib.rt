@@ -12,7 +12,7 @@ ghost use Rattle.message_writer.specs.Number.{big_at, values_in};
 ghost use Rattle.message_writer.specs.Puts.{Puts, CanPut};
 
 use eiproto::eiproto_eis;
-use event_messages::{Argument, MessageError, Opcode, Shape, Values, Written};
+use event_messages::{EventArgument, MessageError, Shape, Values};
 use wire::event;
 
 // The number of k bytes at a place of a record, the most significant first.
@@ -20,32 +20,22 @@ fn number_at(bytes: &[u8], at: usize, k: usize) -> u64
     requires { (at + k ≤ length bytes.now) × (k ≤ 8) }
     ensures { result ≡ big_at bytes.now at k }
 {
-    let mut n: u64 = 0;
-    let mut i: usize = 0;
-    while i < k {
-        n = n * 256 + bytes[at + i] as u64;
-        i += 1;
-    }
-    n
+    let mut number = [0u8; 8];
+    number[8 - k..].copy_from_slice(&bytes[at..at + k]);
+    u64::from_be_bytes(number)
 }
 
 fn values_in(bytes: &[u8], s: Shape) -> Values
     requires { fixed_size s ≤ length bytes.now }
     ensures { result ≡ values_in bytes.now s }
 {
-    let one = s.first;
-    let two = s.second;
-    let three = s.third;
-    let a = event_messages::width(one);
-    let b = event_messages::width(two);
-    let c = event_messages::width(three);
-    let first = number_at(bytes, 10, a);
-    let second = number_at(bytes, 10 + a, b);
-    let third = number_at(bytes, 10 + (a + b), c);
+    let a = event_messages::width(s.first);
+    let b = event_messages::width(s.second);
+    let c = event_messages::width(s.third);
     Values {
-        first,
-        second,
-        third,
+        first: number_at(bytes, 10, a),
+        second: number_at(bytes, 10 + a, b),
+        third: number_at(bytes, 10 + (a + b), c),
     }
 }
 
@@ -58,19 +48,17 @@ pub fn string_length(size: usize) -> usize
 }
 
 // How many bytes a value has in a message.
-fn sent_length(argument: Argument, x: u64, text: &[u8]) -> usize
+fn sent_length(argument: EventArgument, x: u64, text: &[u8]) -> usize
     requires { (length text.now ≤ 254) × (allowed argument x (length text.now) ≡ true) }
     ensures { (result ≡ length (sent argument x text.now)) × (result ≤ 260) }
 {
     match argument {
-        Argument::None => 0,
-        Argument::Uint32 => 4,
-        Argument::Uint64 => 8,
-        Argument::Interface => string_length(eiproto_eis::name_len(x as u8)),
-        Argument::Reason => 4,
-        Argument::DeviceType => 4,
-        Argument::Text => string_length(text.len()),
-        Argument::Explanation => {
+        EventArgument::None => 0,
+        EventArgument::Uint32 | EventArgument::Reason | EventArgument::DeviceType => 4,
+        EventArgument::Uint64 => 8,
+        EventArgument::Interface => string_length(eiproto_eis::name_len(x as u8)),
+        EventArgument::Text => string_length(text.len()),
+        EventArgument::Explanation => {
             if x == 128 {
                 return string_length(text.len());
             }
@@ -84,28 +72,18 @@ pub fn message_length(s: Shape, v: Values, text: &[u8]) -> usize
     requires { allowed_all s v text.now ≡ true }
     ensures { result ≡ 16 + length (sent_arguments s v text.now) }
 {
-    let one = s.first;
-    let two = s.second;
-    let three = s.third;
-    let a = sent_length(one, v.first, text);
-    let b = sent_length(two, v.second, text);
-    let c = sent_length(three, v.third, text);
+    let a = sent_length(s.first, v.first, text);
+    let b = sent_length(s.second, v.second, text);
+    let c = sent_length(s.third, v.third, text);
     16 + (a + (b + c))
 }
 
 // The k low bytes of x at a place of the buffer, the least significant first.
 fn put(out: &mut [u8], at: usize, k: usize, x: u64) -> usize
-    requires { at + k ≤ length out.old }
+    requires { (k ≤ 8) × (at + k ≤ length out.old) }
     ensures { Wrote out.old out.new at k (le k x) result }
 {
-    let mut i: usize = 0;
-    let mut v = x;
-    while i < k {
-        out[at + i] = (v % 256) as u8;
-        v = v / 256;
-        i += 1;
-    }
-    at + k
+    event::put_text(out, at, &x.to_le_bytes()[..k])
 }
 
 fn put_string(out: &mut [u8], at: usize, text: &[u8]) -> usize
@@ -124,10 +102,8 @@ fn name_of(interface: u8) -> [u8; 19]
 {
     let mut name = [0u8; 19];
     let size = eiproto_eis::name_len(interface);
-    let mut i: usize = 0;
-    while i < size {
+    for i in 0..size {
         name[i] = eiproto_eis::name_byte(interface, i);
-        i += 1;
     }
     name
 }
@@ -141,19 +117,19 @@ fn put_name(out: &mut [u8], at: usize, interface: u8) -> usize
     put_string(out, at, &name[..size])
 }
 
-fn put_argument(out: &mut [u8], at: usize, argument: Argument, x: u64, text: &[u8]) -> usize
+fn put_argument(out: &mut [u8], at: usize, argument: EventArgument, x: u64, text: &[u8]) -> usize
     requires { CanPut out.old at argument x text.now }
     ensures { Puts out.old out.new at (sent argument x text.now) result }
 {
     match argument {
-        Argument::None => at,
-        Argument::Uint32 => put(out, at, 4, x),
-        Argument::Uint64 => put(out, at, 8, x),
-        Argument::Interface => put_name(out, at, x as u8),
-        Argument::Reason => put(out, at, 4, x),
-        Argument::DeviceType => put(out, at, 4, x),
-        Argument::Text => put_string(out, at, text),
-        Argument::Explanation => {
+        EventArgument::None => at,
+        EventArgument::Uint32 | EventArgument::Reason | EventArgument::DeviceType => {
+            put(out, at, 4, x)
+        }
+        EventArgument::Uint64 => put(out, at, 8, x),
+        EventArgument::Interface => put_name(out, at, x as u8),
+        EventArgument::Text => put_string(out, at, text),
+        EventArgument::Explanation => {
             if x == 128 {
                 return put_string(out, at, text);
             }
@@ -166,17 +142,14 @@ fn put_arguments(out: &mut [u8], at: usize, s: Shape, v: Values, text: &[u8]) ->
     requires { (allowed_all s v text.now ≡ true) × (at + length (sent_arguments s v text.now) ≤ length out.old) }
     ensures { Puts out.old out.new at (sent_arguments s v text.now) result }
 {
-    let one = s.first;
-    let two = s.second;
-    let three = s.third;
     if s.swapped {
-        let behind_two = put_argument(out, at, two, v.second, text);
-        let behind_one = put_argument(out, behind_two, one, v.first, text);
-        return put_argument(out, behind_one, three, v.third, text);
+        let behind_two = put_argument(out, at, s.second, v.second, text);
+        let behind_one = put_argument(out, behind_two, s.first, v.first, text);
+        return put_argument(out, behind_one, s.third, v.third, text);
     }
-    let behind_one = put_argument(out, at, one, v.first, text);
-    let behind_two = put_argument(out, behind_one, two, v.second, text);
-    put_argument(out, behind_two, three, v.third, text)
+    let behind_one = put_argument(out, at, s.first, v.first, text);
+    let behind_two = put_argument(out, behind_one, s.second, v.second, text);
+    put_argument(out, behind_two, s.third, v.third, text)
 }
 
 // Writes the message of an event to the front of the buffer, where there is room for it, and answers how many bytes.
@@ -199,35 +172,35 @@ pub fn put_message(
 }
 
 // The record written as a message to an object of the interface, 0 for the handshake's.
-pub fn write_message(interface: u32, bytes: &[u8], out: &mut [u8]) -> Written
+pub fn write_message(interface: u32, bytes: &[u8], out: &mut [u8]) -> Result<usize, MessageError>
     ensures { Turned (Stands interface bytes.now) MessageError.Unsendable out.old out.new result }
 {
     let size = bytes.len();
     if size < 10 {
-        return Written::Refused(MessageError::Unsendable);
+        return Err(MessageError::Unsendable);
     }
     let kind = bytes[0] / 8;
     let said = (bytes[0] % 8) as usize * 256 + bytes[1] as usize;
     if said != size {
-        return Written::Refused(MessageError::Unsendable);
+        return Err(MessageError::Unsendable);
     }
-    let Opcode::Number(opcode) = event_messages::opcode_of(interface, kind) else {
-        return Written::Refused(MessageError::Unsendable);
+    let Some(opcode) = event_messages::opcode_of(interface, kind) else {
+        return Err(MessageError::Unsendable);
     };
     let s = event_messages::shape_of(kind);
     let fixed = event_messages::fixed_size(s);
     if size < fixed {
-        return Written::Refused(MessageError::Unsendable);
+        return Err(MessageError::Unsendable);
     }
     let v = values_in(bytes, s);
     let text = &bytes[fixed..];
     if !event_messages::sendable(s, v, text) {
-        return Written::Refused(MessageError::Unsendable);
+        return Err(MessageError::Unsendable);
     }
     let length = message_length(s, v, text);
     if out.len() < length {
-        return Written::Refused(MessageError::ShortOut);
+        return Err(MessageError::ShortOut);
     }
     let object = number_at(bytes, 2, 8);
-    Written::Bytes(put_message(out, object, opcode, s, v, text))
+    Ok(put_message(out, object, opcode, s, v, text))
 }

@@ -6,7 +6,7 @@ use mathlib.Core.Path.{◌≡◌, refl, sym, ap, ◌∙◌}
 use native.Mathlib.Omega.{arith}
 use lib.Dec.{T, ltb, leb, lit<, lit≤}
 use lib.ListN.{length, length-append}
-use Rattle.wire.specs.Bits.{Field, ◌bits◌, widths, packed, be, pack}
+use Rattle.wire.specs.Bits.{Field, ◌bits◌, widths, be, pack}
 use Rattle.wire.specs.Record.{Layout, layout, text_of, header, fixed_length, record_length, event_record}
 use Rattle.wire.specs.Fields.{numbers, size, start, Laid}
 use Rattle.wire.specs.declared.event.Event.{Event}
@@ -56,19 +56,19 @@ explained-byte false = refl
 -- the layout that the numbers say
 unfoldable pub layout_of : Fields → Layout
 unfolding wide
-layout_of f = record { kind = f.kind; fields = wide f.n1 f.x1 ++ (wide f.n2 f.x2 ++ (wide f.n3 f.x3 ++ [])); text = f.text }
+layout_of f = record { kind = f.kind; fields = wide f.first.bytes f.first.value ++ (wide f.second.bytes f.second.value ++ (wide f.third.bytes f.third.value ++ [])); text = f.text }
 
 laid_so : (d : Event) (f : Fields) → layout d ≡ layout_of f → T (ltb f.kind 32) → T (leb (size f) 16) → Laid d f
 unfolding layout_of
 laid_so d f l k n =
-    let third = wide f.n3 f.x3 ++ [] in
-    let rest = wide f.n2 f.x2 ++ third in
-    let w3 : widths third ≡ 8 * (f.n3 + 0) = widths-wide f.n3 f.x3 0 [] widths-none in
-    let w2 : widths rest ≡ 8 * (f.n2 + (f.n3 + 0)) = widths-wide f.n2 f.x2 (f.n3 + 0) third w3 in
-    let w1 = widths-wide f.n1 f.x1 (f.n2 + (f.n3 + 0)) rest w2 in
-    let b1 = pack-wide f.n1 f.x1 (f.n2 + (f.n3 + 0)) rest w2 in
-    let b2 = pack-wide f.n2 f.x2 (f.n3 + 0) third w3 in
-    let b3 = pack-wide f.n3 f.x3 0 [] widths-none in
+    let third = wide f.third.bytes f.third.value ++ [] in
+    let rest = wide f.second.bytes f.second.value ++ third in
+    let w3 : widths third ≡ 8 * (f.third.bytes + 0) = widths-wide f.third.bytes f.third.value 0 [] widths-none in
+    let w2 : widths rest ≡ 8 * (f.second.bytes + (f.third.bytes + 0)) = widths-wide f.second.bytes f.second.value (f.third.bytes + 0) third w3 in
+    let w1 = widths-wide f.first.bytes f.first.value (f.second.bytes + (f.third.bytes + 0)) rest w2 in
+    let b1 = pack-wide f.first.bytes f.first.value (f.second.bytes + (f.third.bytes + 0)) rest w2 in
+    let b2 = pack-wide f.second.bytes f.second.value (f.third.bytes + 0) third w3 in
+    let b3 = pack-wide f.third.bytes f.third.value 0 [] widths-none in
     record {
       kind = sym (ap (λ (y : Layout). y.kind) l);
       small = lit< k;

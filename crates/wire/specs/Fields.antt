@@ -3,18 +3,45 @@ use Rattle.std.specs.Prelude.{ℕ, ◌+◌, ◌*◌, ◌%◌, ◌≤◌, ◌<◌
 use Rattle.wire.specs.Bits.{widths, be, pack}
 use Rattle.wire.specs.Record.{layout}
 use Rattle.wire.specs.declared.event.Event.{Event}
+use Rattle.wire.specs.declared.event.EventKind.{EventKind}
+use Rattle.wire.specs.declared.event.Number.{Number}
 use Rattle.wire.specs.declared.event.Fields.{Fields}
+
+-- the number that a record has for its kind
+abbrev pub kind_number : EventKind → ℕ
+kind_number EventKind.Seat = 1
+kind_number EventKind.Name = 2
+kind_number EventKind.Capability = 3
+kind_number EventKind.Done = 4
+kind_number EventKind.Destroyed = 5
+kind_number EventKind.Device = 6
+kind_number EventKind.DeviceType = 7
+kind_number EventKind.Interface = 8
+kind_number EventKind.Resumed = 9
+kind_number EventKind.Paused = 10
+kind_number EventKind.StartEmulating = 11
+kind_number EventKind.StopEmulating = 12
+kind_number EventKind.Frame = 13
+kind_number EventKind.Disconnected = 14
+kind_number EventKind.CallbackDone = 15
+kind_number EventKind.HandshakeVersion = 16
+kind_number EventKind.InterfaceVersion = 17
+kind_number EventKind.Connection = 18
+
+-- a number in so many bytes
+abbrev pub number_of : (bytes value : ℕ) → Number
+number_of bytes value = record { bytes = bytes; value = value }
 
 abbrev pub numbers : (kind n1 x1 n2 x2 n3 x3 : ℕ) → Bool → Fields
 numbers kind n1 x1 n2 x2 n3 x3 text =
-    record { kind = kind; n1 = n1; x1 = x1; n2 = n2; x2 = x2; n3 = n3; x3 = x3; text = text }
+    record { kind = kind; first = number_of n1 x1; second = number_of n2 x2; third = number_of n3 x3; text = text }
 
 -- the numbers' length in bytes, and their bytes
 abbrev pub size : Fields → ℕ
-size f = f.n1 + (f.n2 + f.n3)
+size f = f.first.bytes + (f.second.bytes + f.third.bytes)
 
 abbrev pub bytes : Fields → List ℕ
-bytes f = be f.n1 f.x1 ++ (be f.n2 f.x2 ++ be f.n3 f.x3)
+bytes f = be f.first.bytes f.first.value ++ (be f.second.bytes f.second.value ++ be f.third.bytes f.third.value)
 
 -- the record without its text: "kind 5 bits, record length in bytes 11 bits" are two bytes, the object id eight
 abbrev pub start : (object : ℕ) → Fields → (length : ℕ) → List ℕ

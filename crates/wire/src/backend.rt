@@ -8,19 +8,9 @@ pub const FIRST_SERVER_ID: u64 = 0xff00_0000_0000_0000;
 // The handshake's own object.
 pub const HANDSHAKE_ID: u64 = 0;
 
-// The next id after some were given, or that there are not so many left.
-#[derive(Clone, Copy)]
-pub enum NewObjects {
-    NextId(u64),
-    Spent,
-}
-
-// Gives `count` ids, from `next` on. The next id stays a u64, so the last of them all, 2^64 - 1, is never given.
-pub fn new_objects(next: u64, count: u64) -> NewObjects
+// Gives `count` ids, from `next` on: the next id after them, or `None` where there are not so many left. The next id stays a u64, so the last of them all, 2^64 - 1, is never given.
+pub fn new_objects(next: u64, count: u64) -> Option<u64>
     ensures { result ≡ new_objects next count }
 {
-    if 0xffff_ffff_ffff_ffff - next < count {
-        return NewObjects::Spent;
-    }
-    NewObjects::NextId(next + count)
+    next.checked_add(count)
 }

@@ -2,11 +2,11 @@
 ghost use Rattle.std.specs.Prelude.{◌+◌, ◌≤◌, ◌<◌, true, false, ◌++◌, ◌≡◌, length};
 ghost use Rattle.wire.specs.Bits.{be};
 ghost use Rattle.wire.specs.Record.{event_record, fixed_length, record_length};
-ghost use Rattle.wire.specs.Fields.{Laid, numbers, size, start};
+ghost use Rattle.wire.specs.Fields.{Laid, kind_number, number_of, numbers, size, start};
 ghost use Rattle.wire.specs.Put.{PutWhole, Wrote};
 
 // The 18 kinds by value. The text of a name and of an explanation is lent beside the event.
-#[derive(Clone, Copy)]
+#[derive(Clone, Copy, Debug, PartialEq, Eq)]
 pub enum Event {
     Seat {
         id: u64,
@@ -72,109 +72,192 @@ pub enum Event {
     },
 }
 
-// An event's record behind the object id: at most three numbers, each in so many bytes (0: no such number), then a text or none.
-#[derive(Clone, Copy)]
+// The kinds of records, with their numbers. None has the number 0.
+#[derive(Clone, Copy, Debug, PartialEq, Eq)]
+pub enum EventKind {
+    Seat = 1,
+    Name = 2,
+    Capability = 3,
+    Done = 4,
+    Destroyed = 5,
+    Device = 6,
+    DeviceType = 7,
+    Interface = 8,
+    Resumed = 9,
+    Paused = 10,
+    StartEmulating = 11,
+    StopEmulating = 12,
+    Frame = 13,
+    Disconnected = 14,
+    CallbackDone = 15,
+    HandshakeVersion = 16,
+    InterfaceVersion = 17,
+    Connection = 18,
+}
+
+// A number in so many bytes of a record; in none where there is no such number.
+#[derive(Clone, Copy, Debug, PartialEq, Eq)]
+pub struct Number {
+    pub bytes: usize,
+    pub value: u64,
+}
+
+const NO_NUMBER: Number = Number { bytes: 0, value: 0 };
+
+impl From<u8> for Number {
+    ghost from_gives = { λ value number. number ≡ number_of 1 value };
+
+    fn from(value: u8) -> Number {
+        Number {
+            bytes: 1,
+            value: u64::from(value),
+        }
+    }
+}
+
+impl From<u32> for Number {
+    ghost from_gives = { λ value number. number ≡ number_of 4 value };
+
+    fn from(value: u32) -> Number {
+        Number {
+            bytes: 4,
+            value: u64::from(value),
+        }
+    }
+}
+
+impl From<u64> for Number {
+    ghost from_gives = { λ value number. number ≡ number_of 8 value };
+
+    fn from(value: u64) -> Number {
+        Number { bytes: 8, value }
+    }
+}
+
+// An event's record behind the object id: at most three numbers, then a text or none. The kind is a number, since `put_whole` takes any below 32.
+#[derive(Clone, Copy, Debug, PartialEq, Eq)]
 pub struct Fields {
-    pub kind: u64,
-    pub n1: usize,
-    pub x1: u64,
-    pub n2: usize,
-    pub x2: u64,
-    pub n3: usize,
-    pub x3: u64,
+    pub kind: u8,
+    pub first: Number,
+    pub second: Number,
+    pub third: Number,
     pub text: bool,
 }
 
-// A record of up to three numbers, with no text.
-fn three(kind: u64, n1: usize, x1: u64, n2: usize, x2: u64, n3: usize, x3: u64) -> Fields
-    ensures { result ≡ numbers kind n1 x1 n2 x2 n3 x3 false }
-{
-    Fields {
-        kind,
-        n1,
-        x1,
-        n2,
-        x2,
-        n3,
-        x3,
-        text: false,
+impl Fields {
+    // A record of the kind alone.
+    fn of(kind: EventKind) -> Fields
+        ensures { result ≡ numbers (kind_number kind) 0 0 0 0 0 0 false }
+    {
+        Fields {
+            kind: kind as u8,
+            first: NO_NUMBER,
+            second: NO_NUMBER,
+            third: NO_NUMBER,
+            text: false,
+        }
     }
 }
 
-fn two(kind: u64, n1: usize, x1: u64, n2: usize, x2: u64) -> Fields
-    ensures { result ≡ numbers kind n1 x1 n2 x2 0 0 false }
-{
-    three(kind, n1, x1, n2, x2, 0, 0)
-}
-
-fn one(kind: u64, n1: usize, x1: u64) -> Fields
-    ensures { result ≡ numbers kind n1 x1 0 0 0 0 false }
-{
-    two(kind, n1, x1, 0, 0)
-}
-
-fn none(kind: u64) -> Fields
-    ensures { result ≡ numbers kind 0 0 0 0 0 0 false }
-{
-    one(kind, 0, 0)
-}
-
-// The same with a text.
-fn texted(f: Fields) -> Fields
-    ensures { result ≡ numbers f.kind f.n1 f.x1 f.n2 f.x2 f.n3 f.x3 true }
-{
-    let mut t = f;
-    t.text = true;
-    t
-}
-
-// That there is an explanation stands in the most significant bit of the byte before it.
-fn disconnected(serial: u32, reason: u32, explained: bool) -> Fields
-    ensures { Laid (Event.Disconnected serial reason explained) result }
-{
-    if explained {
-        return texted(three(14, 4, serial as u64, 4, reason as u64, 1, 128));
-    }
-    three(14, 4, serial as u64, 4, reason as u64, 1, 0)
-}
-
-// An event's record, by its kind.
+// An event's record, by its kind. That there is an explanation stands in the most significant bit of the byte before it.
 fn fields_of(e: Event) -> Fields
     ensures { Laid e result }
 {
     match e {
-        Event::Seat { id, version } => two(1, 8, id, 4, version as u64),
-        Event::Name => texted(none(2)),
-        Event::Capability { mask, interface } => two(3, 8, mask, 1, interface as u64),
-        Event::Done => none(4),
-        Event::Destroyed { serial } => one(5, 4, serial as u64),
-        Event::Device { id, version } => two(6, 8, id, 4, version as u64),
-        Event::DeviceType { value } => one(7, 4, value as u64),
+        Event::Seat { id, version } => Fields {
+            first: id.into(),
+            second: version.into(),
+            ..Fields::of(EventKind::Seat)
+        },
+        Event::Name => Fields {
+            text: true,
+            ..Fields::of(EventKind::Name)
+        },
+        Event::Capability { mask, interface } => Fields {
+            first: mask.into(),
+            second: interface.into(),
+            ..Fields::of(EventKind::Capability)
+        },
+        Event::Done => Fields::of(EventKind::Done),
+        Event::Destroyed { serial } => Fields {
+            first: serial.into(),
+            ..Fields::of(EventKind::Destroyed)
+        },
+        Event::Device { id, version } => Fields {
+            first: id.into(),
+            second: version.into(),
+            ..Fields::of(EventKind::Device)
+        },
+        Event::DeviceType { value } => Fields {
+            first: value.into(),
+            ..Fields::of(EventKind::DeviceType)
+        },
         Event::Interface {
             id,
             interface,
             version,
-        } => three(8, 8, id, 1, interface as u64, 4, version as u64),
-        Event::Resumed { serial } => one(9, 4, serial as u64),
-        Event::Paused { serial } => one(10, 4, serial as u64),
-        Event::StartEmulating { serial, sequence } => two(11, 4, serial as u64, 4, sequence as u64),
-        Event::StopEmulating { serial } => one(12, 4, serial as u64),
-        Event::Frame { serial, time } => two(13, 4, serial as u64, 8, time),
+        } => Fields {
+            first: id.into(),
+            second: interface.into(),
+            third: version.into(),
+            ..Fields::of(EventKind::Interface)
+        },
+        Event::Resumed { serial } => Fields {
+            first: serial.into(),
+            ..Fields::of(EventKind::Resumed)
+        },
+        Event::Paused { serial } => Fields {
+            first: serial.into(),
+            ..Fields::of(EventKind::Paused)
+        },
+        Event::StartEmulating { serial, sequence } => Fields {
+            first: serial.into(),
+            second: sequence.into(),
+            ..Fields::of(EventKind::StartEmulating)
+        },
+        Event::StopEmulating { serial } => Fields {
+            first: serial.into(),
+            ..Fields::of(EventKind::StopEmulating)
+        },
+        Event::Frame { serial, time } => Fields {
+            first: serial.into(),
+            second: time.into(),
+            ..Fields::of(EventKind::Frame)
+        },
         Event::Disconnected {
             serial,
             reason,
             explained,
-        } => disconnected(serial, reason, explained),
-        Event::CallbackDone { value } => one(15, 8, value),
-        Event::HandshakeVersion { version } => one(16, 4, version as u64),
-        Event::InterfaceVersion { interface, version } => {
-            two(17, 1, interface as u64, 4, version as u64)
-        }
+        } => Fields {
+            first: serial.into(),
+            second: reason.into(),
+            third: (if explained { 0x80u8 } else { 0 }).into(),
+            text: explained,
+            ..Fields::of(EventKind::Disconnected)
+        },
+        Event::CallbackDone { value } => Fields {
+            first: value.into(),
+            ..Fields::of(EventKind::CallbackDone)
+        },
+        Event::HandshakeVersion { version } => Fields {
+            first: version.into(),
+            ..Fields::of(EventKind::HandshakeVersion)
+        },
+        Event::InterfaceVersion { interface, version } => Fields {
+            first: interface.into(),
+            second: version.into(),
+            ..Fields::of(EventKind::InterfaceVersion)
+        },
         Event::Connection {
             id,
             serial,
             version,
-        } => three(18, 8, id, 4, serial as u64, 4, version as u64),
+        } => Fields {
+            first: id.into(),
+            second: serial.into(),
+            third: version.into(),
+            ..Fields::of(EventKind::Connection)
+        },
     }
 }
 
@@ -183,7 +266,7 @@ fn fixed(f: Fields) -> usize
     requires { size f ≤ 16 }
     ensures { result ≡ 10 + size f }
 {
-    10 + f.n1 + f.n2 + f.n3
+    10 + f.first.bytes + f.second.bytes + f.third.bytes
 }
 
 // The same of an event.
@@ -199,49 +282,45 @@ pub fn record_length(e: Event, text: &[u8]) -> usize
 {
     let f = fields_of(e);
     if f.text {
-        return fixed(f) + text.len();
+        fixed(f) + text.len()
+    } else {
+        fixed(f)
     }
-    fixed(f)
 }
 
-// The k low bytes of x at a place of the buffer, the most significant first.
-fn put(out: &mut [u8], at: usize, k: usize, x: u64) -> usize
-    requires { at + k ≤ length out.old }
-    ensures { Wrote out.old out.new at k (be k x) result }
-{
-    let mut i = k;
-    let mut v = x;
-    while 0 < i {
-        i -= 1;
-        out[at + i] = (v % 256) as u8;
-        v = v / 256;
-    }
-    at + k
-}
-
-// A text at a place of the buffer, from its last byte to its first.
+// A text at a place of the buffer.
 pub fn put_text(out: &mut [u8], at: usize, text: &[u8]) -> usize
     requires { at + length text.now ≤ length out.old }
     ensures { Wrote out.old out.new at (length text.now) text.now result }
 {
-    let mut i = text.len();
-    while 0 < i {
-        i -= 1;
-        out[at + i] = text[i];
-    }
-    at + text.len()
+    let end = at + text.len();
+    out[at..end].copy_from_slice(text);
+    end
+}
+
+// A number's low bytes at a place of the buffer, the most significant first.
+fn put(out: &mut [u8], at: usize, number: Number) -> usize
+    requires { (number.bytes ≤ 16) × (at + number.bytes ≤ length out.old) }
+    ensures { Wrote out.old out.new at number.bytes (be number.bytes number.value) result }
+{
+    let bytes = u128::from(number.value).to_be_bytes();
+    put_text(out, at, &bytes[16 - number.bytes..])
 }
 
 // A record up to its text. Of its length it has the low 11 bits.
 fn put_start(out: &mut [u8], at: usize, object: u64, f: Fields, total: usize) -> usize
-    requires { (f.kind < 32) × (at + (10 + size f) ≤ length out.old) }
+    requires { (f.kind < 32) × ((size f ≤ 16) × (at + (10 + size f) ≤ length out.old)) }
     ensures { Wrote out.old out.new at (10 + size f) (start object f total) result }
 {
-    let head = put(out, at, 2, f.kind * 2048 + (total % 2048) as u64);
-    let id = put(out, head, 8, object);
-    let one = put(out, id, f.n1, f.x1);
-    let two = put(out, one, f.n2, f.x2);
-    put(out, two, f.n3, f.x3)
+    let head = Number {
+        bytes: 2,
+        value: u64::from(f.kind) * 2048 + (total % 2048) as u64,
+    };
+    let id = put(out, at, head);
+    let first = put(out, id, object.into());
+    let second = put(out, first, f.first);
+    let third = put(out, second, f.second);
+    put(out, third, f.third)
 }
 
 // A record and its text, where there is room for both. The room is a difference, so that no place and no length is too large.
@@ -249,18 +328,10 @@ pub fn put_whole(out: &mut [u8], at: usize, object: u64, f: Fields, text: &[u8])
     requires { (f.kind < 32) × (size f ≤ 16) }
     ensures { PutWhole out.old out.new at (start object f (10 + size f + length text.now) ++ text.now) result }
 {
-    if out.len() < at {
+    let total = fixed(f) + text.len();
+    if out.len() < at || out.len() - at < total {
         return 0;
     }
-    let room = out.len() - at;
-    let least = fixed(f);
-    if room < least {
-        return 0;
-    }
-    if room - least < text.len() {
-        return 0;
-    }
-    let total = least + text.len();
     let behind = put_start(out, at, object, f, total);
     put_text(out, behind, text);
     total
@@ -272,8 +343,6 @@ pub fn put_record(out: &mut [u8], at: usize, object: u64, e: Event, text: &[u8])
     ensures { PutWhole out.old out.new at (event_record object e text.now) result }
 {
     let f = fields_of(e);
-    if f.text {
-        return put_whole(out, at, object, f, text);
-    }
-    put_whole(out, at, object, f, &text[..0])
+    let sent = if f.text { text } else { b"" };
+    put_whole(out, at, object, f, sent)
 }

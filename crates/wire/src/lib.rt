@@ -5,7 +5,7 @@ pub mod backend;
 pub mod event;
 
 // What is wrong with a message (`ParseError` of src/wire/mod.rs). An interface is told by its number, and InvalidId is an answer of its own.
-#[derive(Clone, Copy)]
+#[derive(Clone, Copy, Debug, PartialEq, Eq)]
 pub enum ParseError {
     // End of message while parsing argument.
     EndOfMessage,

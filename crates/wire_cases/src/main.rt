@@ -251,10 +251,8 @@ fn letters() -> [u8; 254]
     ensures { 254 ≡ length result }
 {
     let mut text = [b'a'; 254];
-    let mut i = 0;
-    while i < 254 {
+    for i in 0..254 {
         text[i] = b'a' + (i % 26) as u8;
-        i += 1;
     }
     text
 }

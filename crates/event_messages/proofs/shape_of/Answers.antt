@@ -1,6 +1,5 @@
 -- The shapes that the code has are the definition. Assumes nothing.
 use native.Mathlib.Omega.{arith}
-use borrow.Author.Rules.{rules}
 use Rattle.event_messages.specs.Shape.{no_shape}
 use Rattle.event_messages.proofs.Tables.{shape_in, past_shapes}
 use Rattle.event_messages.proofs.shape_of.Goals as goal

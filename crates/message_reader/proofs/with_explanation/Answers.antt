@@ -1,22 +1,12 @@
 -- No string, or one. Assumes nothing.
 use native.Mathlib.Omega.{arith}
 use mathlib.Core.Path.{sym, ◌∙◌}
-use borrow.Author.Rules.{rules}
 use Rattle.message_reader.proofs.Steps.{no_string, some-string}
 use Rattle.message_reader.proofs.with_explanation.Goals as goal
-
-pub word_at-requires : goal.word_at-requires
-word_at-requires c = search rules
-
-pub overflow_add-result : goal.overflow_add-result
-overflow_add-result c = search rules
 
 pub returns-then-word_at-eq0 : goal.returns-then-word_at-eq0
 returns-then-word_at-eq0 c =
     record { is = sym (no_string _ _ (sym c.word_at.ensures ∙ c.if-word_at-eq0.true)); near = omega arith; inside = omega arith }
-
-pub with_text-requires : goal.with_text-requires
-with_text-requires c = search rules
 
 pub returns : goal.returns
 returns c =

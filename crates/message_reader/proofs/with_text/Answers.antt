@@ -1,6 +1,5 @@
 -- The string's text. Assumes nothing.
 use native.Mathlib.Omega.{arith}
-use borrow.Author.Rules.{rules}
 use Rattle.message_reader.specs.Read.{with_text}
 use Rattle.message_reader.proofs.with_text.Goals as goal
 

@@ -1,5 +1,4 @@
 -- Where the message ends before, 0. Assumes nothing.
-use borrow.Author.Rules.{rules}
 use borrow.Author.Tests.{lt-leb, le-leb}
 use Rattle.message_reader.specs.Read.{word_at}
 use Rattle.message_reader.proofs.word_at.Goals as goal

@@ -1,6 +1,6 @@
 -- There is room for the record, or there is not. Assumes nothing.
+use mathlib.Core.Path.{refl}
 use native.Mathlib.Omega.{arith}
-use borrow.Author.Rules.{rules}
 use Rattle.message_reader.proofs.Back.{fixed-small, fields_so, no_room, record_put}
 use Rattle.message_reader.proofs.write_record.Goals as goal
 
@@ -17,10 +17,10 @@ returns-then-out-size c =
 pub put_whole-requires : goal.put_whole-requires
 put_whole-requires c =
     let h = fixed-small c.args.kind c.shape_of-s.ensures c.requires.0 in
-    (omega arith, omega (arith, c.width-3.ensures.0, c.width-2.ensures.0, c.width.ensures.0))
+    rw (c.number.ensures, c.number-2.ensures, c.number-3.ensures) (omega arith, h)
 
 pub returns : goal.returns
 returns c =
     let a = c.args in
-    let put = rw (fields_so a.object a.kind a.v a.text.now c.shape_of-s.ensures c.width.ensures.0 c.width-2.ensures.0 c.width-3.ensures.0) at c.put_whole.ensures in
+    let put = rw (c.number.ensures, c.number-2.ensures, c.number-3.ensures, fields_so a.object a.kind a.v a.text.now c.shape_of-s.ensures refl refl refl) at c.put_whole.ensures in
     rw c.fixed_size.ensures (record_put a.object a.kind a.v a.text.now c.shape_of-s.ensures (rw c.fixed_size.ensures at c.if-out-size.false) put)

@@ -1,6 +1,5 @@
 -- The header, and the three values. Assumes nothing.
 use native.Mathlib.Omega.{arith}
-use borrow.Author.Rules.{rules}
 use Rattle.event_messages.proofs.Events.{parts}
 use Rattle.message_writer.proofs.Arguments.{text-short, length-arguments}
 use Rattle.message_writer.proofs.message_length.Goals as goal

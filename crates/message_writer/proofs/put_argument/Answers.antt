@@ -4,7 +4,6 @@ use mathlib.Core.List.{List, []}
 use mathlib.Core.Path.{◌≡◌, refl, sym, ap}
 use native.Mathlib.Nat.{add-zero}
 use native.Mathlib.Omega.{arith}
-use borrow.Author.Rules.{rules}
 use borrow.Author.Tests.{ne_eqb}
 use lib.ListN.{length}
 use Rattle.eiproto.specs.Interface.{interface_name}
@@ -12,32 +11,25 @@ use Rattle.wire.specs.Put.{Wrote}
 use Rattle.wire.proofs.Splices.{splice-none}
 use Rattle.event_messages.specs.Message.{le, string, null}
 use Rattle.event_messages.specs.Shape.{sent}
-use Rattle.event_messages.specs.declared.Argument.{Argument}
-use Rattle.message_writer.proofs.Bytes.{puts}
+use Rattle.event_messages.specs.declared.EventArgument.{EventArgument}
+use Rattle.message_writer.proofs.Bytes.{puts, word_sent, word_length}
 use Rattle.message_writer.proofs.Names.{named}
 use Rattle.message_writer.proofs.put_argument.Goals as goal
 
 -- an explanation that is given, and one that is not
-explained : {a : Argument} (x : ℕ) (t : List ℕ) → a ≡ Argument.Explanation → x ≡ 128 → sent a x t ≡ string t
+explained : {a : EventArgument} (x : ℕ) (t : List ℕ) → a ≡ EventArgument.Explanation → x ≡ 128 → sent a x t ≡ string t
 unfolding sent
 explained x t e h = rw (e, h)
 
-withheld : {a : Argument} (x : ℕ) (t : List ℕ) → a ≡ Argument.Explanation → (x ≡ 128 → ⊥) → sent a x t ≡ null
+withheld : {a : EventArgument} (x : ℕ) (t : List ℕ) → a ≡ EventArgument.Explanation → (x ≡ 128 → ⊥) → sent a x t ≡ null
 unfolding sent
 withheld x t e h = rw (e, ne_eqb x 128 h)
-
-pub put-requires : goal.put-requires
-unfolding sent le
-put-requires c =
-    let a = c.args in
-    let n : length (sent a.argument a.x a.text.now) ≡ 4 = ap (λ (b : Argument). length (sent b a.x a.text.now)) c.in-Uint32.is in
-    omega arith
 
 pub put-requires-in-Uint64 : goal.put-requires-in-Uint64
 unfolding sent le
 put-requires-in-Uint64 c =
     let a = c.args in
-    let n : length (sent a.argument a.x a.text.now) ≡ 8 = ap (λ (b : Argument). length (sent b a.x a.text.now)) c.in-Uint64.is in
+    let n : length (sent a.argument a.x a.text.now) ≡ 8 = ap (λ (b : EventArgument). length (sent b a.x a.text.now)) c.in-Uint64.is in
     omega arith
 
 pub overflow_cast-x : goal.overflow_cast-x
@@ -49,28 +41,14 @@ pub put_name-requires : goal.put_name-requires
 unfolding sent
 put_name-requires c =
     let a = c.args in
-    let n : length (sent a.argument a.x a.text.now) ≡ length (string (interface_name a.x)) = ap (λ (b : Argument). length (sent b a.x a.text.now)) c.in-Interface.is in
-    omega arith
-
-pub put-requires-in-Reason : goal.put-requires-in-Reason
-unfolding sent le
-put-requires-in-Reason c =
-    let a = c.args in
-    let n : length (sent a.argument a.x a.text.now) ≡ 4 = ap (λ (b : Argument). length (sent b a.x a.text.now)) c.in-Reason.is in
-    omega arith
-
-pub put-requires-in-DeviceType : goal.put-requires-in-DeviceType
-unfolding sent le
-put-requires-in-DeviceType c =
-    let a = c.args in
-    let n : length (sent a.argument a.x a.text.now) ≡ 4 = ap (λ (b : Argument). length (sent b a.x a.text.now)) c.in-DeviceType.is in
+    let n : length (sent a.argument a.x a.text.now) ≡ length (string (interface_name a.x)) = ap (λ (b : EventArgument). length (sent b a.x a.text.now)) c.in-Interface.is in
     omega arith
 
 pub put_string-requires : goal.put_string-requires
 unfolding sent
 put_string-requires c =
     let a = c.args in
-    let n : length (sent a.argument a.x a.text.now) ≡ length (string a.text.now) = ap (λ (b : Argument). length (sent b a.x a.text.now)) c.in-Text.is in
+    let n : length (sent a.argument a.x a.text.now) ≡ length (string a.text.now) = ap (λ (b : EventArgument). length (sent b a.x a.text.now)) c.in-Text.is in
     (omega arith, omega arith)
 
 pub put_string-requires-then-x-eq128 : goal.put_string-requires-then-x-eq128
@@ -100,46 +78,39 @@ unfolding sent
 returns-in-None c =
     let a = c.args in
     let nothing : Wrote a.out.now a.out.now a.at 0 [] a.at = record { buffer = sym (splice-none a.out.now a.at); long = refl; next = sym (add-zero a.at) } in
-    puts nothing (sym (ap (λ (b : Argument). sent b a.x a.text.now) c.in-None.is))
-
-pub returns-in-Uint32 : goal.returns-in-Uint32
-unfolding sent
-returns-in-Uint32 c =
-    let a = c.args in
-    puts c.put.ensures (sym (ap (λ (b : Argument). sent b a.x a.text.now) c.in-Uint32.is))
+    puts nothing (sym (ap (λ (b : EventArgument). sent b a.x a.text.now) c.in-None.is))
 
 pub returns-in-Uint64 : goal.returns-in-Uint64
 unfolding sent
 returns-in-Uint64 c =
     let a = c.args in
-    puts c.put-in-Uint64.ensures (sym (ap (λ (b : Argument). sent b a.x a.text.now) c.in-Uint64.is))
+    puts c.put-in-Uint64.ensures (sym (ap (λ (b : EventArgument). sent b a.x a.text.now) c.in-Uint64.is))
 
 pub returns-in-Interface : goal.returns-in-Interface
 unfolding sent
 returns-in-Interface c =
     let a = c.args in
-    puts c.put_name.ensures (sym (ap (λ (b : Argument). sent b a.x a.text.now) c.in-Interface.is))
-
-pub returns-in-Reason : goal.returns-in-Reason
-unfolding sent
-returns-in-Reason c =
-    let a = c.args in
-    puts c.put-in-Reason.ensures (sym (ap (λ (b : Argument). sent b a.x a.text.now) c.in-Reason.is))
-
-pub returns-in-DeviceType : goal.returns-in-DeviceType
-unfolding sent
-returns-in-DeviceType c =
-    let a = c.args in
-    puts c.put-in-DeviceType.ensures (sym (ap (λ (b : Argument). sent b a.x a.text.now) c.in-DeviceType.is))
+    puts c.put_name.ensures (sym (ap (λ (b : EventArgument). sent b a.x a.text.now) c.in-Interface.is))
 
 pub returns-in-Text : goal.returns-in-Text
 unfolding sent
 returns-in-Text c =
     let a = c.args in
-    puts c.put_string.ensures (sym (ap (λ (b : Argument). sent b a.x a.text.now) c.in-Text.is))
+    puts c.put_string.ensures (sym (ap (λ (b : EventArgument). sent b a.x a.text.now) c.in-Text.is))
 
 pub returns-else-x-eq128 : goal.returns-else-x-eq128
 unfolding sent
 returns-else-x-eq128 c =
     let a = c.args in
     puts c.put-in-Explanation.ensures (sym (withheld a.x a.text.now c.in-Explanation.is c.if-x-eq128.false))
+
+pub put-requires : goal.put-requires
+put-requires c =
+    let a = c.args in
+    let n = word_length a.x a.text.now c.in-Uint32.is in
+    omega arith
+
+pub returns-in-Uint32 : goal.returns-in-Uint32
+returns-in-Uint32 c =
+    let a = c.args in
+    puts c.put.ensures (sym (word_sent a.x a.text.now c.in-Uint32.is))

@@ -1,6 +1,5 @@
 -- Three values, each written behind the one before. Assumes nothing.
 use native.Mathlib.Omega.{arith}
-use borrow.Author.Rules.{rules}
 use Rattle.wire.proofs.Splices.{wrote_join}
 use Rattle.event_messages.specs.Shape.{sent_arguments}
 use Rattle.event_messages.proofs.Events.{parts}

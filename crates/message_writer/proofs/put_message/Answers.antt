@@ -1,6 +1,5 @@
 -- The header's three numbers and the values, each written behind the one before. Assumes nothing.
 use native.Mathlib.Omega.{arith}
-use borrow.Author.Rules.{rules}
 use Rattle.wire.proofs.Splices.{wrote_join}
 use Rattle.event_messages.specs.Message.{message}
 use Rattle.message_writer.proofs.Bytes.{puts}

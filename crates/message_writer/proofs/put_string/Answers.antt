@@ -1,6 +1,5 @@
 -- The length, the text and the zeros, each behind the one before. Assumes nothing.
 use native.Mathlib.Omega.{arith}
-use borrow.Author.Rules.{rules}
 use Rattle.wire.proofs.Splices.{wrote_join}
 use Rattle.message_writer.proofs.Bytes.{length-string, string_is, puts}
 use Rattle.message_writer.proofs.put_string.Goals as goal

@@ -1,13 +1,12 @@
 -- Each value has its own length. Assumes nothing.
 use Prim.Native.Nat.{◌≤◌}
-use mathlib.Core.Path.{refl}
+use mathlib.Core.Path.{refl, sym}
 use native.Mathlib.Omega.{arith}
-use borrow.Author.Rules.{rules}
 use borrow.Author.Tests.{eq-eqb, ne_eqb}
 use Rattle.eiproto.specs.Interface.{interface_name}
 use Rattle.event_messages.specs.Message.{le}
 use Rattle.event_messages.specs.Shape.{sent}
-use Rattle.message_writer.proofs.Bytes.{length-string}
+use Rattle.message_writer.proofs.Bytes.{length-string, word_length}
 use Rattle.message_writer.proofs.Names.{name-short, named}
 use Rattle.message_writer.proofs.sent_length.Goals as goal
 
@@ -30,10 +29,6 @@ pub returns-in-None : goal.returns-in-None
 unfolding sent
 returns-in-None c = rw c.in-None.is (refl, omega arith)
 
-pub returns-in-Uint32 : goal.returns-in-Uint32
-unfolding sent le
-returns-in-Uint32 c = rw c.in-Uint32.is (refl, omega arith)
-
 pub returns-in-Uint64 : goal.returns-in-Uint64
 unfolding sent le
 returns-in-Uint64 c = rw c.in-Uint64.is (refl, omega arith)
@@ -45,14 +40,6 @@ returns-in-Interface c =
     let x = c.args.x in
     (rw (c.in-Interface.is, length-string (interface_name x), ← c.name_len.ensures) e, omega (arith, name-short x))
 
-pub returns-in-Reason : goal.returns-in-Reason
-unfolding sent le
-returns-in-Reason c = rw c.in-Reason.is (refl, omega arith)
-
-pub returns-in-DeviceType : goal.returns-in-DeviceType
-unfolding sent le
-returns-in-DeviceType c = rw c.in-DeviceType.is (refl, omega arith)
-
 pub returns-in-Text : goal.returns-in-Text
 unfolding sent
 returns-in-Text c =
@@ -63,3 +50,6 @@ returns-in-Text c =
 pub returns-else-x-eq128 : goal.returns-else-x-eq128
 unfolding sent le
 returns-else-x-eq128 c = (rw (c.in-Explanation.is, ne_eqb _ _ c.if-x-eq128.false), omega arith)
+
+pub returns-in-Uint32 : goal.returns-in-Uint32
+returns-in-Uint32 c = (sym (word_length c.args.x c.args.text.now c.in-Uint32.is), omega arith)

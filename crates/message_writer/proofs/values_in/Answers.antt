@@ -1,5 +1,4 @@
 -- Three numbers, each behind the one before. Assumes nothing.
-use borrow.Author.Rules.{rules}
 use Rattle.message_writer.specs.Number.{values_in}
 use Rattle.message_writer.proofs.values_in.Goals as goal
 
@@ -9,4 +8,4 @@ returns c =
     let w1 = c.width-a.ensures.0 in
     let w2 = c.width-b.ensures.0 in
     let w3 = c.width-c.ensures.0 in
-    rw (c.number_at-first.ensures, c.number_at-second.ensures, c.number_at-third.ensures, w1, w2, w3)
+    rw (c.number_at.ensures, c.number_at-2.ensures, c.number_at-3.ensures, w1, w2, w3)

@@ -4,7 +4,6 @@ use mathlib.Core.List.{List}
 use mathlib.Core.Path.{◌≡◌, refl, sym, ap, ◌∙◌}
 use native.Mathlib.Nat.{zero-add}
 use native.Mathlib.Omega.{arith}
-use borrow.Author.Rules.{rules}
 use borrow.Author.Tests.{not-true, not-false}
 use lib.ListN.{length, take, drop, length-append, length-drop}
 use lib.Seq.{take_all}
@@ -55,14 +54,14 @@ unfolding message
 returns-then-out-length c =
     let bytes_at : List ℕ = c.args.bytes.now in
     let text_at : List ℕ = take (length bytes_at - c.fixed_size-fixed.result) (drop c.fixed_size-fixed.result bytes_at) in
-    let written_at : List ℕ = message (big_at bytes_at 2 8) c.in-Number.opcode (sent_arguments c.shape_of-s.result c.values_in-v.result text_at) in
+    let written_at : List ℕ = message (big_at bytes_at 2 8) c.in-Some.opcode (sent_arguments c.shape_of-s.result c.values_in-v.result text_at) in
     let standing_at : Stands c.args.interface bytes_at written_at = let fixed = c.fixed_size-fixed.result in
     accepted c.shape_of-s.ensures c.fixed_size-fixed.ensures c.values_in-v.ensures
     (take_all (length bytes_at - fixed) (drop fixed bytes_at) (omega (arith, length-drop fixed bytes_at)))
-    c.in-Number.opcode
+    c.in-Some.opcode
     (omega arith)
     c.if-said-size.false
-    (rw c.in-Number.is at c.opcode_of.ensures)
+    (rw c.in-Some.is at c.opcode_of.ensures)
     (omega arith)
     (sym c.sendable.ensures ∙ not-false _ (not_from_true _ c.if-not-sendable.false))
     (λ i. omega (arith, c.shared_slice_known-4-1.given i)) in
@@ -78,14 +77,14 @@ unfolding message
 returns c =
     let bytes_at : List ℕ = c.args.bytes.now in
     let text_at : List ℕ = take (length bytes_at - c.fixed_size-fixed.result) (drop c.fixed_size-fixed.result bytes_at) in
-    let written_at : List ℕ = message (big_at bytes_at 2 8) c.in-Number.opcode (sent_arguments c.shape_of-s.result c.values_in-v.result text_at) in
+    let written_at : List ℕ = message (big_at bytes_at 2 8) c.in-Some.opcode (sent_arguments c.shape_of-s.result c.values_in-v.result text_at) in
     let standing_at : Stands c.args.interface bytes_at written_at = let fixed = c.fixed_size-fixed.result in
     accepted c.shape_of-s.ensures c.fixed_size-fixed.ensures c.values_in-v.ensures
     (take_all (length bytes_at - fixed) (drop fixed bytes_at) (omega (arith, length-drop fixed bytes_at)))
-    c.in-Number.opcode
+    c.in-Some.opcode
     (omega arith)
     c.if-said-size.false
-    (rw c.in-Number.is at c.opcode_of.ensures)
+    (rw c.in-Some.is at c.opcode_of.ensures)
     (omega arith)
     (sym c.sendable.ensures ∙ not-false _ (not_from_true _ c.if-not-sendable.false))
     (λ i. omega (arith, c.shared_slice_known-4-1.given i)) in

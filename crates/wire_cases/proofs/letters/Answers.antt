@@ -1,11 +1,10 @@
--- `wire_cases::letters` meets its contract. The loop's invariant: the text keeps its length. Assumes nothing.
+-- The loop's invariant: the text keeps its length. Assumes nothing.
 use mathlib.Core.Path.{sym}
-use borrow.Author.Rules.{rules}
 use lib.ListN.{length-set}
 use Rattle.wire_cases.proofs.letters.Goals as goal
 
 pub loop-i-preserved : goal.loop-i-preserved
-loop-i-preserved c = (search rules, simp length-set c.loop-i.invariant.1)
+loop-i-preserved c = simp length-set c.loop-i.invariant
 
 pub returns : goal.returns
-returns c = sym c.loop-i.invariant.1
+returns c = sym c.loop-i.invariant

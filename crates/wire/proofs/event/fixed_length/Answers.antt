@@ -1,6 +1,5 @@
 -- `wire::event::fixed_length` meets its contract: ten bytes, and those of the numbers. Assumes nothing.
 use mathlib.Core.Path.{sym, ◌∙◌}
-use borrow.Author.Rules.{rules}
 use Rattle.wire.proofs.Records.{fixed_is}
 use Rattle.wire.proofs.event.fixed_length.Goals as goal
 
