@@ -15,9 +15,7 @@ pub mod record;
 pub fn record_count(records: &[u64], points: &[f32]) -> usize
     ensures { result ≡ record_count records.now points.now }
 {
-    let n = records.len() / record::RECORD_WORDS;
-    let m = points.len() / record::RECORD_REALS;
-    if n < m { n } else { m }
+    (records.len() / record::RECORD_WORDS).min(points.len() / record::RECORD_REALS)
 }
 
 // Whether the slices hold whole records and nothing else, and each is a request's.
@@ -25,18 +23,14 @@ pub fn are_requests(records: &[u64], points: &[f32]) -> bool
     ensures { result ≡ are_requests records.now points.now }
 {
     let n = record_count(records, points);
-    if records.len() != n * record::RECORD_WORDS {
+    if records.len() != n * record::RECORD_WORDS || points.len() != n * record::RECORD_REALS {
         return false;
     }
-    if points.len() != n * record::RECORD_REALS {
-        return false;
-    }
-    let mut i = 0;
-    while i < n {
+    // By `(0..n).all(..)` it was tried, and the check did not find the proof.
+    for i in 0..n {
         if !record::is_request(record::cell_at(records, points, i)) {
             return false;
         }
-        i += 1;
     }
     true
 }
@@ -57,6 +51,7 @@ pub fn handle_requests(
 {
     let n = record_count(records, points);
     let mut sofar = reads::begin(control, words, reals, texts);
+    // The answer counts the records and tells when to stop, so a `for` over places would count them twice.
     while reads::goes_on(sofar, n) {
         let one = record::record_at(records, points, sofar.accepted);
         sofar = reads::handle_record(control, words, reals, texts, one, lent, clock, out, sofar);

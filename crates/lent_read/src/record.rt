@@ -17,7 +17,7 @@ pub const RECORD_WORDS: usize = 8;
 pub const RECORD_REALS: usize = 2;
 
 // A record's numbers: which request, on what object, its arguments that are whole numbers and those that are reals, and the part of its text.
-#[derive(Clone, Copy)]
+#[derive(Clone, Copy, Debug, PartialEq)]
 pub struct RequestCell {
     pub request: u64,
     pub object: u64,
@@ -32,33 +32,28 @@ pub struct RequestCell {
 }
 
 // The request that the numbers mean. A number too wide for its field is cut, and a request past the last means Pingpong's Done, which does nothing.
+// An arm for each number, as `meanings` of specs/Numbers has them: any number means some request, and C hands them.
+#[tactic(auto, unfolding(crate::specs::Numbers::request_of))]
 pub fn request_of(c: RequestCell) -> Request
     ensures { result ≡ request_of c }
 {
-    let number = c.request;
-    // The arguments as the requests read them.
-    let dx = row::amount(c.first);
-    let dy = row::amount(c.second);
-    let button = row::button_state(c.second);
-    let key = row::key_state(c.second);
-    let third = row::low(c.third);
-    let second = row::low(c.second);
-    let first = row::low(c.first);
-    match number {
+    match c.request {
         numbers::HANDSHAKE_VERSION => Request::Handshake(HandshakeRequest::HandshakeVersion {
-            version: first,
+            version: row::low(c.first),
         }),
         numbers::HANDSHAKE_FINISH => Request::Handshake(HandshakeRequest::Finish),
         numbers::HANDSHAKE_CONTEXT_TYPE => Request::Handshake(HandshakeRequest::ContextType {
-            context_type: first,
+            context_type: row::low(c.first),
         }),
         numbers::HANDSHAKE_NAME => Request::Handshake(HandshakeRequest::Name),
         numbers::HANDSHAKE_INTERFACE_VERSION => Request::Handshake(
-            HandshakeRequest::InterfaceVersion { version: first },
+            HandshakeRequest::InterfaceVersion {
+                version: row::low(c.first),
+            },
         ),
         numbers::CONNECTION_SYNC => Request::Connection(ConnectionRequest::Sync {
             callback: c.first,
-            version: second,
+            version: row::low(c.second),
         }),
         numbers::CONNECTION_DISCONNECT => Request::Connection(ConnectionRequest::Disconnect),
         numbers::PINGPONG_DONE => Request::PingpongDone,
@@ -71,14 +66,14 @@ pub fn request_of(c: RequestCell) -> Request
         }),
         numbers::DEVICE_RELEASE => Request::Device(DeviceRequest::Release),
         numbers::DEVICE_START_EMULATING => Request::Device(DeviceRequest::StartEmulating {
-            last_serial: first,
-            sequence: second,
+            last_serial: row::low(c.first),
+            sequence: row::low(c.second),
         }),
         numbers::DEVICE_STOP_EMULATING => Request::Device(DeviceRequest::StopEmulating {
-            last_serial: first,
+            last_serial: row::low(c.first),
         }),
         numbers::DEVICE_FRAME => Request::Device(DeviceRequest::Frame {
-            last_serial: first,
+            last_serial: row::low(c.first),
             timestamp: c.second,
         }),
         numbers::DEVICE_READY => Request::Device(DeviceRequest::Ready),
@@ -104,13 +99,16 @@ pub fn request_of(c: RequestCell) -> Request
             ScrollRequest::Scroll { x: c.x, y: c.y },
         )),
         numbers::SCROLL_SCROLL_DISCRETE => Request::Interface(InterfaceRequest::Scroll(
-            ScrollRequest::ScrollDiscrete { x: dx, y: dy },
+            ScrollRequest::ScrollDiscrete {
+                x: row::amount(c.first),
+                y: row::amount(c.second),
+            },
         )),
         numbers::SCROLL_SCROLL_STOP => Request::Interface(InterfaceRequest::Scroll(
             ScrollRequest::ScrollStop {
-                x: first,
-                y: second,
-                is_cancel: third,
+                x: row::low(c.first),
+                y: row::low(c.second),
+                is_cancel: row::low(c.third),
             },
         )),
         numbers::BUTTON_RELEASE => Request::Interface(InterfaceRequest::Button(
@@ -118,8 +116,8 @@ pub fn request_of(c: RequestCell) -> Request
         )),
         numbers::BUTTON_BUTTON => Request::Interface(InterfaceRequest::Button(
             ButtonRequest::Button {
-                button: first,
-                state: button,
+                button: row::low(c.first),
+                state: row::button_state(c.second),
             },
         )),
         numbers::KEYBOARD_RELEASE => Request::Interface(InterfaceRequest::Keyboard(
@@ -127,8 +125,8 @@ pub fn request_of(c: RequestCell) -> Request
         )),
         numbers::KEYBOARD_KEY => Request::Interface(InterfaceRequest::Keyboard(
             KeyboardRequest::Key {
-                key: first,
-                state: key,
+                key: row::low(c.first),
+                state: row::key_state(c.second),
             },
         )),
         numbers::TOUCHSCREEN_RELEASE => Request::Interface(InterfaceRequest::Touchscreen(
@@ -136,48 +134,54 @@ pub fn request_of(c: RequestCell) -> Request
         )),
         numbers::TOUCHSCREEN_DOWN => Request::Interface(InterfaceRequest::Touchscreen(
             TouchscreenRequest::Down {
-                touchid: first,
+                touchid: row::low(c.first),
                 x: c.x,
                 y: c.y,
             },
         )),
         numbers::TOUCHSCREEN_MOTION => Request::Interface(InterfaceRequest::Touchscreen(
             TouchscreenRequest::Motion {
-                touchid: first,
+                touchid: row::low(c.first),
                 x: c.x,
                 y: c.y,
             },
         )),
         numbers::TOUCHSCREEN_UP => Request::Interface(InterfaceRequest::Touchscreen(
-            TouchscreenRequest::Up { touchid: first },
+            TouchscreenRequest::Up {
+                touchid: row::low(c.first),
+            },
         )),
         numbers::TOUCHSCREEN_CANCEL => Request::Interface(InterfaceRequest::Touchscreen(
-            TouchscreenRequest::Cancel { touchid: first },
+            TouchscreenRequest::Cancel {
+                touchid: row::low(c.first),
+            },
         )),
         numbers::TEXT_RELEASE => Request::Interface(InterfaceRequest::Text(TextRequest::Release)),
         numbers::TEXT_KEYSYM => Request::Interface(InterfaceRequest::Text(TextRequest::Keysym {
-            keysym: first,
-            state: key,
+            keysym: row::low(c.first),
+            state: row::key_state(c.second),
         })),
         numbers::TEXT_UTF8 => Request::Interface(InterfaceRequest::Text(TextRequest::Utf8)),
         _ => Request::PingpongDone,
     }
 }
 
+#[tactic(auto, unfolding(crate::specs::Numbers::record_of))]
 fn record_of(c: RequestCell) -> RequestRecord
     ensures { result ≡ record_of c }
 {
-    let request = request_of(c);
     RequestRecord {
         object: c.object,
         version: row::low(c.version),
-        request,
+        request: request_of(c),
         start: c.start as usize,
         length: c.length as usize,
     }
 }
 
 // The numbers of a request, on no object and with no part: one whose arguments are whole numbers, and one that has reals too.
+// The latter by `..with_numbers(..)` was tried, and is not proved: its contract leaves the object and the part open.
+#[tactic(auto, unfolding(crate::specs::Numbers::request_of))]
 fn with_numbers(number: u64, first: u64, second: u64, third: u64) -> RequestCell
     ensures { request_of result ≡ request_of (arguments_of number first second third result.x result.y) }
 {
@@ -195,6 +199,7 @@ fn with_numbers(number: u64, first: u64, second: u64, third: u64) -> RequestCell
     }
 }
 
+#[tactic(auto, unfolding(crate::specs::Numbers::request_of))]
 fn with_reals(number: u64, first: u64, x: f32, y: f32) -> RequestCell
     ensures { request_of result ≡ request_of (arguments_of number first 0 0 x y) }
 {
@@ -213,6 +218,7 @@ fn with_reals(number: u64, first: u64, x: f32, y: f32) -> RequestCell
 }
 
 // The request as numbers: they mean the request again, every float and signed amount as it was.
+#[tactic(auto, using(requests::proofs::Cells::low_is, requests::proofs::Cells::button_is, requests::proofs::Cells::key_is), unfolding(crate::specs::Numbers::request_of))]
 fn request_cell(request: Request) -> RequestCell
     ensures { request_of result ≡ request }
 {
@@ -387,22 +393,16 @@ fn request_cell(request: Request) -> RequestCell
 }
 
 // A record as numbers, which mean that record.
+#[tactic(auto, unfolding(crate::specs::Numbers::request_of, crate::specs::Numbers::record_of))]
 fn cell_of(one: RequestRecord) -> RequestCell
     ensures { record_of result ≡ one }
 {
-    let request = one.request;
-    let c = request_cell(request);
     RequestCell {
-        request: c.request,
         object: one.object,
-        version: one.version as u64,
-        first: c.first,
-        second: c.second,
-        third: c.third,
+        version: u64::from(one.version),
         start: one.start as u64,
         length: one.length as u64,
-        x: c.x,
-        y: c.y,
+        ..request_cell(one.request)
     }
 }
 
@@ -410,45 +410,47 @@ fn cell_of(one: RequestRecord) -> RequestCell
 fn has_state(number: u64) -> bool
     ensures { result ≡ has_state number }
 {
-    match number {
-        numbers::BUTTON_BUTTON => true,
-        numbers::KEYBOARD_KEY => true,
-        numbers::TEXT_KEYSYM => true,
-        _ => false,
-    }
+    matches!(
+        number,
+        numbers::BUTTON_BUTTON | numbers::KEYBOARD_KEY | numbers::TEXT_KEYSYM
+    )
 }
 
 // Whether the numbers stand for a case of each enum: the request's for a request, and a state for a press or a release.
 pub fn is_request(c: RequestCell) -> bool
     ensures { result ≡ is_request c }
 {
-    if numbers::TEXT_UTF8 < c.request {
-        return false;
-    }
-    if has_state(c.request) {
-        return c.second <= 1;
-    }
-    true
+    c.request <= numbers::TEXT_UTF8 && (!has_state(c.request) || c.second <= 1)
 }
 
 // The numbers at a place.
+#[tactic(auto, unfolding(crate::specs::Numbers::cell_at))]
 pub fn cell_at(records: &[u64], points: &[f32], i: usize) -> RequestCell
     requires { Within records.now points.now i }
     ensures { result ≡ cell_at records.now points.now i }
 {
-    let w = i * RECORD_WORDS;
-    let r = i * RECORD_REALS;
+    let [
+        request,
+        object,
+        version,
+        first,
+        second,
+        third,
+        start,
+        length,
+    ] = row::entries::<u64, RECORD_WORDS>(records, i);
+    let [x, y] = row::entries::<f32, RECORD_REALS>(points, i);
     RequestCell {
-        request: records[w],
-        object: records[w + 1],
-        version: records[w + 2],
-        first: records[w + 3],
-        second: records[w + 4],
-        third: records[w + 5],
-        start: records[w + 6],
-        length: records[w + 7],
-        x: points[r],
-        y: points[r + 1],
+        request,
+        object,
+        version,
+        first,
+        second,
+        third,
+        start,
+        length,
+        x,
+        y,
     }
 }
 
@@ -464,18 +466,14 @@ fn write_cell(records: &mut [u64], points: &mut [f32], i: usize, c: RequestCell)
     requires { Within records.old points.old i }
     ensures { Put (cell_at records.old points.old) (cell_at records.new points.new) i c }
 {
-    let w = i * RECORD_WORDS;
-    let r = i * RECORD_REALS;
-    records[w] = c.request;
-    records[w + 1] = c.object;
-    records[w + 2] = c.version;
-    records[w + 3] = c.first;
-    records[w + 4] = c.second;
-    records[w + 5] = c.third;
-    records[w + 6] = c.start;
-    records[w + 7] = c.length;
-    points[r] = c.x;
-    points[r + 1] = c.y;
+    row::put_entries(
+        records,
+        i,
+        [
+            c.request, c.object, c.version, c.first, c.second, c.third, c.start, c.length,
+        ],
+    );
+    row::put_entries(points, i, [c.x, c.y]);
 }
 
 // Stores a record at a place.

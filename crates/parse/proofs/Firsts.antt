@@ -1,6 +1,6 @@
 -- A first message that was read: its length, and that its text lies within it. Assumes nothing.
 use Prim.Native.Nat.{ℕ, ◌+◌, ◌≤◌}
-use mathlib.Core.Path.{◌≡◌, refl, sym}
+use mathlib.Core.Path.{◌≡◌, refl, sym, ap}
 use mathlib.Core.Bool.{Bool, true, false, ◌||◌, cond, false≢true}
 use mathlib.Core.List.{List}
 use native.Mathlib.Omega.{arith}
@@ -9,9 +9,9 @@ use lib.Dec.{ltb}
 use lib.ListN.{length, take}
 use Rattle.parse.specs.declared.Arguments.{Arguments}
 use Rattle.parse.specs.declared.First.{First}
-use Rattle.parse.specs.declared.Parsed.{Parsed}
-use Rattle.parse.specs.Parse.{le32, parsed}
-use Rattle.parse.specs.First.{first_as, first_of}
+use Rattle.parse.specs.Parse.{Parsed, le32, parsed}
+use Rattle.std.specs.Prelude.{Ok, Err}
+use Rattle.parse.specs.First.{ReadFirst, read, first_as, first_of}
 use Rattle.parse.proofs.Parts.{text-within}
 
 pub record IsFirst (bytes : List ℕ) (a : Arguments) (n : ℕ) : Type 0 where
@@ -21,7 +21,7 @@ pub record IsFirst (bytes : List ℕ) (a : Arguments) (n : ℕ) : Type 0 where
   pub text : a.start + a.length ≤ length (take n bytes)
 
 -- by which side a test came to it
-either : {P : Type 0} (t : Bool) {x y z : First} → (t ≡ true → x ≡ z → P) → (t ≡ false → y ≡ z → P) → cond t x y ≡ z → P
+either : {P : Type 0} (t : Bool) {x y z : ReadFirst} → (t ≡ true → x ≡ z → P) → (t ≡ false → y ≡ z → P) → cond t x y ≡ z → P
 either true f g = f refl
 either false f g = g refl
 
@@ -33,15 +33,16 @@ limits n = go (ltb n 16) refl
     go false e h = (ltb-false n 16 e, ltb-false 1024 n h)
 
 module _ (interface : ℕ) (m : List ℕ) (a : Arguments) (n : ℕ) where
-  whole : (k : ℕ) (p : Parsed) → 16 ≤ k → k ≤ 1024 → k ≤ length m → parsed interface (take k m) ≡ p → first_as k p ≡ First.Read a n → IsFirst m a n
+  whole : (k : ℕ) (p : Parsed) → 16 ≤ k → k ≤ 1024 → k ≤ length m → parsed interface (take k m) ≡ p → first_as k p ≡ read a n → IsFirst m a n
   unfolding first_as
-  whole k (Parsed.Malformed e) l u r q s = absurd (let z : ◌≡◌ {A = ℕ} 0 1 = cc in omega arith)
-  whole k (Parsed.Read b) l u r q s =
-      let x : b ≡ a = cc in
-      let y : k ≡ n = cc in
+  whole k (Err e) l u r q s = absurd (let z : ◌≡◌ {A = ℕ} 0 1 = cc in omega arith)
+  whole k (Ok b) l u r q s =
+      let f : ◌≡◌ {A = First} (record { arguments = b; length = k }) (record { arguments = a; length = n }) = cc in
+      let x : b ≡ a = ap (λ (z : First). z.arguments) f in
+      let y : k ≡ n = ap (λ (z : First). z.length) f in
       record { least = rw y at l; most = rw y at u; room = rw y at r; text = rw (x, y) at (text-within (take k m) interface b q) }
 
-  pub first-within : First.Read a n ≡ first_of interface m → IsFirst m a n
+  pub first-within : read a n ≡ first_of interface m → IsFirst m a n
   unfolding first_of
   first-within e =
       let k = le32 m 8 in

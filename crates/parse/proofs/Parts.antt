@@ -11,12 +11,11 @@ use Rattle.utf8.specs.Rfc3629.{is_utf8}
 use Rattle.wire.specs.declared.ParseError.{ParseError}
 use Rattle.parse.specs.declared.Argument.{Argument}
 use Rattle.parse.specs.declared.Arguments.{Arguments}
-use Rattle.parse.specs.declared.Found.{Found}
 use Rattle.parse.specs.declared.Progress.{Progress}
-use Rattle.parse.specs.declared.Walk.{Walk}
-use Rattle.parse.specs.declared.Parsed.{Parsed}
-use Rattle.parse.specs.Parse.{le32, with_number, with_real, with_text, padded, text_at, needing, word_read, double_word_read, real_read, text_read, variant_read, read_by, argument_read, begun, ended, parsed_as, parsed}
-use Rattle.parse.specs.Table.{signature_of}
+use Rattle.std.specs.Prelude.{Ok, Err, Some}
+use Rattle.std.specs.Prelude as rust
+use Rattle.parse.specs.Parse.{Walk, le32, with_number, with_real, with_text, padded, text_at, needing, word_read, double_word_read, real_read, text_read, variant_read, read_by, argument_read, begun, ended, parsed_as, parsed}
+use Rattle.parse.specs.Table.{Found, signature_of}
 
 either : {A : Type 0} (P : A → Type 0) (t : Bool) {x y : A} → (t ≡ true → P x) → (t ≡ false → P y) → P (cond t x y)
 either P true f g = f refl
@@ -28,12 +27,12 @@ module _ (m : List ℕ) where
   Inside p = p.read.start + p.read.length ≤ length m
 
   abbrev Within : Walk → Type 0
-  Within w = (p : Progress) → w ≡ Walk.Reading p → Inside p
+  Within w = (p : Progress) → w ≡ Ok p → Inside p
 
-  malformed : (e : ParseError) → Within (Walk.Malformed e)
+  malformed : (e : ParseError) → Within (Err e)
   malformed e p q = absurd (let z : ◌≡◌ {A = ℕ} 0 1 = cc in omega arith)
 
-  reading : (p : Progress) → Inside p → Within (Walk.Reading p)
+  reading : (p : Progress) → Inside p → Within (Ok p)
   reading p h q e = let k : p ≡ q = cc in rw k at h
 
   needed : (at count : ℕ) {w : Walk} → (at + count ≤ length m → Within w) → Within (needing m at count w)
@@ -41,7 +40,7 @@ module _ (m : List ℕ) where
   needed at count h = either Within (leb (at + count) (length m)) (λ t. h (leb-true _ _ t)) (λ _. malformed ParseError.EndOfMessage)
 
   -- a number leaves the text as it is
-  numbered : (p : Progress) (next n : ℕ) → Inside p → Within (Walk.Reading (with_number p next n))
+  numbered : (p : Progress) (next n : ℕ) → Inside p → Within (Ok (with_number p next n))
   unfolding with_number
   numbered p next n h = reading _ (either Inside (eqb p.numbers 0) (λ _. h) (λ _. either Inside (eqb p.numbers 1) (λ _. h) (λ _. h)))
 
@@ -73,24 +72,24 @@ module _ (m : List ℕ) where
   -- one argument
   step : (kind : Argument) (w : Walk) → Within w → Within (argument_read kind m w)
   unfolding argument_read
-  step kind (Walk.Malformed e) h = malformed e
-  step kind (Walk.Reading p) h = read-within kind p (h p refl)
+  step kind (Err e) h = malformed e
+  step kind (Ok p) h = read-within kind p (h p refl)
 
-  ended-within : (w : Walk) (a : Arguments) → Within w → ended m w ≡ Parsed.Read a → a.start + a.length ≤ length m
+  ended-within : (w : Walk) (a : Arguments) → Within w → ended m w ≡ Ok a → a.start + a.length ≤ length m
   unfolding ended
-  ended-within (Walk.Malformed e) a h q = absurd (let z : ◌≡◌ {A = ℕ} 0 1 = cc in omega arith)
-  ended-within (Walk.Reading p) a h q = go (ltb p.at (length m)) q
+  ended-within (Err e) a h q = absurd (let z : ◌≡◌ {A = ℕ} 0 1 = cc in omega arith)
+  ended-within (Ok p) a h q = go (ltb p.at (length m)) q
     where
-      go : (t : Bool) → cond t (Parsed.Malformed (ParseError.MessageLength (length m + (length m - p.at)) (length m))) (Parsed.Read p.read) ≡ Parsed.Read a
+      go : (t : Bool) → cond t (Err (ParseError.MessageLength (length m + (length m - p.at)) (length m))) (Ok p.read) ≡ Ok a
           → a.start + a.length ≤ length m
       go true q = absurd (let z : ◌≡◌ {A = ℕ} 0 1 = cc in omega arith)
       go false q = let k : p.read ≡ a = cc in rw k at (h p refl)
 
-  walked_within : (interface : ℕ) (f : Found) (a : Arguments) → parsed_as interface m f ≡ Parsed.Read a → a.start + a.length ≤ length m
+  walked_within : (interface : ℕ) (f : Found) (a : Arguments) → parsed_as interface m f ≡ Ok a → a.start + a.length ≤ length m
   unfolding parsed_as begun
-  walked_within interface Found.InvalidOpcode a q = absurd (let z : ◌≡◌ {A = ℕ} 0 1 = cc in omega arith)
-  walked_within interface (Found.Request s) a q = ended-within _ a (step s.third _ (step s.second _ (step s.first _ (reading _ (omega arith))))) q
+  walked_within interface rust.None a q = absurd (let z : ◌≡◌ {A = ℕ} 0 1 = cc in omega arith)
+  walked_within interface (Some s) a q = ended-within _ a (step s.third _ (step s.second _ (step s.first _ (reading _ (omega arith))))) q
 
-  pub text-within : (interface : ℕ) (a : Arguments) → parsed interface m ≡ Parsed.Read a → a.start + a.length ≤ length m
+  pub text-within : (interface : ℕ) (a : Arguments) → parsed interface m ≡ Ok a → a.start + a.length ≤ length m
   unfolding parsed
   text-within interface a q = walked_within interface (signature_of interface (le32 m 12)) a q

@@ -14,12 +14,11 @@ use lib.Seq.{ext_get_or}
 use Rattle.utf8.specs.Rfc3629.{is_utf8}
 use Rattle.wire.specs.declared.ParseError.{ParseError}
 use Rattle.parse.specs.declared.Argument.TheVariants.{None, Uint32, Float, String, PressState}
-use Rattle.parse.specs.declared.Found.{Found}
-use Rattle.parse.specs.declared.Parsed.{Parsed}
 use Rattle.parse.specs.declared.Progress.{Progress}
-use Rattle.parse.specs.declared.Walk.{Walk}
-use Rattle.parse.specs.Table.{row, table, signature_of}
-use Rattle.parse.specs.Parse.{le32, padded, text_at, arguments_of, progress_of, zero_real, with_number, with_real, with_text, needing, read_by, argument_read, word_read, real_read, text_read, variant_read, begun, ended, parsed_as, parsed}
+use Rattle.std.specs.Prelude.{Ok, Err, Some}
+use Rattle.std.specs.Prelude as rust
+use Rattle.parse.specs.Table.{Found, row, table, signature_of}
+use Rattle.parse.specs.Parse.{Walk, le32, padded, text_at, arguments_of, progress_of, zero_real, with_number, with_real, with_text, needing, read_by, argument_read, word_read, real_read, text_read, variant_read, begun, ended, parsed_as, parsed}
 use Rattle.parse.specs.Same.{Outside, payload, Moves, motion_relative, motion_absolute, scroll, Touches, down, motion, States, button, key, keysym, Texts, text_of, SameAs, number_of, Same, numbered, whole, is_in, Alike}
 
 -- ---- the table's rows, by what is payload in them
@@ -65,15 +64,15 @@ kinds =
 kind : (interface opcode : ℕ) → Kind (signature_of interface opcode)
 unfolding signature_of payload
 kind interface opcode =
-    each Kind Found.InvalidOpcode (still refl) (get_or table interface [])
+    each Kind rust.None (still refl) (get_or table interface [])
     (each (Each Kind) [] none table kinds interface) opcode
 
 -- ---- both walks side by side
 
 -- both are malformed alike, or read so far, where this is known
 data Both (K : Type 0) (p p' : Progress) : Walk → Walk → Type 0 where
-  bad : (e : ParseError) → Both K p p' (Walk.Malformed e) (Walk.Malformed e)
-  good : K → Both K p p' (Walk.Reading p) (Walk.Reading p')
+  bad : (e : ParseError) → Both K p p' (Err e) (Err e)
+  good : K → Both K p p' (Ok p) (Ok p')
 
 -- the next state, behind a number or a real of four bytes, and behind a text
 abbrev word_next : List ℕ → Progress → Progress
@@ -87,13 +86,13 @@ text_next p count = with_text p (p.at + 4 + padded count) (p.at + 4) (count - 1)
 
 -- a press state, and a text, of so many bytes with its closing zero
 abbrev pressed : List ℕ → Progress → ℕ → Walk
-pressed m p n = cond (leb 0 n && leb n 1) (Walk.Reading (word_next m p)) (Walk.Malformed (ParseError.InvalidVariant n))
+pressed m p n = cond (leb 0 n && leb n 1) (Ok (word_next m p)) (Err (ParseError.InvalidVariant n))
 
 abbrev judged : List ℕ → Progress → (count : ℕ) → Walk
-judged m p count = cond (is_utf8 (text_at m (p.at + 4) count)) (Walk.Reading (text_next p count)) (Walk.Malformed ParseError.Utf8)
+judged m p count = cond (is_utf8 (text_at m (p.at + 4) count)) (Ok (text_next p count)) (Err ParseError.Utf8)
 
 abbrev counted : List ℕ → Progress → (count : ℕ) → Walk
-counted m p count = cond (eqb count 0) (Walk.Malformed ParseError.InvalidNull) (needing m (p.at + 4) (padded count) (judged m p count))
+counted m p count = cond (eqb count 0) (Err ParseError.InvalidNull) (needing m (p.at + 4) (padded count) (judged m p count))
 
 module _ (m m' : List ℕ) (long : length m ≡ length m') where
   needed : {K : Type 0} {p p' : Progress} {v v' : Walk} (at count : ℕ) → (at + count ≤ length m → Both K p p' v v')
@@ -115,7 +114,7 @@ module _ (m m' : List ℕ) (long : length m ≡ length m') where
   unfolding argument_read read_by word_read
   word s (bad e) = bad e
   word {p = p} {p' = p'} s (good k) =
-      subst (λ (i : ℕ). Both (p.at + 4 ≤ length m) (word_next m p) (word_next m' p') (word_read m p) (needing m' i 4 (Walk.Reading (word_next m' p')))) s
+      subst (λ (i : ℕ). Both (p.at + 4 ≤ length m) (word_next m p) (word_next m' p') (word_read m p) (needing m' i 4 (Ok (word_next m' p')))) s
       (needed p.at 4 (λ h. good h))
 
   real : {K : Type 0} {p p' : Progress} {w w' : Walk} → p.at ≡ p'.at → Both K p p' w w'
@@ -123,7 +122,7 @@ module _ (m m' : List ℕ) (long : length m ≡ length m') where
   unfolding argument_read read_by real_read
   real s (bad e) = bad e
   real {p = p} {p' = p'} s (good k) =
-      subst (λ (i : ℕ). Both (p.at + 4 ≤ length m) (real_next m p) (real_next m' p') (real_read m p) (needing m' i 4 (Walk.Reading (real_next m' p')))) s
+      subst (λ (i : ℕ). Both (p.at + 4 ≤ length m) (real_next m p) (real_next m' p') (real_read m p) (needing m' i 4 (Ok (real_next m' p')))) s
       (needed p.at 4 (λ h. good h))
 
   -- a press state that is 0 or 1 in both
@@ -155,24 +154,24 @@ module _ (m m' : List ℕ) (long : length m ≡ length m') where
       tested h (inr (t, t')) = rw (t, t') (good h)
       tested h (inl q) = rw (← q) (by (is_utf8 (text_at m (p.at + 4) count)))
         where
-          by : (t : Bool) → Both Room (text_next p count) (text_next p count) (cond t (Walk.Reading (text_next p count)) (Walk.Malformed ParseError.Utf8)) (cond t (Walk.Reading (text_next p count)) (Walk.Malformed ParseError.Utf8))
+          by : (t : Bool) → Both Room (text_next p count) (text_next p count) (cond t (Ok (text_next p count)) (Err ParseError.Utf8)) (cond t (Ok (text_next p count)) (Err ParseError.Utf8))
           by true = good h
           by false = bad ParseError.Utf8
 
       null : (t : Bool) → Both Room (text_next p count) (text_next p count)
-          (cond t (Walk.Malformed ParseError.InvalidNull) (needing m (p.at + 4) (padded count) (judged m p count)))
-          (cond t (Walk.Malformed ParseError.InvalidNull) (needing m' (p.at + 4) (padded count) (judged m' p count)))
+          (cond t (Err ParseError.InvalidNull) (needing m (p.at + 4) (padded count) (judged m p count)))
+          (cond t (Err ParseError.InvalidNull) (needing m' (p.at + 4) (padded count) (judged m' p count)))
       null true = bad ParseError.InvalidNull
       null false = needed (p.at + 4) (padded count) (λ h. tested h (known h))
 
   -- behind the last argument
-  last : {K : Type 0} {p p' : Progress} {w w' : Walk} → p.at ≡ p'.at → (K → Alike m m' (Parsed.Read p.read) (Parsed.Read p'.read)) → Both K p p' w w'
+  last : {K : Type 0} {p p' : Progress} {w w' : Walk} → p.at ≡ p'.at → (K → Alike m m' (Ok p.read) (Ok p'.read)) → Both K p p' w w'
       → Alike m m' (ended m w) (ended m' w')
   unfolding ended
   last s a (bad e) = Alike.malformed e
   last {p = p} {p' = p'} s a (good k) = go (ltb p.at (length m)) refl
     where
-      go : (t : Bool) → ltb p.at (length m) ≡ t → Alike m m' (ended m (Walk.Reading p)) (ended m' (Walk.Reading p'))
+      go : (t : Bool) → ltb p.at (length m) ≡ t → Alike m m' (ended m (Ok p)) (ended m' (Ok p'))
       go true e = rw (← long, ← s, e) (Alike.malformed _)
       go false e = rw (← long, ← s, e) (a k)
 

@@ -1,16 +1,21 @@
 -- A message on an object of a known interface: its request and its arguments, or the first ParseError that the source meets. Assumes nothing.
-use Rattle.std.specs.Prelude.{ℕ, ◌+◌, ◌-◌, ◌*◌, ◌/◌, ◌&&◌, cond, List, eqb, leb, ltb, Float, length, get_or, take, drop}
+use Rattle.std.specs.Prelude.{ℕ, ◌+◌, ◌-◌, ◌*◌, ◌/◌, ◌&&◌, cond, List, eqb, leb, ltb, Float, length, get_or, take, drop, Result, Ok, Err, Some}
+use Rattle.std.specs.Prelude as rust
 use Rattle.std.specs.Float.{binary32}
 use Rattle.std.specs.Float.Ieee.{of_bits}
 use Rattle.utf8.specs.Rfc3629.{is_utf8}
 use Rattle.wire.specs.declared.ParseError.{ParseError}
 use Rattle.parse.specs.declared.Argument.{Argument}
 use Rattle.parse.specs.declared.Arguments.{Arguments}
-use Rattle.parse.specs.declared.Found.{Found}
 use Rattle.parse.specs.declared.Progress.{Progress}
-use Rattle.parse.specs.declared.Walk.{Walk}
-use Rattle.parse.specs.declared.Parsed.{Parsed}
-use Rattle.parse.specs.Table.{signature_of}
+use Rattle.parse.specs.Table.{Found, signature_of}
+
+-- how far a message is read, and what is read of it, or the first thing that is wrong with it
+abbrev pub Walk : Type 0
+Walk = Result Progress ParseError
+
+abbrev pub Parsed : Type 0
+Parsed = Result Arguments ParseError
 
 -- ---- numbers, "always little-endian"
 
@@ -61,20 +66,20 @@ with_text p next start length =
 
 -- EndOfMessage: "an argument needs more bytes than are left"
 unfoldable pub needing : (message : List ℕ) → (at count : ℕ) → Walk → Walk
-needing m at count w = cond (leb (at + count) (length m)) w (Walk.Malformed ParseError.EndOfMessage)
+needing m at count w = cond (leb (at + count) (length m)) w (Err ParseError.EndOfMessage)
 
 -- "32-bit numbers, floats and enums 4 bytes, 64-bit numbers and new_ids 8"
 unfoldable pub word_read : (message : List ℕ) → Progress → Walk
 unfolding le32 with_number needing
-word_read m p = needing m p.at 4 (Walk.Reading (with_number p (p.at + 4) (le32 m p.at)))
+word_read m p = needing m p.at 4 (Ok (with_number p (p.at + 4) (le32 m p.at)))
 
 unfoldable pub double_word_read : (message : List ℕ) → Progress → Walk
 unfolding le64 le32 with_number needing
-double_word_read m p = needing m p.at 8 (Walk.Reading (with_number p (p.at + 8) (le64 m p.at)))
+double_word_read m p = needing m p.at 8 (Ok (with_number p (p.at + 8) (le64 m p.at)))
 
 unfoldable pub real_read : (message : List ℕ) → Progress → Walk
 unfolding le32 with_real needing
-real_read m p = needing m p.at 4 (Walk.Reading (with_real p (p.at + 4) (of_bits binary32 (le32 m p.at))))
+real_read m p = needing m p.at 4 (Ok (with_real p (p.at + 4) (of_bits binary32 (le32 m p.at))))
 
 -- "zeros up to a multiple of four"
 abbrev pub padded : ℕ → ℕ
@@ -92,11 +97,11 @@ text_read m p =
     let start = p.at + 4 in
     needing m p.at 4
     (cond (eqb count 0)
-    (Walk.Malformed ParseError.InvalidNull)
+    (Err ParseError.InvalidNull)
     (needing m start (padded count)
     (cond (is_utf8 (text_at m start count))
-    (Walk.Reading (with_text p (start + padded count) start (count - 1)))
-    (Walk.Malformed ParseError.Utf8))))
+    (Ok (with_text p (start + padded count) start (count - 1)))
+    (Err ParseError.Utf8))))
 
 -- an enum's number, from its least to its most: else it is an InvalidVariant
 unfoldable pub variant_read : (least most : ℕ) → (message : List ℕ) → Progress → Walk
@@ -105,13 +110,13 @@ variant_read least most m p =
     let n = le32 m p.at in
     needing m p.at 4
     (cond (leb least n && leb n most)
-    (Walk.Reading (with_number p (p.at + 4) n))
-    (Walk.Malformed (ParseError.InvalidVariant n)))
+    (Ok (with_number p (p.at + 4) n))
+    (Err (ParseError.InvalidVariant n)))
 
 -- "context_type not 1, 2; button and key states not 0, 1" are InvalidVariant
 unfoldable pub read_by : Argument → (message : List ℕ) → Progress → Walk
 unfolding word_read double_word_read real_read text_read variant_read
-read_by Argument.None m p = Walk.Reading p
+read_by Argument.None m p = Ok p
 read_by Argument.Uint32 m p = word_read m p
 read_by Argument.Uint64 m p = double_word_read m p
 read_by Argument.Float m p = real_read m p
@@ -122,8 +127,8 @@ read_by Argument.ContextType m p = variant_read 1 2 m p
 -- "by argument, in order": behind one that is malformed none is read
 unfoldable pub argument_read : Argument → (message : List ℕ) → Walk → Walk
 unfolding read_by
-argument_read kind m (Walk.Malformed e) = Walk.Malformed e
-argument_read kind m (Walk.Reading p) = read_by kind m p
+argument_read kind m (Err e) = Err e
+argument_read kind m (Ok p) = read_by kind m p
 
 -- ---- the message
 
@@ -132,21 +137,21 @@ abbrev pub zero_real : Float
 zero_real = of_bits binary32 0
 
 unfoldable pub begun : (request : ℕ) → Walk
-begun n = Walk.Reading (progress_of 16 0 0 (arguments_of n 0 0 0 0 0 zero_real zero_real))
+begun n = Ok (progress_of 16 0 0 (arguments_of n 0 0 0 0 0 zero_real zero_real))
 
 -- "MessageLength(length + left, length)": "bytes left behind the last argument"
 unfoldable pub ended : (message : List ℕ) → Walk → Parsed
-ended m (Walk.Malformed e) = Parsed.Malformed e
-ended m (Walk.Reading p) =
+ended m (Err e) = Err e
+ended m (Ok p) =
     cond (ltb p.at (length m))
-    (Parsed.Malformed (ParseError.MessageLength (length m + (length m - p.at)) (length m)))
-    (Parsed.Read p.read)
+    (Err (ParseError.MessageLength (length m + (length m - p.at)) (length m)))
+    (Ok p.read)
 
 -- "opcode; string; numbers in turn; variant; left over"
 unfoldable pub parsed_as : (interface : ℕ) → (message : List ℕ) → Found → Parsed
 unfolding le32 argument_read begun ended
-parsed_as interface m Found.InvalidOpcode = Parsed.Malformed (ParseError.InvalidOpcode interface (le32 m 12))
-parsed_as interface m (Found.Request s) =
+parsed_as interface m rust.None = Err (ParseError.InvalidOpcode interface (le32 m 12))
+parsed_as interface m (Some s) =
     ended m (argument_read s.third m (argument_read s.second m (argument_read s.first m (begun s.request))))
 
 unfoldable pub parsed : (interface : ℕ) → (message : List ℕ) → Parsed

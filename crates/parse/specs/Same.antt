@@ -1,11 +1,10 @@
 -- Messages that differ in payload alone, and what they are read as. Assumes nothing.
-use Rattle.std.specs.Prelude.{ℕ, ◌+◌, ◌≤◌, ◌<◌, ◌≡◌, Bool, true, false, ◌||◌, cond, List, [], ◌∷◌, ◌⊎◌, eqb, Float, length, get_or, take, drop}
+use Rattle.std.specs.Prelude.{ℕ, ◌+◌, ◌≤◌, ◌<◌, ◌≡◌, Bool, true, false, ◌||◌, cond, List, [], ◌∷◌, ◌⊎◌, eqb, Float, length, get_or, take, drop, Ok, Err, Some}
+use Rattle.std.specs.Prelude as rust
 use Rattle.utf8.specs.Rfc3629.{is_utf8}
 use Rattle.wire.specs.declared.ParseError.{ParseError}
-use Rattle.parse.specs.declared.Found.{Found}
-use Rattle.parse.specs.declared.Parsed.{Parsed}
-use Rattle.parse.specs.Table.{signature_of}
-use Rattle.parse.specs.Parse.{le32, padded, text_at, arguments_of, zero_real}
+use Rattle.parse.specs.Table.{Found, signature_of}
+use Rattle.parse.specs.Parse.{le32, padded, text_at, Parsed, arguments_of, zero_real}
 
 -- ---- payload
 
@@ -68,8 +67,8 @@ pub record SameAs (request : ℕ) (m m' : List ℕ) : Type 0 where
 
 -- a request's number, 36 for none
 abbrev pub number_of : Found → ℕ
-number_of (Found.Request s) = s.request
-number_of Found.InvalidOpcode = 36
+number_of (Some s) = s.request
+number_of rust.None = 36
 
 -- the same of messages on an object of this interface, by the request that the first one's opcode stands for
 abbrev pub Same : (interface : ℕ) → (m m' : List ℕ) → Type 0
@@ -79,19 +78,19 @@ Same interface m m' = SameAs (number_of (signature_of interface (le32 m 12))) m 
 
 -- numbers and reals, and no text
 abbrev pub numbered : (request first second third : ℕ) → (x y : Float) → Parsed
-numbered n a b c x y = Parsed.Read (arguments_of n a b c 0 0 x y)
+numbered n a b c x y = Ok (arguments_of n a b c 0 0 x y)
 
 -- numbers alone, and a text alone: its part of the message
 abbrev pub whole : (request first second third : ℕ) → Parsed
 whole n a b c = numbered n a b c zero_real zero_real
 
 abbrev pub texted : (request start length : ℕ) → Parsed
-texted n start length = Parsed.Read (arguments_of n 0 0 0 start length zero_real zero_real)
+texted n start length = Ok (arguments_of n 0 0 0 start length zero_real zero_real)
 
 -- the same ParseError, or the same request with arguments that are equal but for payload. Messages of a request that has none are equal.
 pub data Alike (m m' : List ℕ) : Parsed → Parsed → Type 0 where
   equal : {r : Parsed} → m ≡ m' → Alike m m' r r
-  malformed : (e : ParseError) → Alike m m' (Parsed.Malformed e) (Parsed.Malformed e)
+  malformed : (e : ParseError) → Alike m m' (Err e) (Err e)
   moves : {n : ℕ} → Moves n → (x y x' y' : Float) → Alike m m' (numbered n 0 0 0 x y) (numbered n 0 0 0 x' y')
   discrete : (a b a' b' : ℕ) → Alike m m' (whole 22 a b 0) (whole 22 a' b' 0)
   stop : (a b a' b' cancel : ℕ) → Alike m m' (whole 23 a b cancel) (whole 23 a' b' cancel)

@@ -1,12 +1,17 @@
 -- The requests of each interface with their arguments (the `Request` enums of src/eiproto_eis.rs). Assumes nothing.
-use Rattle.std.specs.Prelude.{ℕ, List, [], ◌∷◌, get_or}
+use Rattle.std.specs.Prelude.{ℕ, List, [], ◌∷◌, get_or, Some}
+use Rattle.std.specs.Prelude as rust
 use Rattle.parse.specs.declared.Argument.{Argument}
 use Rattle.parse.specs.declared.Argument.TheVariants.{None, Uint32, Uint64, Float, String, PressState, ContextType}
-use Rattle.parse.specs.declared.Found.{Found}
+use Rattle.parse.specs.declared.Signature.{Signature}
+
+-- a request with its arguments, or none
+abbrev pub Found : Type 0
+Found = rust.Option Signature
 
 -- a request's number with its arguments
 abbrev pub row : (request : ℕ) → (first second third : Argument) → Found
-row n a b c = Found.Request (record { request = n; first = a; second = b; third = c })
+row n a b c = Some (record { request = n; first = a; second = b; third = c })
 
 -- interfaces by their numbers, each with its requests by opcode. Requests are numbered through, and an int32 is read as its 32 bits
 abbrev pub table : List (List Found)
@@ -41,4 +46,4 @@ table =
 
 -- the request that an opcode stands for; "opcode not in the table": InvalidOpcode
 unfoldable pub signature_of : (interface opcode : ℕ) → Found
-signature_of interface opcode = get_or (get_or table interface []) opcode Found.InvalidOpcode
+signature_of interface opcode = get_or (get_or table interface []) opcode rust.None

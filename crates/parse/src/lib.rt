@@ -1,14 +1,16 @@
 // A client's message, whole, on an object whose interface is known: its request and its arguments (the `parse` functions of src/eiproto_eis.rs).
-#![tactic(auto)]
+#![tactic(auto, unfolding(crate::specs::Table::signature_of, crate::specs::Parse::with_number, crate::specs::Parse::with_real, crate::specs::Parse::with_text, crate::specs::Parse::word_read, crate::specs::Parse::needing, crate::specs::Parse::variant_read, crate::specs::Parse::double_word_read, crate::specs::Parse::real_read, crate::specs::Parse::text_read, crate::specs::Parse::read_by, crate::specs::Parse::begun, crate::specs::Parse::ended, crate::specs::Parse::parsed, crate::specs::Parse::parsed_as, crate::specs::Parse::argument_read, crate::specs::First::first_of, crate::specs::First::first_as))]
 
-ghost use Rattle.std.specs.Prelude.{◌≡◌, ◌+◌, ◌≤◌, leb, length};
+ghost use Rattle.std.specs.Prelude.{◌≡◌, ◌+◌, ◌≤◌, leb, length, get_or, Ok};
+ghost use Rattle.requests.specs.Kind.{request_number};
 ghost use Rattle.std.specs.Float.{binary32};
 ghost use Rattle.std.specs.Float.Ieee.{of_bits};
 ghost use Rattle.parse.specs.Table.{row, signature_of};
 ghost use Rattle.parse.specs.First.{first_of};
-ghost use Rattle.parse.specs.Parse.{le32, le64, with_number, with_real, with_text, word_read, variant_read, double_word_read, real_read, text_read, argument_read, begun, ended, parsed};
+ghost use Rattle.parse.specs.Parse.{le32, le64, with_number, with_real, with_text, word_read, variant_read, double_word_read, real_read, text_read, read_by, begun, ended, parsed};
 
 use eiproto::eiproto_eis;
+use requests::eis::RequestKind;
 use wire::ParseError;
 
 // The object's id, the length and the opcode.
@@ -18,7 +20,8 @@ pub const HEADER_LENGTH: usize = 16;
 pub const MESSAGE_LENGTH_LIMIT: usize = 1024;
 
 // What an argument is. A signed number is read as its 32 bits, and a new object's id as a number.
-#[derive(Clone, Copy)]
+// `None` is a case as the others, so that `read_argument` reads each of a request's three: an `Option` would be tested three times.
+#[derive(Clone, Copy, Debug, PartialEq, Eq)]
 pub enum Argument {
     None,
     Uint32,
@@ -30,7 +33,7 @@ pub enum Argument {
 }
 
 // A request's number and its arguments: no request has more than three.
-#[derive(Clone, Copy)]
+#[derive(Clone, Copy, Debug, PartialEq, Eq)]
 pub struct Signature {
     pub request: u64,
     pub first: Argument,
@@ -38,14 +41,8 @@ pub struct Signature {
     pub third: Argument,
 }
 
-#[derive(Clone, Copy)]
-pub enum Found {
-    Request(Signature),
-    InvalidOpcode,
-}
-
 // A request's arguments as they are read: whole numbers in their order, a text's part of the message, and reals in their order.
-#[derive(Clone, Copy)]
+#[derive(Clone, Copy, Debug, PartialEq)]
 pub struct Arguments {
     pub request: u64,
     pub first: u64,
@@ -58,7 +55,7 @@ pub struct Arguments {
 }
 
 // How far a message is read: the next argument's place, how many whole numbers and reals were read, and what was read.
-#[derive(Clone, Copy)]
+#[derive(Clone, Copy, Debug, PartialEq)]
 pub struct Progress {
     pub at: usize,
     pub numbers: u64,
@@ -66,166 +63,184 @@ pub struct Progress {
     pub read: Arguments,
 }
 
-#[derive(Clone, Copy)]
-pub enum Walk {
-    Malformed(ParseError),
-    Reading(Progress),
-}
-
-#[derive(Clone, Copy)]
-pub enum Parsed {
-    Malformed(ParseError),
-    Read(Arguments),
-}
-
-// What the first message of some bytes is: not yet whole, malformed, or its request's arguments and how many bytes it has.
-#[derive(Clone, Copy)]
-pub enum First {
-    Wait,
-    Malformed(ParseError),
-    Read { arguments: Arguments, length: usize },
+// The first message of some bytes: its request's arguments and how many bytes it has.
+#[derive(Clone, Copy, Debug, PartialEq)]
+pub struct First {
+    pub arguments: Arguments,
+    pub length: usize,
 }
 
 // Little-endian numbers at a place of a message.
+#[tactic(auto, unfolding(crate::specs::Parse::le32))]
 pub fn number32(message: &[u8], at: usize) -> u32
     requires { at + 4 ≤ length message.now }
     ensures { result ≡ le32 message.now at }
 {
-    (message[at] as u32)
-        + 0x100 * (message[at + 1] as u32)
-        + 0x1_0000 * (message[at + 2] as u32)
-        + 0x100_0000 * (message[at + 3] as u32)
+    u32::from_le_bytes([
+        message[at],
+        message[at + 1],
+        message[at + 2],
+        message[at + 3],
+    ])
 }
 
+// Two numbers of four bytes, as `le64` of specs/Parse has it.
+#[tactic(auto, unfolding(crate::specs::Parse::le64))]
 pub fn number64(message: &[u8], at: usize) -> u64
     requires { at + 8 ≤ length message.now }
     ensures { result ≡ le64 message.now at }
 {
-    (number32(message, at) as u64) + 0x1_0000_0000 * (number32(message, at + 4) as u64)
+    u64::from(number32(message, at)) + 0x1_0000_0000 * u64::from(number32(message, at + 4))
 }
 
-// The real number of a bit pattern; every pattern of a NaN is the NaN.
+// The real number of a bit pattern; every pattern of a NaN is the NaN. A call by itself, either way of it takes as many instructions: inlined, they
+// differed by one jump, and so did messages by their coordinates (tests/timing.py).
+#[inline(never)]
 fn of_bits(bits: u32) -> f32
     ensures { result ≡ of_bits binary32 bits }
 {
     if 0x7f80_0000 < bits % 0x8000_0000 {
-        return 0.0 / 0.0;
+        return f32::NAN;
     }
     f32::from_bits(bits)
 }
 
-// Rows of the table, by how many arguments the request has.
-fn three(request: u64, first: Argument, second: Argument, third: Argument) -> Found
-    ensures { result ≡ row request first second third }
+// A row of the table: a request's arguments in their order.
+fn row<const N: usize>(request: RequestKind, arguments: [Argument; N]) -> Option<Signature>
+    ensures { result ≡ row (request_number request) (get_or arguments.entry 0 Argument.None) (get_or arguments.entry 1 Argument.None) (get_or arguments.entry 2 Argument.None) }
 {
-    Found::Request(Signature {
-        request,
-        first,
-        second,
-        third,
+    Some(Signature {
+        request: request as u64,
+        first: arguments.get(0).copied().unwrap_or(Argument::None),
+        second: arguments.get(1).copied().unwrap_or(Argument::None),
+        third: arguments.get(2).copied().unwrap_or(Argument::None),
     })
-}
-
-fn two(request: u64, first: Argument, second: Argument) -> Found
-    ensures { result ≡ row request first second Argument.None }
-{
-    three(request, first, second, Argument::None)
-}
-
-fn one(request: u64, first: Argument) -> Found
-    ensures { result ≡ row request first Argument.None Argument.None }
-{
-    two(request, first, Argument::None)
-}
-
-fn none(request: u64) -> Found
-    ensures { result ≡ row request Argument.None Argument.None Argument.None }
-{
-    one(request, Argument::None)
 }
 
 // The handshake's interface, which no name stands for.
 const HANDSHAKE: u8 = 0;
 
 // The requests of an interface, by opcode.
-pub fn signature_of(interface: u8, opcode: u32) -> Found
+pub fn signature_of(interface: u8, opcode: u32) -> Option<Signature>
     ensures { result ≡ signature_of interface opcode }
 {
     match interface {
         HANDSHAKE => match opcode {
-            0 => one(0, Argument::Uint32),
-            1 => none(1),
-            2 => one(2, Argument::ContextType),
-            3 => one(3, Argument::String),
-            4 => two(4, Argument::String, Argument::Uint32),
-            _ => Found::InvalidOpcode,
+            0 => row(RequestKind::HandshakeVersion, [Argument::Uint32]),
+            1 => row(RequestKind::HandshakeFinish, []),
+            2 => row(RequestKind::HandshakeContextType, [Argument::ContextType]),
+            3 => row(RequestKind::HandshakeName, [Argument::String]),
+            4 => row(
+                RequestKind::HandshakeInterfaceVersion,
+                [Argument::String, Argument::Uint32],
+            ),
+            _ => None,
         },
         eiproto_eis::CONNECTION => match opcode {
-            0 => two(5, Argument::Uint64, Argument::Uint32),
-            1 => none(6),
-            _ => Found::InvalidOpcode,
+            0 => row(
+                RequestKind::ConnectionSync,
+                [Argument::Uint64, Argument::Uint32],
+            ),
+            1 => row(RequestKind::ConnectionDisconnect, []),
+            _ => None,
         },
-        eiproto_eis::CALLBACK => Found::InvalidOpcode,
+        eiproto_eis::CALLBACK => None,
         eiproto_eis::PINGPONG => match opcode {
-            0 => one(7, Argument::Uint64),
-            _ => Found::InvalidOpcode,
+            0 => row(RequestKind::PingpongDone, [Argument::Uint64]),
+            _ => None,
         },
         eiproto_eis::SEAT => match opcode {
-            0 => none(8),
-            1 => one(9, Argument::Uint64),
-            2 => one(10, Argument::Uint64),
-            _ => Found::InvalidOpcode,
+            0 => row(RequestKind::SeatRelease, []),
+            1 => row(RequestKind::SeatBind, [Argument::Uint64]),
+            2 => row(RequestKind::SeatRequestDevice, [Argument::Uint64]),
+            _ => None,
         },
         eiproto_eis::DEVICE => match opcode {
-            0 => none(11),
-            1 => two(12, Argument::Uint32, Argument::Uint32),
-            2 => one(13, Argument::Uint32),
-            3 => two(14, Argument::Uint32, Argument::Uint64),
-            4 => none(15),
-            _ => Found::InvalidOpcode,
+            0 => row(RequestKind::DeviceRelease, []),
+            1 => row(
+                RequestKind::DeviceStartEmulating,
+                [Argument::Uint32, Argument::Uint32],
+            ),
+            2 => row(RequestKind::DeviceStopEmulating, [Argument::Uint32]),
+            3 => row(
+                RequestKind::DeviceFrame,
+                [Argument::Uint32, Argument::Uint64],
+            ),
+            4 => row(RequestKind::DeviceReady, []),
+            _ => None,
         },
         eiproto_eis::POINTER => match opcode {
-            0 => none(16),
-            1 => two(17, Argument::Float, Argument::Float),
-            _ => Found::InvalidOpcode,
+            0 => row(RequestKind::PointerRelease, []),
+            1 => row(
+                RequestKind::PointerMotionRelative,
+                [Argument::Float, Argument::Float],
+            ),
+            _ => None,
         },
         eiproto_eis::POINTER_ABSOLUTE => match opcode {
-            0 => none(18),
-            1 => two(19, Argument::Float, Argument::Float),
-            _ => Found::InvalidOpcode,
+            0 => row(RequestKind::PointerAbsoluteRelease, []),
+            1 => row(
+                RequestKind::PointerAbsoluteMotionAbsolute,
+                [Argument::Float, Argument::Float],
+            ),
+            _ => None,
         },
         eiproto_eis::SCROLL => match opcode {
-            0 => none(20),
-            1 => two(21, Argument::Float, Argument::Float),
-            2 => two(22, Argument::Uint32, Argument::Uint32),
-            3 => three(23, Argument::Uint32, Argument::Uint32, Argument::Uint32),
-            _ => Found::InvalidOpcode,
+            0 => row(RequestKind::ScrollRelease, []),
+            1 => row(
+                RequestKind::ScrollScroll,
+                [Argument::Float, Argument::Float],
+            ),
+            2 => row(
+                RequestKind::ScrollScrollDiscrete,
+                [Argument::Uint32, Argument::Uint32],
+            ),
+            3 => row(
+                RequestKind::ScrollScrollStop,
+                [Argument::Uint32, Argument::Uint32, Argument::Uint32],
+            ),
+            _ => None,
         },
         eiproto_eis::BUTTON => match opcode {
-            0 => none(24),
-            1 => two(25, Argument::Uint32, Argument::PressState),
-            _ => Found::InvalidOpcode,
+            0 => row(RequestKind::ButtonRelease, []),
+            1 => row(
+                RequestKind::ButtonButton,
+                [Argument::Uint32, Argument::PressState],
+            ),
+            _ => None,
         },
         eiproto_eis::KEYBOARD => match opcode {
-            0 => none(26),
-            1 => two(27, Argument::Uint32, Argument::PressState),
-            _ => Found::InvalidOpcode,
+            0 => row(RequestKind::KeyboardRelease, []),
+            1 => row(
+                RequestKind::KeyboardKey,
+                [Argument::Uint32, Argument::PressState],
+            ),
+            _ => None,
         },
         eiproto_eis::TOUCHSCREEN => match opcode {
-            0 => none(28),
-            1 => three(29, Argument::Uint32, Argument::Float, Argument::Float),
-            2 => three(30, Argument::Uint32, Argument::Float, Argument::Float),
-            3 => one(31, Argument::Uint32),
-            4 => one(32, Argument::Uint32),
-            _ => Found::InvalidOpcode,
+            0 => row(RequestKind::TouchscreenRelease, []),
+            1 => row(
+                RequestKind::TouchscreenDown,
+                [Argument::Uint32, Argument::Float, Argument::Float],
+            ),
+            2 => row(
+                RequestKind::TouchscreenMotion,
+                [Argument::Uint32, Argument::Float, Argument::Float],
+            ),
+            3 => row(RequestKind::TouchscreenUp, [Argument::Uint32]),
+            4 => row(RequestKind::TouchscreenCancel, [Argument::Uint32]),
+            _ => None,
         },
         eiproto_eis::TEXT => match opcode {
-            0 => none(33),
-            1 => two(34, Argument::Uint32, Argument::PressState),
-            2 => one(35, Argument::String),
-            _ => Found::InvalidOpcode,
+            0 => row(RequestKind::TextRelease, []),
+            1 => row(
+                RequestKind::TextKeysym,
+                [Argument::Uint32, Argument::PressState],
+            ),
+            2 => row(RequestKind::TextUtf8, [Argument::String]),
+            _ => None,
         },
-        _ => Found::InvalidOpcode,
+        _ => None,
     }
 }
 
@@ -233,169 +248,148 @@ pub fn signature_of(interface: u8, opcode: u32) -> Found
 fn has(message: &[u8], at: usize, count: usize) -> bool
     ensures { result ≡ leb (at + count) (length message.now) }
 {
-    if message.len() < at {
-        return false;
-    }
-    count <= message.len() - at
+    at <= message.len() && count <= message.len() - at
 }
 
 // What was read, with one more whole number, real or text, and the next argument's place.
 fn with_number(p: Progress, next: usize, number: u64) -> Progress
     ensures { result ≡ with_number p next number }
 {
-    let mut read = p.read;
-    let numbers = p.numbers;
-    let reals = p.reals;
-    if numbers == 0 {
-        read.first = number;
-        return Progress {
+    match p.numbers {
+        0 => Progress {
             at: next,
             numbers: 1,
-            reals,
-            read,
-        };
-    }
-    if numbers == 1 {
-        read.second = number;
-        return Progress {
+            read: Arguments {
+                first: number,
+                ..p.read
+            },
+            ..p
+        },
+        1 => Progress {
             at: next,
             numbers: 2,
-            reals,
-            read,
-        };
-    }
-    read.third = number;
-    Progress {
-        at: next,
-        numbers: 3,
-        reals,
-        read,
+            read: Arguments {
+                second: number,
+                ..p.read
+            },
+            ..p
+        },
+        _ => Progress {
+            at: next,
+            numbers: 3,
+            read: Arguments {
+                third: number,
+                ..p.read
+            },
+            ..p
+        },
     }
 }
 
 fn with_real(p: Progress, next: usize, real: f32) -> Progress
     ensures { result ≡ with_real p next real }
 {
-    let mut read = p.read;
-    let numbers = p.numbers;
-    let reals = p.reals;
-    if reals == 0 {
-        read.x = real;
-        return Progress {
+    match p.reals {
+        0 => Progress {
             at: next,
-            numbers,
             reals: 1,
-            read,
-        };
-    }
-    read.y = real;
-    Progress {
-        at: next,
-        numbers,
-        reals: 2,
-        read,
+            read: Arguments { x: real, ..p.read },
+            ..p
+        },
+        _ => Progress {
+            at: next,
+            reals: 2,
+            read: Arguments { y: real, ..p.read },
+            ..p
+        },
     }
 }
 
 fn with_text(p: Progress, next: usize, start: usize, length: usize) -> Progress
     ensures { result ≡ with_text p next start length }
 {
-    let mut read = p.read;
-    let numbers = p.numbers;
-    let reals = p.reals;
-    read.start = start;
-    read.length = length;
     Progress {
         at: next,
-        numbers,
-        reals,
-        read,
+        read: Arguments {
+            start,
+            length,
+            ..p.read
+        },
+        ..p
     }
 }
 
 // An argument of four bytes that is a whole number, and one that is an enum's, whose cases have these numbers and those between.
-fn word(message: &[u8], p: Progress) -> Walk
+fn word(message: &[u8], p: Progress) -> Result<Progress, ParseError>
     ensures { result ≡ word_read message.now p }
 {
-    let at = p.at;
-    if !has(message, at, 4) {
-        return Walk::Malformed(ParseError::EndOfMessage);
+    if !has(message, p.at, 4) {
+        return Err(ParseError::EndOfMessage);
     }
-    Walk::Reading(with_number(p, at + 4, number32(message, at) as u64))
+    Ok(with_number(p, p.at + 4, u64::from(number32(message, p.at))))
 }
 
-fn variant(message: &[u8], p: Progress, least: u32, most: u32) -> Walk
+fn variant(message: &[u8], p: Progress, least: u32, most: u32) -> Result<Progress, ParseError>
     ensures { result ≡ variant_read least most message.now p }
 {
-    let at = p.at;
-    if !has(message, at, 4) {
-        return Walk::Malformed(ParseError::EndOfMessage);
+    if !has(message, p.at, 4) {
+        return Err(ParseError::EndOfMessage);
     }
-    let number = number32(message, at);
-    if number < least {
-        return Walk::Malformed(ParseError::InvalidVariant { variant: number });
+    let number = number32(message, p.at);
+    if number < least || most < number {
+        return Err(ParseError::InvalidVariant { variant: number });
     }
-    if most < number {
-        return Walk::Malformed(ParseError::InvalidVariant { variant: number });
-    }
-    Walk::Reading(with_number(p, at + 4, number as u64))
+    Ok(with_number(p, p.at + 4, u64::from(number)))
 }
 
 // One of eight bytes.
-fn double_word(message: &[u8], p: Progress) -> Walk
+fn double_word(message: &[u8], p: Progress) -> Result<Progress, ParseError>
     ensures { result ≡ double_word_read message.now p }
 {
-    let at = p.at;
-    if !has(message, at, 8) {
-        return Walk::Malformed(ParseError::EndOfMessage);
+    if !has(message, p.at, 8) {
+        return Err(ParseError::EndOfMessage);
     }
-    Walk::Reading(with_number(p, at + 8, number64(message, at)))
+    Ok(with_number(p, p.at + 8, number64(message, p.at)))
 }
 
 // A real number.
-fn real(message: &[u8], p: Progress) -> Walk
+fn real(message: &[u8], p: Progress) -> Result<Progress, ParseError>
     ensures { result ≡ real_read message.now p }
 {
-    let at = p.at;
-    if !has(message, at, 4) {
-        return Walk::Malformed(ParseError::EndOfMessage);
+    if !has(message, p.at, 4) {
+        return Err(ParseError::EndOfMessage);
     }
-    Walk::Reading(with_real(p, at + 4, of_bits(number32(message, at))))
+    Ok(with_real(p, p.at + 4, of_bits(number32(message, p.at))))
 }
 
 // A text: its length with the closing zero, its bytes, and zeros up to a multiple of four. What closes and pads it is not looked at.
-fn text(message: &[u8], p: Progress) -> Walk
+fn text(message: &[u8], p: Progress) -> Result<Progress, ParseError>
     ensures { result ≡ text_read message.now p }
 {
-    let at = p.at;
-    if !has(message, at, 4) {
-        return Walk::Malformed(ParseError::EndOfMessage);
+    if !has(message, p.at, 4) {
+        return Err(ParseError::EndOfMessage);
     }
-    let count = number32(message, at) as usize;
+    let count = number32(message, p.at) as usize;
     if count == 0 {
-        return Walk::Malformed(ParseError::InvalidNull);
+        return Err(ParseError::InvalidNull);
     }
-    let start = at + 4;
+    let start = p.at + 4;
     let padded = (count + 3) / 4 * 4;
     if !has(message, start, padded) {
-        return Walk::Malformed(ParseError::EndOfMessage);
+        return Err(ParseError::EndOfMessage);
     }
-    let end = start + (count - 1);
-    if !utf8::valid(&message[start..end]) {
-        return Walk::Malformed(ParseError::Utf8);
+    if !utf8::valid(&message[start..][..count - 1]) {
+        return Err(ParseError::Utf8);
     }
-    Walk::Reading(with_text(p, start + padded, start, count - 1))
+    Ok(with_text(p, start + padded, start, count - 1))
 }
 
-// One argument, where all before it were read.
-fn read_argument(kind: Argument, message: &[u8], walk: Walk) -> Walk
-    ensures { result ≡ argument_read kind message.now walk }
+// One argument.
+fn read_argument(kind: Argument, message: &[u8], p: Progress) -> Result<Progress, ParseError>
+    ensures { result ≡ read_by kind message.now p }
 {
-    let Walk::Reading(p) = walk else {
-        return walk;
-    };
     match kind {
-        Argument::None => walk,
+        Argument::None => Ok(p),
         Argument::Uint32 => word(message, p),
         Argument::Uint64 => double_word(message, p),
         Argument::Float => real(message, p),
@@ -406,11 +400,11 @@ fn read_argument(kind: Argument, message: &[u8], walk: Walk) -> Walk
 }
 
 // Nothing is read yet.
-fn begin(request: u64) -> Walk
-    ensures { result ≡ begun request }
+fn begin(request: u64) -> Progress
+    ensures { Ok result ≡ begun request }
 {
-    Walk::Reading(Progress {
-        at: 16,
+    Progress {
+        at: HEADER_LENGTH,
         numbers: 0,
         reals: 0,
         read: Arguments {
@@ -423,71 +417,52 @@ fn begin(request: u64) -> Walk
             x: 0.0,
             y: 0.0,
         },
-    })
-}
-
-// No bytes may be left.
-fn end(message: &[u8], walk: Walk) -> Parsed
-    requires { length message.now ≤ 1024 }
-    ensures { result ≡ ended message.now walk }
-{
-    match walk {
-        Walk::Malformed(e) => Parsed::Malformed(e),
-        Walk::Reading(p) => {
-            let at = p.at;
-            let length = message.len();
-            if at < length {
-                return Parsed::Malformed(ParseError::MessageLength {
-                    read: (length + (length - at)) as u32,
-                    header: length as u32,
-                });
-            }
-            let read = p.read;
-            Parsed::Read(read)
-        }
     }
 }
 
+// No bytes may be left.
+fn end(message: &[u8], p: Progress) -> Result<Arguments, ParseError>
+    requires { length message.now ≤ 1024 }
+    ensures { result ≡ ended message.now (Ok p) }
+{
+    let length = message.len();
+    if p.at < length {
+        return Err(ParseError::MessageLength {
+            read: (length + (length - p.at)) as u32,
+            header: length as u32,
+        });
+    }
+    Ok(p.read)
+}
+
 // The request of a message and its arguments, or the first thing that is wrong with it.
-pub fn parse(interface: u8, message: &[u8]) -> Parsed
+pub fn parse(interface: u8, message: &[u8]) -> Result<Arguments, ParseError>
     requires { (16 ≤ length message.now) × (length message.now ≤ 1024) }
     ensures { result ≡ parsed interface message.now }
 {
     let opcode = number32(message, 12);
-    match signature_of(interface, opcode) {
-        Found::InvalidOpcode => Parsed::Malformed(ParseError::InvalidOpcode { interface, opcode }),
-        Found::Request(s) => {
-            let first = s.first;
-            let second = s.second;
-            let third = s.third;
-            let one = read_argument(first, message, begin(s.request));
-            let two = read_argument(second, message, one);
-            end(message, read_argument(third, message, two))
-        }
-    }
+    let Some(s) = signature_of(interface, opcode) else {
+        return Err(ParseError::InvalidOpcode { interface, opcode });
+    };
+    let one = read_argument(s.first, message, begin(s.request))?;
+    let two = read_argument(s.second, message, one)?;
+    let three = read_argument(s.third, message, two)?;
+    end(message, three)
 }
 
-// The first message of the bytes, on an object of this interface, behind its id. Bytes behind it are not read.
-pub fn read_first(interface: u8, bytes: &[u8]) -> First
+// The first message of the bytes, on an object of this interface, behind its id; none where it is not yet whole. Bytes behind it are not read.
+pub fn read_first(interface: u8, bytes: &[u8]) -> Result<Option<First>, ParseError>
     requires { 16 ≤ length bytes.now }
     ensures { result ≡ first_of interface bytes.now }
 {
-    let length = number32(bytes, 8);
-    let end = length as usize;
-    if end < HEADER_LENGTH {
-        return First::Malformed(ParseError::HeaderLength { length });
+    let header = number32(bytes, 8);
+    let length = header as usize;
+    if length < HEADER_LENGTH || MESSAGE_LENGTH_LIMIT < length {
+        return Err(ParseError::HeaderLength { length: header });
     }
-    if MESSAGE_LENGTH_LIMIT < end {
-        return First::Malformed(ParseError::HeaderLength { length });
+    if bytes.len() < length {
+        return Ok(None);
     }
-    if bytes.len() < end {
-        return First::Wait;
-    }
-    match parse(interface, &bytes[..end]) {
-        Parsed::Malformed(e) => First::Malformed(e),
-        Parsed::Read(arguments) => First::Read {
-            arguments,
-            length: end,
-        },
-    }
+    let arguments = parse(interface, &bytes[..length])?;
+    Ok(Some(First { arguments, length }))
 }

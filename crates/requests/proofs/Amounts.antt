@@ -1,5 +1,5 @@
 -- Signed amounts of 32 bits. A local holds a signed number's bits, so the code's numbers are met as `held`. Assumes nothing.
-use Prim.Native.Nat.{ℕ, zero, suc, ◌-◌, ◌<◌, ◌≤◌, ◌%◌, ◌^◌}
+use Prim.Native.Nat.{ℕ, suc, ◌<◌}
 use mathlib.Core.Path.{◌≡◌, refl, sym, ap, ◌∙◌, subst⁻¹}
 use mathlib.Core.Bool.{true, false}
 use native.Mathlib.Omega.{arith}
@@ -7,10 +7,9 @@ use borrow.Author.Tests.{ltb-true, le-ltb}
 use lib.Dec.{T}
 use lib.IntN.{ℤ, pos, negsuc, ◌-ℤ◌, nat_abs}
 use lib.Signed.{lt_z, non_neg}
-use mir.Facts.{to_z-of_z, to_z_pos, to_z-neg}
+use mir.Facts.{to_z-of_z, to_z_pos}
 use mir.Syntax.{w32, w64}
 use mir.Val.{SFits, Fits, to_z, of_z}
-use Rattle.requests.specs.Row.{amount_of}
 
 -- the number of z's bits
 abbrev pub held : ℤ → ℤ
@@ -25,19 +24,6 @@ turned z = negsuc 0 -ℤ z
 
 turned_negsuc : (k : ℕ) → turned (negsuc k) ≡ pos k
 turned_negsuc k = rw (le-ltb (suc k) 1 (omega arith)) (ap pos (omega arith))
-
-turned_pos : (k : ℕ) → turned (pos k) ≡ negsuc k
-turned_pos zero = refl
-turned_pos (suc k) = ap negsuc (omega arith)
-
--- the amounts of both halves of the bits
-amount_pos : (k : ℕ) → k < 2147483648 → amount_of k ≡ pos k
-unfolding amount_of
-amount_pos k h = let e : k % 4294967296 ≡ k = omega arith in rw e (to_z_pos w32 h)
-
-amount_negsuc : (k : ℕ) → k < 2147483648 → amount_of (4294967295 - k) ≡ negsuc k
-unfolding amount_of
-amount_negsuc k h = let e : (4294967295 - k) % 4294967296 ≡ 2 ^ 32 - suc k = omega arith in rw e (to_z-neg w32 k h)
 
 -- a number of 32 bits by its sign
 record Negative (x : ℤ) : Type 0 where
@@ -78,9 +64,6 @@ module _ (x : ℤ) (f : SFits w32 x) (h : lt_z (held x) (pos 0) ≡ true) where
   pub turned-small : nat_abs (held (turned (held x))) < 2147483648
   turned-small = subst⁻¹ (λ (z : ℤ). nat_abs z < 2147483648) turned-held n.small
 
-  pub negative_bits : amount_of (4294967295 - nat_abs (held (turned (held x)))) ≡ x
-  negative_bits = ap (λ (z : ℤ). amount_of (4294967295 - nat_abs z)) turned-held ∙ amount_negsuc n.k n.small ∙ sym n.is
-
 -- and of one that is not
 module _ (x : ℤ) (f : SFits w32 x) (h : lt_z (held x) (pos 0) ≡ false) where
   m : Natural x
@@ -91,20 +74,3 @@ module _ (x : ℤ) (f : SFits w32 x) (h : lt_z (held x) (pos 0) ≡ false) where
 
   pub natural_cast : T (non_neg (held x)) × Fits w64 (nat_abs (held x))
   natural_cast = subst⁻¹ (λ (z : ℤ). T (non_neg z) × Fits w64 (nat_abs z)) held_pos (tt, record { fits = omega (arith, m.small) })
-
-  pub natural_bits : amount_of (nat_abs (held x)) ≡ x
-  natural_bits = ap (λ (z : ℤ). amount_of (nat_abs z)) held_pos ∙ amount_pos m.k m.small ∙ sym m.is
-
--- what the amount of bits in the upper half asks
-module _ (n : ℕ) (h : 2147483648 ≤ n % 4294967296) where
-  upper : turned (to_z w32 (4294967295 - n % 4294967296)) ≡ negsuc (4294967295 - n % 4294967296)
-  upper = ap turned (to_z_pos w32 {n = 4294967295 - n % 4294967296} (omega arith)) ∙ turned_pos (4294967295 - n % 4294967296)
-
-  pub upper_fits : SFits w32 (turned (to_z w32 (4294967295 - n % 4294967296)))
-  upper_fits = subst⁻¹ (λ (z : ℤ). SFits w32 z) upper (record { sfits = omega arith })
-
-  pub upper_is : held (turned (to_z w32 (4294967295 - n % 4294967296))) ≡ amount_of n
-  unfolding amount_of
-  upper_is =
-      let e : 2 ^ 32 - suc (4294967295 - n % 4294967296) ≡ n % 4294967296 = omega arith in
-      ap held upper ∙ ap (to_z w32) e

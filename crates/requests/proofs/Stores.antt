@@ -1,82 +1,53 @@
--- Stores side by side in a list, over the element type; those of a row; and what a put means. Assumes nothing.
-use Prim.Native.Nat.{ℕ, zero, suc, ◌+◌, ◌*◌, ◌≤◌, ◌<◌}
+-- What a row of values that was put leaves; that of a cell; and what a put means. Assumes nothing.
+use Prim.Native.Nat.{ℕ, ◌+◌, ◌*◌, ◌≤◌, ◌<◌}
 use mathlib.Core.Path.{◌≡◌, refl, ap, ◌∙◌}
 use mathlib.Core.List.{List, [], ◌∷◌}
 use native.Mathlib.Omega.{arith}
 use native.Mathlib.Decide.{dec_lt}
 use mathlib.Core.Logic.{dite}
 use lib.Ieee.{Float, nan}
-use lib.ListN.{length, get_or, set, length-set}
-use lib.Seq.{get_or-set_same, get_or-set_other}
+use lib.ListN.{get_or}
 use Rattle.requests.specs.declared.cell.Cell.{Cell}
-use Rattle.requests.specs.Row.{row_words, row_reals, Put, Within, cell_at}
+use Rattle.requests.specs.Row.{row_words, row_reals, Put, PutRow, cell_at}
 
-module _ {A : Type 0} (l : List A) (b : ℕ) (v : ℕ → A) where
-  -- the list after stores of v 0 to v n at b to b + n
-  abbrev pub stored : ℕ → List A
-  stored zero = set l b (v 0)
-  stored (suc n) = set (stored n) (b + suc n) (v (suc n))
+-- in the row stands what was put there
+pub at : {A : Type 0} {n i : ℕ} {values before after : List A} → PutRow n i values before after → (j k : ℕ) (d : A) → j < n → k ≡ i * n + j → get_or after k d ≡ get_or values j d
+at p j k d l e = rw e (p.here j d l)
 
-  long : (n : ℕ) → length (stored n) ≡ length l
-  long zero = simp length-set
-  long (suc n) = simp length-set (long n)
+-- a place within another row lies below the row's own or above
+pub elsewhere : {A : Type 0} {n i : ℕ} {values before after : List A} → PutRow n i values before after → (m k : ℕ) (d : A) → (m ≡ i → ⊥) → m * n ≤ k → k < m * n + n → get_or after k d ≡ get_or before k d
+elsewhere {n = n} {i = i} p m k d h l u =
+    dite (dec_lt m i)
+    (λ b. p.below k d (let e : m * n + n ≤ i * n = grind arith in omega arith))
+    (λ b. p.above k d (let e : i * n + n ≤ m * n = grind arith in omega arith))
 
-  -- elsewhere it is as it was
-  pub far : (n k : ℕ) (d : A) → ((j : ℕ) → j ≤ n → k ≡ b + j → ⊥) → get_or (stored n) k d ≡ get_or l k d
-  far zero k d h = get_or-set_other l b k (v 0) d (λ e. h 0 (omega arith) (omega arith))
-  far (suc n) k d h = get_or-set_other (stored n) (b + suc n) k (v (suc n)) d (h (suc n) (omega arith)) ∙ far n k d (λ j m. h j (omega arith))
-
-  -- and there stands what was stored
-  pub near : (n j k : ℕ) (d : A) → b + n < length l → j ≤ n → k ≡ b + j → get_or (stored n) k d ≡ v j
-  near zero j k d hl hj hk =
-      let ej : j ≡ 0 = omega arith in
-      let ek : k ≡ b = omega arith in
-      rw (ej, ek) (get_or-set_same l b (v 0) d (omega arith))
-  near (suc n) j k d hl hj hk =
-      dite (dec_lt j (suc n))
-      (λ m. get_or-set_other (stored n) (b + suc n) k (v (suc n)) d (λ e. omega arith) ∙ near n j k d (omega arith) (omega arith) hk)
-      (λ m.
-      let ej : j ≡ suc n = omega arith in
-      let ek : k ≡ b + suc n = omega arith in
-      rw (ej, ek) (get_or-set_same (stored n) (b + suc n) (v (suc n)) d (omega (arith, long n))))
-
--- a row's stores of its words and reals
-module _ (words : List ℕ) (reals : List Float) (i : ℕ) (c : Cell) (h : Within words reals i) where
-  abbrev pub word_of : ℕ → ℕ
-  word_of k = get_or (c.kind ∷ c.object ∷ c.time ∷ c.extra ∷ c.flag ∷ []) k 0
-
-  abbrev pub real_of : ℕ → Float
-  real_of k = get_or (c.x ∷ c.y ∷ []) k nan
-
-  word : (j k : ℕ) → j ≤ 4 → k ≡ i * row_words + j → get_or (stored words (i * row_words) word_of 4) k 0 ≡ word_of j
-  word j k = near words (i * row_words) word_of 4 j k 0 (omega arith)
-
-  real : (j k : ℕ) → j ≤ 1 → k ≡ i * row_reals + j → get_or (stored reals (i * row_reals) real_of 1) k nan ≡ real_of j
-  real j k = near reals (i * row_reals) real_of 1 j k nan (omega arith)
-
-  pub written : Put (cell_at words reals) (cell_at (stored words (i * row_words) word_of 4) (stored reals (i * row_reals) real_of 1)) i c
-  unfolding cell_at
-  written =
-      record {
-        here = λ t. record {
-          kind = word 0 (i * row_words) (omega arith) (omega arith) t;
-          object = word 1 (i * row_words + 1) (omega arith) refl t;
-          time = word 2 (i * row_words + 2) (omega arith) refl t;
-          extra = word 3 (i * row_words + 3) (omega arith) refl t;
-          flag = word 4 (i * row_words + 4) (omega arith) refl t;
-          x = real 0 (i * row_reals) (omega arith) (omega arith) t;
-          y = real 1 (i * row_reals + 1) (omega arith) refl t;
-        };
-        other = λ m n t. record {
-          kind = far words (i * row_words) word_of 4 (m * row_words) 0 (λ j l e. n (omega arith)) t;
-          object = far words (i * row_words) word_of 4 (m * row_words + 1) 0 (λ j l e. n (omega arith)) t;
-          time = far words (i * row_words) word_of 4 (m * row_words + 2) 0 (λ j l e. n (omega arith)) t;
-          extra = far words (i * row_words) word_of 4 (m * row_words + 3) 0 (λ j l e. n (omega arith)) t;
-          flag = far words (i * row_words) word_of 4 (m * row_words + 4) 0 (λ j l e. n (omega arith)) t;
-          x = far reals (i * row_reals) real_of 1 (m * row_reals) nan (λ j l e. n (omega arith)) t;
-          y = far reals (i * row_reals) real_of 1 (m * row_reals + 1) nan (λ j l e. n (omega arith)) t;
-        };
-      }
+-- the words and the reals of a row were put
+pub written : (words words' : List ℕ) (reals reals' : List Float) (i : ℕ) (c : Cell)
+    → PutRow row_words i (c.kind ∷ c.object ∷ c.time ∷ c.extra ∷ c.flag ∷ []) words words'
+    → PutRow row_reals i (c.x ∷ c.y ∷ []) reals reals'
+    → Put (cell_at words reals) (cell_at words' reals') i c
+unfolding cell_at
+written words words' reals reals' i c w r =
+    record {
+      here = λ t. record {
+        kind = at w 0 (i * row_words) 0 (omega arith) (omega arith) t;
+        object = at w 1 (i * row_words + 1) 0 (omega arith) refl t;
+        time = at w 2 (i * row_words + 2) 0 (omega arith) refl t;
+        extra = at w 3 (i * row_words + 3) 0 (omega arith) refl t;
+        flag = at w 4 (i * row_words + 4) 0 (omega arith) refl t;
+        x = at r 0 (i * row_reals) nan (omega arith) (omega arith) t;
+        y = at r 1 (i * row_reals + 1) nan (omega arith) refl t;
+      };
+      other = λ m n t. record {
+        kind = elsewhere w m (m * row_words) 0 n (omega arith) (omega arith) t;
+        object = elsewhere w m (m * row_words + 1) 0 n (omega arith) (omega arith) t;
+        time = elsewhere w m (m * row_words + 2) 0 n (omega arith) (omega arith) t;
+        extra = elsewhere w m (m * row_words + 3) 0 n (omega arith) (omega arith) t;
+        flag = elsewhere w m (m * row_words + 4) 0 n (omega arith) (omega arith) t;
+        x = elsewhere r m (m * row_reals) nan n (omega arith) (omega arith) t;
+        y = elsewhere r m (m * row_reals + 1) nan n (omega arith) (omega arith) t;
+      };
+    }
 
 -- a put into a table is one into the table of what its values mean
 pub mapped : {A B : Type 0} (f : A → B) {before after : ℕ → A} {i : ℕ} {a : A} {b : B} → Put before after i a → f a ≡ b → Put (λ j. f (before j)) (λ j. f (after j)) i b

@@ -1,14 +1,14 @@
 -- What `device` of src/request.rs answers for each request, and what a frame and a text make of it. Assumes nothing.
-use Rattle.std.specs.Prelude.{ℕ, Bool, true, false}
+use Rattle.std.specs.Prelude.{ℕ, Bool, true, false, Some, None}
+use Rattle.std.specs.Prelude as rust
 use Rattle.std.proofs.Math.Option.{Option, none, some}
-use Rattle.requests.specs.declared.request.DeviceOf.{DeviceOf}
 use Rattle.requests.specs.declared.request.EisRequest.{EisRequest}
 use Rattle.requests.specs.declared.request.EisRequest.TheVariants.{Disconnect, Bind, DeviceClosed, RequestDevice, Frame, Ready, DeviceStartEmulating, DeviceStopEmulating, PointerMotion, PointerMotionAbsolute, Button, ScrollDelta, ScrollStop, ScrollCancel, ScrollDiscrete, KeyboardKey, TouchDown, TouchUp, TouchMotion, TouchCancel, TextKeysym, TextUtf8}
 
 -- what is asked of a request
 pub record Form : Type 0 where
   -- the device that it is on
-  pub device : DeviceOf
+  pub device : rust.Option ℕ
   -- the length of the text that lies beside it
   pub text : Option ℕ
   -- the request as the frame of a device queues it
@@ -21,13 +21,13 @@ lost d t = ScrollStop d t false false
 
 -- one on no device; one on a device that is not timed; and a timed one
 abbrev apart : Form
-apart = record { device = DeviceOf.None; text = none; framed = lost }
+apart = record { device = None; text = none; framed = lost }
 
 abbrev still : (device : ℕ) → Form
-still d = record { device = DeviceOf.Some d; text = none; framed = lost }
+still d = record { device = Some d; text = none; framed = lost }
 
 abbrev timed : (device : ℕ) → ((device time : ℕ) → EisRequest) → Form
-timed d at = record { device = DeviceOf.Some d; text = none; framed = at }
+timed d at = record { device = Some d; text = none; framed = at }
 
 abbrev pub form : EisRequest → Form
 form Disconnect = apart
@@ -51,10 +51,10 @@ form (TouchUp d u i) = timed d (λ e t. TouchUp e t i)
 form (TouchMotion d u i x y) = timed d (λ e t. TouchMotion e t i x y)
 form (TouchCancel d u i) = timed d (λ e t. TouchCancel e t i)
 form (TextKeysym d u k s) = timed d (λ e t. TextKeysym e t k s)
-form (TextUtf8 d u n) = record { device = DeviceOf.Some d; text = some n; framed = λ e t. TextUtf8 e t n }
+form (TextUtf8 d u n) = record { device = Some d; text = some n; framed = λ e t. TextUtf8 e t n }
 
 -- "Returns the high-level `Device` wrapper for this request, if applicable."
-abbrev pub device_of : EisRequest → DeviceOf
+abbrev pub device_of : EisRequest → rust.Option ℕ
 device_of r = (form r).device
 
 -- a pending request on the device of the frame, at the frame's time

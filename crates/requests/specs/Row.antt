@@ -1,5 +1,5 @@
 -- A request as a row of the lent slices: some words and reals. Every row of numbers means some request. Assumes nothing.
-use Rattle.std.specs.Prelude.{ℕ, ◌+◌, ◌*◌, ◌≤◌, ◌%◌, ◌≡◌, Bool, cond, ◌&&◌, List, [], ◌∷◌, eqb, leb, Float, ℤ, get_or, length}
+use Rattle.std.specs.Prelude.{ℕ, ◌+◌, ◌*◌, ◌≤◌, ◌<◌, ◌%◌, ◌≡◌, Bool, cond, ◌&&◌, List, [], ◌∷◌, eqb, leb, Float, ℤ, get_or, length}
 use Rattle.std.specs.Float.{nan}
 use Rattle.std.specs.Int.{w32}
 use Rattle.std.proofs.Common.{to_z}
@@ -115,6 +115,12 @@ row_at words reals i = row_of (cell_at words reals i)
 -- row i lies within the words and the reals
 abbrev pub Within : List ℕ → List Float → ℕ → Type 0
 Within words reals i = (i * row_words + row_words ≤ length words) × (i * row_reals + row_reals ≤ length reals)
+
+-- a table whose rows have n entries each, after the values were put into a row: there they stand, and every other entry is as it was
+pub record PutRow {A : Type 0} (n row : ℕ) (values before after : List A) : Type 0 where
+  pub here : (j : ℕ) (d : A) → j < n → get_or after (row * n + j) d ≡ get_or values j d
+  pub below : (k : ℕ) (d : A) → k < row * n → get_or after k d ≡ get_or before k d
+  pub above : (k : ℕ) (d : A) → row * n + n ≤ k → get_or after k d ≡ get_or before k d
 
 -- a table after a was put at place i: there it stands, and every other place is as it was
 pub record Put {A : Type 0} (before after : ℕ → A) (i : ℕ) (a : A) : Type 0 where

@@ -1,5 +1,7 @@
 // A request as numbers. The requests that come most often are made here without the enum, which would go through memory on its way to a row.
-ghost use Rattle.std.specs.Prelude.{◌≡◌, eqb};
+#![tactic(auto, using(crate::proofs::Cells::low_is, crate::proofs::Cells::byte_is, crate::proofs::Cells::button_is, crate::proofs::Cells::key_is), unfolding(crate::specs::Row::request_of, crate::specs::Row::row_of, crate::specs::Row::entry, crate::specs::Row::amount_of))]
+
+ghost use Rattle.std.specs.Prelude.{◌≡◌};
 ghost use Rattle.requests.specs.Row.{no_slot, amount_of, cell_of, request_of, row_of, entry};
 
 use crate::kinds;
@@ -7,7 +9,7 @@ use crate::request::EisRequest;
 use eiproto::eiproto_enum::{ButtonState, KeyState};
 
 // A request's numbers, by value.
-#[derive(Clone, Copy)]
+#[derive(Clone, Copy, Debug, PartialEq)]
 pub struct Cell {
     // The request's place in the enum.
     pub kind: u64,
@@ -22,7 +24,7 @@ pub struct Cell {
     pub y: f32,
 }
 
-// The cell of these numbers; as a row it is what they mean, with the flag for a text's slot.
+// The cell of these numbers; as a row it is what they mean, with the flag for a text's slot. By place, as `cell_of` of specs/Row.
 pub fn cell_of(kind: u64, object: u64, time: u64, extra: u64, flag: u64, x: f32, y: f32) -> Cell
     ensures { row_of result ≡ entry (request_of (cell_of kind object time extra flag x y)) flag }
 {
@@ -37,22 +39,11 @@ pub fn cell_of(kind: u64, object: u64, time: u64, extra: u64, flag: u64, x: f32,
     }
 }
 
-fn bit(b: bool) -> u64
-    ensures { eqb result 1 ≡ b }
-{
-    if b { 1 } else { 0 }
-}
-
 // The bits of a signed amount, in two's complement.
 pub fn amount_bits(x: i32) -> u64
     ensures { amount_of result ≡ x }
 {
-    if x < 0 {
-        let k = (-1 - x) as u64;
-        4294967295 - k
-    } else {
-        x as u64
-    }
+    u64::from(x.cast_unsigned())
 }
 
 // The cells of a frame and of the timed requests, each named after its variant. A slot counts for a text alone.
@@ -97,13 +88,29 @@ pub fn scroll_delta(device: u64, time: u64, dx: f32, dy: f32) -> Cell
 pub fn scroll_stop(device: u64, time: u64, x: bool, y: bool) -> Cell
     ensures { row_of result ≡ entry (EisRequest.ScrollStop device time x y) no_slot }
 {
-    cell_of(kinds::SCROLL_STOP, device, time, bit(x), bit(y), 0.0, 0.0)
+    cell_of(
+        kinds::SCROLL_STOP,
+        device,
+        time,
+        u64::from(x),
+        u64::from(y),
+        0.0,
+        0.0,
+    )
 }
 
 pub fn scroll_cancel(device: u64, time: u64, x: bool, y: bool) -> Cell
     ensures { row_of result ≡ entry (EisRequest.ScrollCancel device time x y) no_slot }
 {
-    cell_of(kinds::SCROLL_CANCEL, device, time, bit(x), bit(y), 0.0, 0.0)
+    cell_of(
+        kinds::SCROLL_CANCEL,
+        device,
+        time,
+        u64::from(x),
+        u64::from(y),
+        0.0,
+        0.0,
+    )
 }
 
 pub fn scroll_discrete(device: u64, time: u64, dx: i32, dy: i32) -> Cell

@@ -1,4 +1,5 @@
 // The kinds of requests in a cell: their places in the enum.
+// Numbers and no enum, since any number means some request (`request_of` of specs/Row, `kind_past`) and C is handed them.
 ghost use Rattle.std.specs.Prelude.{◌≡◌};
 ghost use Rattle.requests.specs.Row.{timed_kind};
 
@@ -50,5 +51,5 @@ pub const TEXT_UTF8: u64 = 21;
 pub fn is_timed(kind: u64) -> bool
     ensures { result ≡ timed_kind kind }
 {
-    POINTER_MOTION <= kind && kind <= TEXT_UTF8
+    matches!(kind, POINTER_MOTION..=TEXT_UTF8)
 }

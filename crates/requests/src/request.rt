@@ -5,7 +5,7 @@ ghost use Rattle.requests.specs.Request.{text_length, device_of};
 
 use eiproto::eiproto_enum::{ButtonState, KeyState};
 
-#[derive(Clone, Copy)]
+#[derive(Clone, Copy, Debug, PartialEq)]
 pub enum EisRequest {
     Disconnect,
     Bind {
@@ -121,13 +121,6 @@ pub enum EisRequest {
     },
 }
 
-// The device of a request, if it has one.
-#[derive(Clone, Copy)]
-pub enum DeviceOf {
-    Some(u64),
-    None,
-}
-
 impl EisRequest {
     // How many bytes the text beside the request has; 0 where there is none.
     pub fn text_length(self) -> u8
@@ -140,32 +133,32 @@ impl EisRequest {
     }
 
     // The device of the request, if it has one.
-    pub fn device(self) -> DeviceOf
+    pub fn device(self) -> Option<u64>
         ensures { result ≡ device_of self }
     {
         match self {
-            EisRequest::DeviceClosed { device } => DeviceOf::Some(device),
-            EisRequest::Frame { device, .. } => DeviceOf::Some(device),
-            EisRequest::Ready { device } => DeviceOf::Some(device),
-            EisRequest::DeviceStartEmulating { device, .. } => DeviceOf::Some(device),
-            EisRequest::DeviceStopEmulating { device, .. } => DeviceOf::Some(device),
-            EisRequest::PointerMotion { device, .. } => DeviceOf::Some(device),
-            EisRequest::PointerMotionAbsolute { device, .. } => DeviceOf::Some(device),
-            EisRequest::Button { device, .. } => DeviceOf::Some(device),
-            EisRequest::ScrollDelta { device, .. } => DeviceOf::Some(device),
-            EisRequest::ScrollStop { device, .. } => DeviceOf::Some(device),
-            EisRequest::ScrollCancel { device, .. } => DeviceOf::Some(device),
-            EisRequest::ScrollDiscrete { device, .. } => DeviceOf::Some(device),
-            EisRequest::KeyboardKey { device, .. } => DeviceOf::Some(device),
-            EisRequest::TouchDown { device, .. } => DeviceOf::Some(device),
-            EisRequest::TouchUp { device, .. } => DeviceOf::Some(device),
-            EisRequest::TouchMotion { device, .. } => DeviceOf::Some(device),
-            EisRequest::TouchCancel { device, .. } => DeviceOf::Some(device),
-            EisRequest::TextKeysym { device, .. } => DeviceOf::Some(device),
-            EisRequest::TextUtf8 { device, .. } => DeviceOf::Some(device),
-            EisRequest::Disconnect => DeviceOf::None,
-            EisRequest::Bind { .. } => DeviceOf::None,
-            EisRequest::RequestDevice { .. } => DeviceOf::None,
+            EisRequest::DeviceClosed { device }
+            | EisRequest::Frame { device, .. }
+            | EisRequest::Ready { device }
+            | EisRequest::DeviceStartEmulating { device, .. }
+            | EisRequest::DeviceStopEmulating { device, .. }
+            | EisRequest::PointerMotion { device, .. }
+            | EisRequest::PointerMotionAbsolute { device, .. }
+            | EisRequest::Button { device, .. }
+            | EisRequest::ScrollDelta { device, .. }
+            | EisRequest::ScrollStop { device, .. }
+            | EisRequest::ScrollCancel { device, .. }
+            | EisRequest::ScrollDiscrete { device, .. }
+            | EisRequest::KeyboardKey { device, .. }
+            | EisRequest::TouchDown { device, .. }
+            | EisRequest::TouchUp { device, .. }
+            | EisRequest::TouchMotion { device, .. }
+            | EisRequest::TouchCancel { device, .. }
+            | EisRequest::TextKeysym { device, .. }
+            | EisRequest::TextUtf8 { device, .. } => Some(device),
+            EisRequest::Disconnect | EisRequest::Bind { .. } | EisRequest::RequestDevice { .. } => {
+                None
+            }
         }
     }
 }

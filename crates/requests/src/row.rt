@@ -1,7 +1,7 @@
 // A request as a row of lent slices: some words and reals, with no two fields in one word.
 // Any numbers mean some request, so what is read needs no test. Rows are named by their number; where they lie is known here alone.
-ghost use Rattle.std.specs.Prelude.{◌≡◌};
-ghost use Rattle.requests.specs.Row.{low, amount_of, key_state, button_state, request_of, row_of, entry, framed_row, cell_at, row_at, Within, Put, PutFramed};
+ghost use Rattle.std.specs.Prelude.{◌≡◌, ◌+◌, ◌*◌, ◌<◌, ◌≤◌, ℕ, get_or, length};
+ghost use Rattle.requests.specs.Row.{PutRow, low, amount_of, key_state, button_state, request_of, row_of, entry, framed_row, cell_at, row_at, Within, Put, PutFramed};
 
 use crate::cell::Cell;
 use crate::request::EisRequest;
@@ -25,6 +25,7 @@ pub fn low(n: u64) -> u32
     (n % 4294967296) as u32
 }
 
+// The states that numbers mean. Any number means one (`request_of` of specs/Row), so these are no `TryFrom`.
 pub fn button_state(n: u64) -> ButtonState
     ensures { result ≡ button_state n }
 {
@@ -46,19 +47,15 @@ pub fn key_state(n: u64) -> KeyState
 }
 
 // A signed amount from its bits, in two's complement.
+#[tactic(auto, unfolding(crate::specs::Row::amount_of))]
 pub fn amount(n: u64) -> i32
     ensures { result ≡ amount_of n }
 {
-    let m = n % 4294967296;
-    if m < 2147483648 {
-        m as i32
-    } else {
-        let k = (4294967295 - m) as i32;
-        -1 - k
-    }
+    low(n).cast_signed()
 }
 
 // The cell of a request: decoded, it is the request again, every float and signed amount as it was. The slot counts for a text alone.
+#[tactic(auto, using(crate::proofs::Cells::low_is), unfolding(crate::specs::Row::request_of, crate::specs::Row::row_of, crate::specs::Row::entry))]
 pub fn encode(r: EisRequest, slot: usize) -> Cell
     ensures { row_of result ≡ entry r slot }
 {
@@ -199,18 +196,12 @@ pub fn encode(r: EisRequest, slot: usize) -> Cell
 }
 
 // The request that a cell means. A number too wide for its field is cut, and a kind past the last means `Disconnect`.
+// An arm for each kind, as `meanings` of specs/Row has them: a row is what C is handed.
+#[tactic(auto, unfolding(crate::specs::Row::request_of, crate::specs::Row::amount_of))]
 pub fn decode(c: Cell) -> EisRequest
     ensures { result ≡ request_of c }
 {
-    let kind = c.kind;
-    // The extra and the flag as the kinds read them.
-    let dx = amount(c.extra);
-    let dy = amount(c.flag);
-    let button = button_state(c.flag);
-    let key = key_state(c.flag);
-    let flag = low(c.flag);
-    let extra = low(c.extra);
-    match kind {
+    match c.kind {
         kinds::DISCONNECT => EisRequest::Disconnect,
         kinds::BIND => EisRequest::Bind {
             seat: c.object,
@@ -223,18 +214,18 @@ pub fn decode(c: Cell) -> EisRequest
         },
         kinds::FRAME => EisRequest::Frame {
             device: c.object,
-            last_serial: extra,
+            last_serial: low(c.extra),
             time: c.time,
         },
         kinds::READY => EisRequest::Ready { device: c.object },
         kinds::DEVICE_START_EMULATING => EisRequest::DeviceStartEmulating {
             device: c.object,
-            last_serial: extra,
-            sequence: flag,
+            last_serial: low(c.extra),
+            sequence: low(c.flag),
         },
         kinds::DEVICE_STOP_EMULATING => EisRequest::DeviceStopEmulating {
             device: c.object,
-            last_serial: extra,
+            last_serial: low(c.extra),
         },
         kinds::POINTER_MOTION => EisRequest::PointerMotion {
             device: c.object,
@@ -251,8 +242,8 @@ pub fn decode(c: Cell) -> EisRequest
         kinds::BUTTON => EisRequest::Button {
             device: c.object,
             time: c.time,
-            button: extra,
-            state: button,
+            button: low(c.extra),
+            state: button_state(c.flag),
         },
         kinds::SCROLL_DELTA => EisRequest::ScrollDelta {
             device: c.object,
@@ -275,44 +266,44 @@ pub fn decode(c: Cell) -> EisRequest
         kinds::SCROLL_DISCRETE => EisRequest::ScrollDiscrete {
             device: c.object,
             time: c.time,
-            discrete_dx: dx,
-            discrete_dy: dy,
+            discrete_dx: amount(c.extra),
+            discrete_dy: amount(c.flag),
         },
         kinds::KEYBOARD_KEY => EisRequest::KeyboardKey {
             device: c.object,
             time: c.time,
-            key: extra,
-            state: key,
+            key: low(c.extra),
+            state: key_state(c.flag),
         },
         kinds::TOUCH_DOWN => EisRequest::TouchDown {
             device: c.object,
             time: c.time,
-            touch_id: extra,
+            touch_id: low(c.extra),
             x: c.x,
             y: c.y,
         },
         kinds::TOUCH_UP => EisRequest::TouchUp {
             device: c.object,
             time: c.time,
-            touch_id: extra,
+            touch_id: low(c.extra),
         },
         kinds::TOUCH_MOTION => EisRequest::TouchMotion {
             device: c.object,
             time: c.time,
-            touch_id: extra,
+            touch_id: low(c.extra),
             x: c.x,
             y: c.y,
         },
         kinds::TOUCH_CANCEL => EisRequest::TouchCancel {
             device: c.object,
             time: c.time,
-            touch_id: extra,
+            touch_id: low(c.extra),
         },
         kinds::TEXT_KEYSYM => EisRequest::TextKeysym {
             device: c.object,
             time: c.time,
-            keysym: extra,
-            state: key,
+            keysym: low(c.extra),
+            state: key_state(c.flag),
         },
         kinds::TEXT_UTF8 => EisRequest::TextUtf8 {
             device: c.object,
@@ -341,27 +332,53 @@ fn framed(c: Cell, device: u64, time: u64) -> Cell
     if !kinds::is_timed(c.kind) {
         return cell::scroll_stop(device, time, false, false);
     }
-    let mut r = c;
-    r.object = device;
-    r.time = time;
-    r
+    Cell {
+        object: device,
+        time,
+        ..c
+    }
+}
+
+// The entries of a row, in a table whose rows have so many each.
+pub fn entries<T: Copy, const N: usize>(table: &[T], row: usize) -> [T; N]
+    requires { row * N + N ≤ length table.now }
+    ensures { (j : ℕ) (d : T) → j < N → get_or result j d ≡ get_or table.now (row * N + j) d }
+{
+    *table[row * N..row * N + N].as_array().unwrap()
+}
+
+// A slice as long as the array becomes it.
+fn set<T: Copy, const N: usize>(part: &mut [T], values: [T; N])
+    requires { length part.old ≡ N }
+    ensures { part.new ≡ values }
+{
+    *part.as_mut_array().unwrap() = values;
+}
+
+// Stores the entries of a row, and changes no other.
+pub fn put_entries<T: Copy, const N: usize>(table: &mut [T], row: usize, values: [T; N])
+    requires { row * N + N ≤ length table.old }
+    ensures { PutRow N row values table.old table.new }
+{
+    set(&mut table[row * N..row * N + N], values);
 }
 
 // The cell of a row.
+#[tactic(auto, unfolding(crate::specs::Row::cell_at))]
 pub fn read_cell(words: &[u64], reals: &[f32], row: usize) -> Cell
     requires { Within words.now reals.now row }
     ensures { result ≡ cell_at words.now reals.now row }
 {
-    let w = row * ROW_WORDS;
-    let r = row * ROW_REALS;
+    let [kind, object, time, extra, flag] = entries::<u64, ROW_WORDS>(words, row);
+    let [x, y] = entries::<f32, ROW_REALS>(reals, row);
     Cell {
-        kind: words[w],
-        object: words[w + 1],
-        time: words[w + 2],
-        extra: words[w + 3],
-        flag: words[w + 4],
-        x: reals[r],
-        y: reals[r + 1],
+        kind,
+        object,
+        time,
+        extra,
+        flag,
+        x,
+        y,
     }
 }
 
@@ -369,18 +386,12 @@ fn write_cell(words: &mut [u64], reals: &mut [f32], row: usize, c: Cell)
     requires { Within words.old reals.old row }
     ensures { Put (cell_at words.old reals.old) (cell_at words.new reals.new) row c }
 {
-    let w = row * ROW_WORDS;
-    let r = row * ROW_REALS;
-    words[w] = c.kind;
-    words[w + 1] = c.object;
-    words[w + 2] = c.time;
-    words[w + 3] = c.extra;
-    words[w + 4] = c.flag;
-    reals[r] = c.x;
-    reals[r + 1] = c.y;
+    put_entries(words, row, [c.kind, c.object, c.time, c.extra, c.flag]);
+    put_entries(reals, row, [c.x, c.y]);
 }
 
 // The slot of a row's text; `NO_SLOT` where the row has no text.
+#[tactic(auto, unfolding(crate::specs::Row::row_at))]
 pub fn load_slot(words: &[u64], reals: &[f32], row: usize) -> usize
     requires { Within words.now reals.now row }
     ensures { result ≡ (row_at words.now reals.now row).slot }
@@ -389,6 +400,7 @@ pub fn load_slot(words: &[u64], reals: &[f32], row: usize) -> usize
 }
 
 // Stores a cell in a row.
+#[tactic(auto, using(crate::proofs::Stores::mapped), unfolding(crate::specs::Row::row_at))]
 pub fn put_cell(words: &mut [u64], reals: &mut [f32], row: usize, c: Cell)
     requires { Within words.old reals.old row }
     ensures { Put (row_at words.old reals.old) (row_at words.new reals.new) row (row_of c) }
@@ -405,6 +417,7 @@ pub fn put(words: &mut [u64], reals: &mut [f32], row: usize, r: EisRequest, slot
 }
 
 // Copies a pending row over another, as the frame of its device queues it.
+#[tactic(auto, using(crate::proofs::Stores::mapped), unfolding(crate::specs::Row::row_at))]
 pub fn copy_framed(
     words: &mut [u64],
     reals: &mut [f32],

@@ -1,5 +1,4 @@
--- The slices hold whole records, and those that were looked at are requests'. Assumes nothing.
-use Prim.Native.Nat.{◌-◌, ◌≤◌}
+-- The records that were looked at are requests'. Assumes nothing.
 use mathlib.Core.Path.{◌≡◌}
 use mathlib.Core.Bool.{true}
 use Rattle.eiproto.specs.Bits.{every}
@@ -8,7 +7,4 @@ use Rattle.lent_read.specs.Numbers.{is_request, cell_at}
 use Rattle.lent_read.proofs.are_requests.Given as goal
 
 abbrev pub invariant-loop-i : goal.invariant-loop-i
-invariant-loop-i l = (l.i ≤ l.n) × (every is_request (tab l.i (cell_at l.records l.points)) ≡ true)
-
-abbrev pub decreases-loop-i : goal.decreases-loop-i
-decreases-loop-i l = l.n - l.i
+invariant-loop-i l = every is_request (tab l.i (cell_at l.records l.points)) ≡ true

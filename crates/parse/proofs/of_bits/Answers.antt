@@ -3,10 +3,9 @@ use Prim.Native.Nat.{ℕ, ◌%◌, ◌<◌, ◌≤◌}
 use mathlib.Core.Path.{◌≡◌, refl, sym, ◌∙◌}
 use mathlib.Core.Bool.{not, true}
 use native.Mathlib.Omega.{arith}
-use borrow.Author.Rules.{rules}
 use borrow.Author.Tests.{lt-ltb, le-ltb}
 use lib.Dec.{T}
-use lib.Ieee.{Float, nan, inf, fin, is_nan, of_bits, nan_bits, binary32, div}
+use lib.Ieee.{Float, nan, inf, fin, is_nan, of_bits, nan_bits, binary32}
 use lib.Ieee.Bits.{nan_bits_is, nan_bits_above}
 use Rattle.parse.proofs.of_bits.Goals as goal
 
@@ -23,7 +22,7 @@ below : (n : ℕ) → n % 0x80000000 ≤ 0x7f800000 → T (not (nan_bits binary3
 below n h = rw (nan_bits_above binary32 n, le-ltb 0x7f800000 (n % 0x80000000) h) tt
 
 pub returns-then-bits-gt2139095040 : goal.returns-then-bits-gt2139095040
-unfolding div of_bits
+unfolding of_bits
 returns-then-bits-gt2139095040 c = above c.args.bits c.if-bits-gt2139095040.true
 
 pub float_from_bits-result : goal.float_from_bits-result

@@ -1,5 +1,4 @@
 -- The kinds that pass the test are timed, and no others. Assumes nothing.
-use borrow.Author.Rules.{rules}
 use borrow.Author.Tests.{not-true, not-false}
 use mathlib.Core.Path.{sym, ◌∙◌}
 use Rattle.requests.proofs.Cells.{framed_row_lem, lost-row}

@@ -1,5 +1,4 @@
 -- The texts are the cells of their kind. Assumes nothing.
-use borrow.Author.Rules.{rules}
 use borrow.Author.Tests.{eq-eqb, ne_eqb}
 use Rattle.requests.specs.Row.{row_of, entry}
 use Rattle.requests.proofs.Cells.{kind-text}
