@@ -66,7 +66,7 @@ call_of x = record { request = request_of x.request x.text; room = length x.out 
 
 -- the session, outcome and event bytes of an answer
 abbrev pub seen_in : HandshakeAnswer → (later : List ℕ) → paper.Step
-seen_in r later = record { handshake = view_of r.handshaker; outcome = outcome_of r.outcome r.response; bytes = take r.count later }
+seen_in r later = record { handshake = view_of r.handshaker; outcome = outcome_of r.outcome; bytes = take r.count later }
 
 abbrev pub seen : HandshakeExchange → paper.Step
 seen x = seen_in x.answer x.later

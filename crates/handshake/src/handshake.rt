@@ -1,23 +1,23 @@
 // The handshake on the server side (`EisHandshaker` of src/handshake.rs): a client says who it is and which interfaces it knows.
 // A handshake goes into each call by value and comes back with the answer.
-ghost use Rattle.std.specs.Prelude.{◌+◌, ◌≤◌, ◌<◌, min, true, false, ◌≡◌, length};
+ghost use Rattle.std.specs.Prelude.{◌+◌, ◌≤◌, ◌<◌, true, false, ◌≡◌, length};
 ghost use Rattle.std.proofs.Math.Option.{some};
+ghost use Rattle.eiproto.specs.Told.{told};
 ghost use Rattle.wire.specs.Put.{PutWhole, Wrote};
 ghost use Rattle.handshake.specs.Handshake as paper;
-ghost use Rattle.handshake.specs.View.{view_of, versions_of, name_of, context_of, is_sound, request_of, number, response_of};
-ghost use Rattle.handshake.specs.View.{no_name, no_interfaces, no_response, unfinished, Meets, Done, Quiet, Handled};
+ghost use Rattle.handshake.specs.View.{view_of, versions_of, name_of, is_sound, request_of, number, response_of};
+ghost use Rattle.handshake.specs.View.{no_name, no_interfaces, quiet, Meets, Done, Quiet, Handled};
 
 use eiproto::eiproto_eis;
-use eiproto::eiproto_eis::Found;
 use eiproto::eiproto_enum::ContextType;
-use wire::backend::NewObjects;
 use wire::event::Event;
 use wire::{backend, event};
 
 // The most bytes of a name; a longer one is `NameLong`.
 pub const NAME_LENGTH_LIMIT: usize = 254;
 
-// The client's name, or that it has not been said. The bytes past its length say nothing.
+// The client's name, or that it has not been said. The bytes past its length say nothing. No `Option`: a length above the limit is a
+// damaged handshake whether a name is given or not (`is_sound`, `Handled`).
 #[derive(Clone, Copy)]
 pub struct Name {
     pub bytes: [u8; NAME_LENGTH_LIMIT],
@@ -25,26 +25,13 @@ pub struct Name {
     pub given: bool,
 }
 
-// The context type, or that it has not been said.
-#[derive(Clone, Copy)]
-pub enum Context {
-    Given(ContextType),
-    Unknown,
-}
-
-// An interface's version, or that none was negotiated.
-#[derive(Clone, Copy)]
-pub struct InterfaceVersion {
-    pub negotiated: bool,
-    pub version: u32,
-}
-
-// A handshake under way. Its interfaces stand in the order of their numbers, from 1 on.
+// A handshake under way. Its context type is there once it was said; its interfaces are the versions negotiated, in the order of their
+// numbers, from 1 on.
 #[derive(Clone, Copy)]
 pub struct EisHandshaker {
     pub name: Name,
-    pub context: Context,
-    pub interfaces: [InterfaceVersion; 12],
+    pub context: Option<ContextType>,
+    pub interfaces: [Option<u32>; 12],
     pub serial: u32,
     pub next: u64,
 }
@@ -61,63 +48,45 @@ pub enum HandshakeMessage {
     Other,
 }
 
-// What a Finish settles that succeeds, and what the session goes on from: its serial and the next object id.
+// What a Finish settles that succeeds, and what the session goes on from: its serial and the next object id. It shares no struct with
+// `EisHandshaker`: the context type is settled here and the next id another, so a part of three fields would only lengthen each path.
 #[derive(Clone, Copy)]
 pub struct EisHandshakeResp {
     pub connection: u64,
     pub name: Name,
     pub context: ContextType,
-    pub interfaces: [InterfaceVersion; 12],
+    pub interfaces: [Option<u32>; 12],
     pub serial: u32,
     pub next: u64,
 }
 
-// Why a call is refused: the source's three, then those that the port adds.
-#[derive(Clone, Copy)]
+// Why a call is refused: the source's three, then those that the port adds. Each has the number that docs/REFERENCE.md lists.
+#[derive(Clone, Copy, Debug, PartialEq, Eq)]
 pub enum HandshakeError {
-    NonHandshakeEvent,
-    DuplicateEvent,
-    MissingInterface,
-    BadUtf8,
-    NameLong,
-    ShortOut,
-    IdsSpent,
-    BadState,
+    NonHandshakeEvent = 7,
+    DuplicateEvent = 8,
+    MissingInterface = 9,
+    BadUtf8 = 10,
+    NameLong = 11,
+    ShortOut = 19,
+    IdsSpent = 20,
+    BadState = 21,
 }
 
-// How a call ends: `Ok(None)`, `Ok(Some(..))` and `Err(..)` of the source.
-#[derive(Clone, Copy)]
-pub enum HandshakeOutcome {
-    Accepted,
-    Finished,
-    Refused(HandshakeError),
-}
-
-// What a call gives: the handshake after it, its outcome, what a Finish settled (blank but for Finished), and how many bytes
-// of events were written.
+// What a call gives: the handshake after it, its outcome, with what a Finish settled, and how many bytes of events were written:
+// `MissingInterface` is refused behind its report, so that the count is no part of the outcome.
 #[derive(Clone, Copy)]
 pub struct HandshakeAnswer {
     pub handshaker: EisHandshaker,
-    pub outcome: HandshakeOutcome,
-    pub response: EisHandshakeResp,
+    pub outcome: Result<Option<EisHandshakeResp>, HandshakeError>,
     pub count: usize,
 }
 
 impl HandshakeError {
-    // Its number, as docs/REFERENCE.md lists them.
     pub fn number(self) -> u32
         ensures { result ≡ number self }
     {
-        match self {
-            HandshakeError::NonHandshakeEvent => 7,
-            HandshakeError::DuplicateEvent => 8,
-            HandshakeError::MissingInterface => 9,
-            HandshakeError::BadUtf8 => 10,
-            HandshakeError::NameLong => 11,
-            HandshakeError::ShortOut => 19,
-            HandshakeError::IdsSpent => 20,
-            HandshakeError::BadState => 21,
-        }
+        self as u32
     }
 }
 
@@ -131,51 +100,28 @@ fn no_name() -> Name
     }
 }
 
-fn no_interfaces() -> [InterfaceVersion; 12]
-    ensures { result ≡ no_interfaces }
+// The answer of a call that writes nothing: a refusal leaves the handshake as it was.
+fn quiet(h: EisHandshaker, outcome: Result<EisHandshaker, HandshakeError>) -> HandshakeAnswer
+    ensures { result ≡ quiet h outcome }
 {
-    [InterfaceVersion {
-        negotiated: false,
-        version: 0,
-    }; 12]
-}
-
-// The blank response.
-fn no_response() -> EisHandshakeResp
-    ensures { result ≡ no_response }
-{
-    EisHandshakeResp {
-        connection: 0,
-        name: no_name(),
-        context: ContextType::Receiver,
-        interfaces: no_interfaces(),
-        serial: 0,
-        next: 0,
+    match outcome {
+        Ok(handshaker) => HandshakeAnswer {
+            handshaker,
+            outcome: Ok(None),
+            count: 0,
+        },
+        Err(e) => refused(h, e),
     }
-}
-
-// The answer of a call that settles nothing.
-pub fn unfinished(h: EisHandshaker, outcome: HandshakeOutcome, count: usize) -> HandshakeAnswer
-    ensures { result ≡ unfinished h outcome count }
-{
-    HandshakeAnswer {
-        handshaker: h,
-        outcome,
-        response: no_response(),
-        count,
-    }
-}
-
-fn accepted(h: EisHandshaker) -> HandshakeAnswer
-    ensures { result ≡ unfinished h HandshakeOutcome.Accepted 0 }
-{
-    unfinished(h, HandshakeOutcome::Accepted, 0)
 }
 
 fn refused(h: EisHandshaker, e: HandshakeError) -> HandshakeAnswer
-    ensures { result ≡ unfinished h (HandshakeOutcome.Refused e) 0 }
+    ensures { result ≡ quiet h (Err e) }
 {
-    unfinished(h, HandshakeOutcome::Refused(e), 0)
+    HandshakeAnswer {
+        handshaker: h,
+        outcome: Err(e),
+        count: 0,
+    }
 }
 
 // A text that fits, as a name.
@@ -183,119 +129,91 @@ fn name_of(text: &[u8]) -> Name
     requires { length text.now ≤ 254 }
     ensures { (name_of result ≡ some text.now) × (result.length ≤ 254) }
 {
-    let mut bytes = [0u8; NAME_LENGTH_LIMIT];
-    let mut i: usize = 0;
-    while i < text.len() {
-        bytes[i] = text[i];
-        i += 1;
-    }
+    let mut bytes = [0; NAME_LENGTH_LIMIT];
+    bytes[..text.len()].copy_from_slice(text);
     Name {
         bytes,
-        length: i,
+        length: text.len(),
         given: true,
     }
 }
 
 // Name.
-fn set_name(h: EisHandshaker, text: &[u8]) -> HandshakeAnswer
+fn set_name(h: EisHandshaker, text: &[u8]) -> Result<EisHandshaker, HandshakeError>
     requires { is_sound h ≡ true }
     ensures { Quiet h (paper.Message.Name text.now) result }
 {
     if !utf8::valid(text) {
-        return refused(h, HandshakeError::BadUtf8);
+        return Err(HandshakeError::BadUtf8);
     }
     if NAME_LENGTH_LIMIT < text.len() {
-        return refused(h, HandshakeError::NameLong);
+        return Err(HandshakeError::NameLong);
     }
     if h.name.given {
-        return refused(h, HandshakeError::DuplicateEvent);
+        return Err(HandshakeError::DuplicateEvent);
     }
-    let mut named = h;
-    named.name = name_of(text);
-    accepted(named)
+    Ok(EisHandshaker {
+        name: name_of(text),
+        ..h
+    })
 }
 
 // ContextType.
-fn set_context(h: EisHandshaker, context: ContextType) -> HandshakeAnswer
+fn set_context(h: EisHandshaker, context: ContextType) -> Result<EisHandshaker, HandshakeError>
     requires { is_sound h ≡ true }
     ensures { Quiet h (paper.Message.Context context) result }
 {
-    let said = h.context;
-    match said {
-        Context::Given(_) => refused(h, HandshakeError::DuplicateEvent),
-        Context::Unknown => {
-            let name = h.name;
-            let interfaces = h.interfaces;
-            accepted(EisHandshaker {
-                name,
-                context: Context::Given(context),
-                interfaces,
-                serial: h.serial,
-                next: h.next,
-            })
-        }
+    if h.context.is_some() {
+        return Err(HandshakeError::DuplicateEvent);
     }
-}
-
-fn lower(a: u32, b: u32) -> u32
-    ensures { result ≡ min a b }
-{
-    if a < b { a } else { b }
+    Ok(EisHandshaker {
+        context: Some(context),
+        ..h
+    })
 }
 
 // InterfaceVersion. A name may have any length; one that is no interface's is ignored.
-fn negotiate(h: EisHandshaker, text: &[u8], version: u32) -> HandshakeAnswer
+fn negotiate(h: EisHandshaker, text: &[u8], version: u32) -> Result<EisHandshaker, HandshakeError>
     requires { is_sound h ≡ true }
     ensures { Quiet h (paper.Message.InterfaceVersion text.now version) result }
 {
     if !utf8::valid(text) {
-        return refused(h, HandshakeError::BadUtf8);
+        return Err(HandshakeError::BadUtf8);
     }
-    match eiproto_eis::find(text) {
-        Found::Interface(number) => {
-            let place = number as usize - 1;
-            let mut agreed = h;
-            agreed.interfaces[place] = InterfaceVersion {
-                negotiated: true,
-                version: lower(version, eiproto_eis::version(number)),
-            };
-            accepted(agreed)
-        }
-        Found::Unknown => accepted(h),
+    let mut agreed = h;
+    if let Some(number) = eiproto_eis::find(text) {
+        agreed.interfaces[number as usize - 1] = Some(version.min(eiproto_eis::version(number)));
     }
+    Ok(agreed)
 }
 
 // A request of another interface, which has no place in a handshake.
-fn turn_away(h: EisHandshaker, text: &[u8]) -> HandshakeAnswer
+fn turn_away(h: EisHandshaker, text: &[u8]) -> HandshakeError
     requires { is_sound h ≡ true }
-    ensures { Quiet h (paper.Message.Other text.now) result }
+    ensures { Quiet h (paper.Message.Other text.now) (Err result) }
 {
-    if !utf8::valid(text) {
-        return refused(h, HandshakeError::BadUtf8);
+    if utf8::valid(text) {
+        HandshakeError::NonHandshakeEvent
+    } else {
+        HandshakeError::BadUtf8
     }
-    refused(h, HandshakeError::NonHandshakeEvent)
 }
 
 // Whether an interface, by its number, was negotiated. That its version may be 0 makes no difference.
-fn has(interfaces: [InterfaceVersion; 12], number: u8) -> bool
+fn has(interfaces: [Option<u32>; 12], number: u8) -> bool
     requires { (0 < number) × (number ≤ 12) }
     ensures { result ≡ paper.is_some (paper.version_of (versions_of interfaces) number) }
 {
-    let place = number as usize - 1;
-    interfaces[place].negotiated
+    interfaces[number as usize - 1].is_some()
 }
 
 // Whether those interfaces were negotiated that a session cannot do without.
-fn complete(interfaces: [InterfaceVersion; 12]) -> bool
+fn complete(interfaces: [Option<u32>; 12]) -> bool
     ensures { result ≡ paper.complete (versions_of interfaces) }
 {
-    if !has(interfaces, eiproto_eis::CONNECTION) {
-        return false;
-    }
-    if !has(interfaces, eiproto_eis::PINGPONG) {
-        return false;
-    }
-    has(interfaces, eiproto_eis::CALLBACK)
+    has(interfaces, eiproto_eis::CONNECTION)
+        && has(interfaces, eiproto_eis::PINGPONG)
+        && has(interfaces, eiproto_eis::CALLBACK)
 }
 
 // Writes an event of the handshake at a place of the buffer, or nothing where there is no room, and answers how many bytes.
@@ -306,40 +224,30 @@ fn send(out: &mut [u8], at: usize, e: Event) -> usize
 }
 
 // How many bytes the report of the interfaces takes: whether there is room is known before the first is written.
-fn report_length(interfaces: [InterfaceVersion; 12]) -> usize
+fn report_length(interfaces: [Option<u32>; 12]) -> usize
     ensures { result ≡ length (paper.report 1 (versions_of interfaces)) }
 {
-    let mut total: usize = 0;
-    let mut i: usize = 0;
-    while i < 12 {
-        let row = interfaces[i];
-        i += 1;
-        if row.negotiated {
-            total += event::fixed_length(Event::InterfaceVersion {
-                interface: i as u8,
-                version: row.version,
-            });
-        }
-    }
-    total
+    let negotiated = interfaces
+        .iter()
+        .filter(|version| version.is_some())
+        .count();
+    let record = Event::InterfaceVersion {
+        interface: 1,
+        version: 0,
+    };
+    negotiated * event::fixed_length(record)
 }
 
 // Reports the interfaces in the order of their numbers, and answers how many bytes that took.
-fn report(interfaces: [InterfaceVersion; 12], out: &mut [u8]) -> usize
+fn report(interfaces: [Option<u32>; 12], out: &mut [u8]) -> usize
     requires { length (paper.report 1 (versions_of interfaces)) ≤ length out.old }
     ensures { Wrote out.old out.new 0 result (paper.report 1 (versions_of interfaces)) result }
 {
     let mut at: usize = 0;
-    let mut i: usize = 0;
-    while i < 12 {
-        let row = interfaces[i];
-        i += 1;
-        if row.negotiated {
-            let e = Event::InterfaceVersion {
-                interface: i as u8,
-                version: row.version,
-            };
-            at += send(out, at, e);
+    for (i, version) in interfaces.iter().enumerate() {
+        if let Some(version) = *version {
+            let interface = i as u8 + 1;
+            at += send(out, at, Event::InterfaceVersion { interface, version });
         }
     }
     at
@@ -350,25 +258,13 @@ fn finish_missing(h: EisHandshaker, out: &mut [u8]) -> HandshakeAnswer
     requires { (is_sound h ≡ true) × (paper.complete (versions_of h.interfaces) ≡ false) }
     ensures { Done h out.old out.new (paper.finish (view_of h) (length out.old)) result }
 {
-    let interfaces = h.interfaces;
-    if out.len() < report_length(interfaces) {
+    if out.len() < report_length(h.interfaces) {
         return refused(h, HandshakeError::ShortOut);
     }
-    let count = report(interfaces, out);
-    unfinished(
-        h,
-        HandshakeOutcome::Refused(HandshakeError::MissingInterface),
-        count,
-    )
-}
-
-// "Protocol spec says `context_type` is optional, defaults to receiver" (src/handshake.rs).
-fn or_receiver(context: Context) -> ContextType
-    ensures { result ≡ paper.or_receiver (context_of context) }
-{
-    match context {
-        Context::Given(c) => c,
-        Context::Unknown => ContextType::Receiver,
+    HandshakeAnswer {
+        handshaker: h,
+        outcome: Err(HandshakeError::MissingInterface),
+        count: report(h.interfaces, out),
     }
 }
 
@@ -377,14 +273,12 @@ fn response_of(h: EisHandshaker, next: u64) -> EisHandshakeResp
     requires { next ≡ h.next + 1 }
     ensures { (response_of result ≡ paper.settled (view_of h)) × (result.name ≡ h.name) }
 {
-    let name = h.name;
-    let given = h.context;
-    let context = or_receiver(given);
     let interfaces = h.interfaces;
     EisHandshakeResp {
         connection: h.next,
-        name,
-        context,
+        name: h.name,
+        // "Protocol spec says `context_type` is optional, defaults to receiver" (src/handshake.rs).
+        context: h.context.unwrap_or(ContextType::Receiver),
         interfaces,
         serial: h.serial,
         next,
@@ -396,25 +290,23 @@ fn conclude(h: EisHandshaker, next: u64, out: &mut [u8]) -> HandshakeAnswer
     requires { (is_sound h ≡ true) × ((paper.complete (versions_of h.interfaces) ≡ true) × (next ≡ h.next + 1)) }
     ensures { Done h out.old out.new (paper.finish (view_of h) (length out.old)) result }
 {
-    let interfaces = h.interfaces;
     let connection = Event::Connection {
         id: h.next,
         serial: h.serial,
         version: 1,
     };
-    if out.len() < report_length(interfaces) + event::fixed_length(connection) {
+    if out.len() < report_length(h.interfaces) + event::fixed_length(connection) {
         return refused(h, HandshakeError::ShortOut);
     }
-    let at = report(interfaces, out);
+    let at = report(h.interfaces, out);
     let sent = send(out, at, connection);
-    let mut after = h;
-    let none = no_interfaces();
-    after.interfaces = none;
-    after.next = next;
     HandshakeAnswer {
-        handshaker: after,
-        outcome: HandshakeOutcome::Finished,
-        response: response_of(h, next),
+        handshaker: EisHandshaker {
+            interfaces: [None; 12],
+            next,
+            ..h
+        },
+        outcome: Ok(Some(response_of(h, next))),
         count: at + sent,
     }
 }
@@ -424,13 +316,12 @@ fn finish(h: EisHandshaker, out: &mut [u8]) -> HandshakeAnswer
     requires { is_sound h ≡ true }
     ensures { Done h out.old out.new (paper.finish (view_of h) (length out.old)) result }
 {
-    let interfaces = h.interfaces;
-    if !complete(interfaces) {
+    if !complete(h.interfaces) {
         return finish_missing(h, out);
     }
     match backend::new_objects(h.next, 1) {
-        NewObjects::NextId(next) => conclude(h, next, out),
-        NewObjects::Spent => refused(h, HandshakeError::IdsSpent),
+        Some(next) => conclude(h, next, out),
+        None => refused(h, HandshakeError::IdsSpent),
     }
 }
 
@@ -441,8 +332,8 @@ impl EisHandshaker {
     {
         let h = EisHandshaker {
             name: no_name(),
-            context: Context::Unknown,
-            interfaces: no_interfaces(),
+            context: None,
+            interfaces: [None; 12],
             serial,
             next: backend::FIRST_SERVER_ID,
         };
@@ -450,7 +341,11 @@ impl EisHandshaker {
         if sent == 0 {
             return refused(h, HandshakeError::ShortOut);
         }
-        unfinished(h, HandshakeOutcome::Accepted, sent)
+        HandshakeAnswer {
+            handshaker: h,
+            outcome: Ok(None),
+            count: sent,
+        }
     }
 
     // Handles a request, with the text that it carries.
@@ -466,12 +361,15 @@ impl EisHandshaker {
             return refused(self, HandshakeError::BadState);
         }
         match request {
-            HandshakeMessage::HandshakeVersion { version: _ } => accepted(self),
-            HandshakeMessage::Name => set_name(self, text),
-            HandshakeMessage::ContextType { context } => set_context(self, context),
-            HandshakeMessage::InterfaceVersion { version } => negotiate(self, text, version),
+            HandshakeMessage::HandshakeVersion { .. } => quiet(self, Ok(self)),
+            HandshakeMessage::Name => quiet(self, set_name(self, text)),
+            HandshakeMessage::ContextType { context } => quiet(self, set_context(self, context)),
+            HandshakeMessage::InterfaceVersion { version } => quiet(
+                self,
+                negotiate(self, text, version),
+            ),
             HandshakeMessage::Finish => finish(self, out),
-            HandshakeMessage::Other => turn_away(self, text),
+            HandshakeMessage::Other => refused(self, turn_away(self, text)),
         }
     }
 }

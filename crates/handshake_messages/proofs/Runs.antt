@@ -6,17 +6,17 @@ use mathlib.Core.List.{List, [], ◌∷◌, map}
 use lib.ListN.{length, take, drop}
 use lib.Seq.{take-append_seam}
 use Rattle.wire.specs.Bits.{splice}
+use Rattle.std.specs.Prelude.{Some, None, Ok, Err}
+use Rattle.std.specs.Prelude as rust
 use Rattle.handshake.specs.Handshake as paper
-use Rattle.handshake.specs.View.{view_of, is_sound, is_refusal, outcome_of, Meets}
+use Rattle.handshake.specs.View.{view_of, is_sound, is_refusal, HandshakeOutcome, outcome_of, Meets}
 use Rattle.handshake.specs.Run.{seen_in}
 use Rattle.handshake.specs.declared.handshake.EisHandshaker.{EisHandshaker}
-use Rattle.handshake.specs.declared.handshake.EisHandshakeResp.{EisHandshakeResp}
 use Rattle.handshake.specs.declared.handshake.HandshakeAnswer.{HandshakeAnswer}
-use Rattle.handshake.specs.declared.handshake.HandshakeOutcome.{HandshakeOutcome}
 use Rattle.handshake_messages.specs.Reading.{handshake_reading, request_in, Nothing, HandedOn, Follows}
 use Rattle.handshake_messages.specs.Run.{TurnSeen, step_in, is_refused, nothing, handed, message_turn, turn, turns, MessageExchange, HandshakeTurn, answer_of, given_of, seen_of, Turned, HandshakeTurns, SeenIsTurns, EqualTurns}
 use Rattle.handshake_messages.specs.declared.Reading.{Reading}
-use Rattle.handshake_messages.specs.declared.Told.{Told}
+use Rattle.handshake_messages.specs.declared.Unhanded.{Unhanded}
 use Rattle.handshake_messages.specs.declared.HandshakeReceived.{HandshakeReceived}
 
 -- the bytes at the start of the buffer, as many as the count says, are the step's
@@ -27,11 +27,11 @@ meets-seen out {later} {s} {r} m =
     λ i. record { handshake = m.handshake i; outcome = m.outcome i; bytes = e i }
 
 -- a refusal is one in the definitions' terms
-refusal_is : (o : HandshakeOutcome) (r : EisHandshakeResp) → is_refusal o ≡ is_refused (outcome_of o r)
+refusal_is : (o : HandshakeOutcome) → is_refusal o ≡ is_refused (outcome_of o)
 unfolding outcome_of
-refusal_is HandshakeOutcome.Accepted r = refl
-refusal_is HandshakeOutcome.Finished r = refl
-refusal_is (HandshakeOutcome.Refused e) r = refl
+refusal_is (Ok None) = refl
+refusal_is (Ok (Some s)) = refl
+refusal_is (Err e) = refl
 
 -- what a call leaves: what is seen of it is what the definition says, and the handshake is not damaged
 pub record Turning (h : EisHandshaker) (x : HandshakeTurn) : Type 0 where
@@ -46,26 +46,23 @@ module _ (h : EisHandshaker) (sound : is_sound h ≡ true) (x : MessageExchange)
   abbrev Left : TurnSeen → Type 0
   Left s = (seen_of (HandshakeTurn.message x) ≡ s) × (is_sound x.received.answer.handshaker ≡ true)
 
-  not-handed : (told : Told) → Nothing h x.out x.later told x.received → Left (nothing told (view_of h))
+  not-handed : (why : Unhanded) → Nothing h x.out x.later why x.received → Left (nothing why (view_of h))
   unfolding outcome_of
-  not-handed told n = (ap seen_from n.0, ap (λ (r : HandshakeReceived). is_sound r.answer.handshaker) n.0 ∙ sound)
+  not-handed why n = (ap seen_from n.0, ap (λ (r : HandshakeReceived). is_sound r.answer.handshaker) n.0 ∙ sound)
 
   handed_on : (request : paper.Message) (n : ℕ) → HandedOn h request n x.out x.later x.received
       → Left (handed n (paper.handle_request (view_of h) request (length x.out)))
   handed_on request n a =
       let r = x.received in
       let m = a.done.meets in
-      let e = a.taken ∙ ap (λ (b : Bool). cond b 0 n) (refusal_is r.answer.outcome r.answer.response ∙ ap is_refused m.outcome) in
+      let e = a.taken ∙ ap (λ (b : Bool). cond b 0 n) (refusal_is r.answer.outcome ∙ ap is_refused m.outcome) in
       let s = meets-seen x.out m in
       ((λ i. TurnSeen.message (a.told i) (e i) (s i)), m.sound)
 
-  followed : (f : Reading) → Follows f h x.bytes x.out x.later x.received → Left (message_turn f (view_of h) x.bytes (length x.out))
+  followed : (f : rust.Result Reading Unhanded) → Follows f h x.bytes x.out x.later x.received → Left (message_turn f (view_of h) x.bytes (length x.out))
   unfolding message_turn
-  followed Reading.Wait a = not-handed Told.Wait a
-  followed Reading.NoObject a = not-handed Told.NoObject a
-  followed (Reading.Malformed e) a = not-handed (Told.Malformed e) a
-  followed Reading.InvalidId a = not-handed Told.InvalidId a
-  followed (Reading.Request b n) a = handed_on (request_in b (take n x.bytes)) n a
+  followed (Ok f) a = handed_on (request_in f.arguments (take f.length x.bytes)) f.length a
+  followed (Err why) a = not-handed why a
 
 pub turning : (h : EisHandshaker) (x : HandshakeTurn) → is_sound h ≡ true → Turned h x → Turning h x
 unfolding turn

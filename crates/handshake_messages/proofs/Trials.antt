@@ -10,19 +10,19 @@ use Rattle.wire.specs.declared.ParseError.{ParseError}
 use Rattle.handshake.specs.Handshake.{Message}
 use Rattle.handshake_messages.specs.Reading.{reading_of, request_in}
 use Rattle.handshake_messages.specs.declared.Reading.{Reading}
+use Rattle.handshake_messages.specs.declared.Unhanded.{Unhanded}
+use Rattle.std.specs.Prelude.{Ok, Err}
+use Rattle.std.specs.Prelude as rust
 
 -- what is read: a request with its length, or what else it is
 data Seen : Type 0 where
   request : Message → (length : ℕ) → Seen
-  other : Reading → Seen
+  other : Unhanded → Seen
 
-seen : List ℕ → Reading → Seen
+seen : List ℕ → rust.Result Reading Unhanded → Seen
 unfolding request_in
-seen m Reading.Wait = Seen.other Reading.Wait
-seen m Reading.NoObject = Seen.other Reading.NoObject
-seen m (Reading.Malformed e) = Seen.other (Reading.Malformed e)
-seen m Reading.InvalidId = Seen.other Reading.InvalidId
-seen m (Reading.Request a n) = Seen.request (request_in a (take n m)) n
+seen m (Ok x) = Seen.request (request_in x.arguments (take x.length m)) x.length
+seen m (Err why) = Seen.other why
 
 read_at : (next : ℕ) → List ℕ → Seen
 unfolding seen reading_of
@@ -41,14 +41,14 @@ unfolding word
 connected n op rest = replicate 7 0 ++ (0xff ∷ (word n ++ (word op ++ rest)))
 
 malformed : ParseError → Seen
-malformed e = Seen.other (Reading.Malformed e)
+malformed e = Seen.other (Unhanded.Malformed e)
 
 -- WAIT; 24 before a wrong length; a length below 16 and above 1,024; the opcode and the arguments are not looked at before the message is whole
 headers : map (read_at first_server_id)
     ([] ∷ replicate 15 0 ∷ (0xe7 ∷ (3 ∷ replicate 6 0) ++ (word 5 ++ word 0)) ∷ connected 16 1 [] ∷ on 15 0 [] ∷ on 1025 0 [] ∷ on 1024 9 [] ∷ on 20 9 (replicate 3 0)
     ∷ on 20 9 (replicate 4 0) ∷ [])
-    ≡ Seen.other Reading.Wait ∷ Seen.other Reading.Wait ∷ Seen.other Reading.NoObject ∷ Seen.other Reading.NoObject ∷ malformed (ParseError.HeaderLength 15)
-    ∷ malformed (ParseError.HeaderLength 1025) ∷ Seen.other Reading.Wait ∷ Seen.other Reading.Wait ∷ malformed (ParseError.InvalidOpcode 0 9) ∷ []
+    ≡ Seen.other Unhanded.Wait ∷ Seen.other Unhanded.Wait ∷ Seen.other Unhanded.NoObject ∷ Seen.other Unhanded.NoObject ∷ malformed (ParseError.HeaderLength 15)
+    ∷ malformed (ParseError.HeaderLength 1025) ∷ Seen.other Unhanded.Wait ∷ Seen.other Unhanded.Wait ∷ malformed (ParseError.InvalidOpcode 0 9) ∷ []
 unfolding read_at on connected word malformed
 headers = refl
 
@@ -73,7 +73,7 @@ faults = refl
 after : map (read_at (first_server_id + 1))
     (on 16 1 [] ∷ connected 28 0 (5 ∷ replicate 7 0 ++ word 1) ∷ connected 16 1 [] ∷ connected 28 0 (replicate 8 0 ++ word 1)
     ∷ connected 28 0 (replicate 7 0 ++ (0xff ∷ word 1)) ∷ connected 28 0 (replicate 7 0xff ++ (0xfe ∷ word 1)) ∷ connected 32 0 (replicate 8 0 ++ (word 1 ++ word 0)) ∷ [])
-    ≡ Seen.other Reading.NoObject ∷ Seen.request (Message.Other []) 28 ∷ Seen.request (Message.Other []) 16 ∷ Seen.other Reading.InvalidId
-    ∷ Seen.other Reading.InvalidId ∷ Seen.request (Message.Other []) 28 ∷ malformed (ParseError.MessageLength 36 32) ∷ []
+    ≡ Seen.other Unhanded.NoObject ∷ Seen.request (Message.Other []) 28 ∷ Seen.request (Message.Other []) 16 ∷ Seen.other Unhanded.InvalidId
+    ∷ Seen.other Unhanded.InvalidId ∷ Seen.request (Message.Other []) 28 ∷ malformed (ParseError.MessageLength 36 32) ∷ []
 unfolding read_at on connected word malformed
 after = refl

@@ -1,32 +1,32 @@
 -- A client's message during the handshake: how the first of a lent slice is read, and what is promised of a call on it. Assumes nothing.
 use Rattle.std.specs.Prelude.{ℕ, ◌%◌, ◌≤◌, ◌≡◌, Bool, true, false, cond, ◌&&◌, List, [], ◌∷◌, eqb, leb, ltb}
+use Rattle.std.specs.Prelude.{Some, None, Ok, Err}
+use Rattle.std.specs.Prelude as rust
 use lib.ListN.{length, get_or, take, drop}
 use Rattle.eiproto.specs.Interface.{ei_connection}
 use Rattle.eiproto.specs.declared.eiproto_enum.ContextType.{ContextType}
 use Rattle.wire.specs.Ids.{first_server_id}
-use Rattle.parse.specs.First.{first_of}
+use Rattle.std.specs.Prelude as rust
+use Rattle.parse.specs.First.{ReadFirst, first_of}
 use Rattle.parse.specs.Parse.{le64}
 use Rattle.parse.specs.declared.Arguments.{Arguments}
-use Rattle.parse.specs.declared.First.{First}
 use Rattle.handshake.specs.Handshake as paper
 use Rattle.handshake.specs.View.{view_of, is_sound, is_refusal, request_of, unfinished, Done}
 use Rattle.handshake.specs.declared.handshake.EisHandshaker.{EisHandshaker}
 use Rattle.handshake.specs.declared.handshake.HandshakeError.{HandshakeError}
-use Rattle.handshake.specs.declared.handshake.HandshakeOutcome.{HandshakeOutcome}
-use Rattle.handshake_messages.specs.declared.Object.{Object}
 use Rattle.handshake_messages.specs.declared.Reading.{Reading}
-use Rattle.handshake_messages.specs.declared.Told.{Told}
+use Rattle.handshake_messages.specs.declared.Unhanded.{Unhanded}
 use Rattle.handshake_messages.specs.declared.HandshakeCall.{HandshakeCall}
 use Rattle.handshake_messages.specs.declared.HandshakeReceived.{HandshakeReceived}
 
 -- ---- the header: "object id 64, length 32 WITH the 16 of the header, opcode 32"
 
 -- "24 NO_OBJECT, the addressed id not alive": object 0, the handshake's, lives while no id was given, and the ids that were given are connections
-unfoldable pub object_of : (next id : ℕ) → Object
+unfoldable pub object_of : (next id : ℕ) → rust.Option ℕ
 object_of next id =
     cond (eqb id 0)
-    (cond (eqb next first_server_id) (Object.Alive 0) Object.Unknown)
-    (cond (leb first_server_id id && ltb id next) (Object.Alive ei_connection) Object.Unknown)
+    (cond (eqb next first_server_id) (Some 0) None)
+    (cond (leb first_server_id id && ltb id next) (Some ei_connection) None)
 
 -- ---- a whole message
 
@@ -38,24 +38,30 @@ sync = 5
 unfoldable pub is_peer_id : ℕ → Bool
 is_peer_id id = ltb 0 id && ltb id first_server_id
 
-unfoldable pub check_id : First → Reading
+-- a request's arguments with the length of its message
+abbrev pub whole : Arguments → (length : ℕ) → rust.Result Reading Unhanded
+whole a n = Ok (record { arguments = a; length = n })
+
+unfoldable pub check_id : ReadFirst → rust.Result Reading Unhanded
 unfolding is_peer_id
-check_id First.Wait = Reading.Wait
-check_id (First.Malformed e) = Reading.Malformed e
-check_id (First.Read a n) = cond (eqb a.request sync) (cond (is_peer_id a.first) (Reading.Request a n) Reading.InvalidId) (Reading.Request a n)
+check_id (Ok None) = Err Unhanded.Wait
+check_id (Err e) = Err (Unhanded.Malformed e)
+check_id (Ok (Some f)) =
+    let a = f.arguments in
+    cond (eqb a.request sync) (cond (is_peer_id a.first) (whole a f.length) (Err Unhanded.InvalidId)) (whole a f.length)
 
 -- its length and its arguments, by `first_of` of parse/specs/First
-unfoldable pub body_read : Object → (message : List ℕ) → Reading
+unfoldable pub body_read : rust.Option ℕ → (message : List ℕ) → rust.Result Reading Unhanded
 unfolding first_of check_id
-body_read Object.Unknown m = Reading.NoObject
-body_read (Object.Alive interface) m = check_id (first_of interface m)
+body_read None m = Err Unhanded.NoObject
+body_read (Some interface) m = check_id (first_of interface m)
 
-unfoldable pub reading_of : (next : ℕ) → (message : List ℕ) → Reading
+unfoldable pub reading_of : (next : ℕ) → (message : List ℕ) → rust.Result Reading Unhanded
 unfolding le64 object_of body_read
-reading_of next m = cond (ltb (length m) 16) Reading.Wait (body_read (object_of next (le64 m 0)) m)
+reading_of next m = cond (ltb (length m) 16) (Err Unhanded.Wait) (body_read (object_of next (le64 m 0)) m)
 
 -- HOW A MESSAGE IS READ. "Fewer than 16 bytes: WAIT. From 16 on: 24; then HeaderLength; then WAIT; then the rest of 23; then 25"
-abbrev pub handshake_reading : paper.Handshake → (message : List ℕ) → Reading
+abbrev pub handshake_reading : paper.Handshake → (message : List ℕ) → rust.Result Reading Unhanded
 handshake_reading h m = reading_of h.next_id m
 
 -- ---- the request that it stands for
@@ -85,32 +91,30 @@ pub record Calls (a : Arguments) (r : HandshakeCall) : Type 0 where
 
 -- ---- what is promised
 
+-- what became of a message: nothing more where its request was handed on, and else why it was not
+abbrev pub Told : Type 0
+Told = rust.Result (Unit {0}) Unhanded
+
 abbrev pub is_handed : Told → Bool
-is_handed Told.Wait = false
-is_handed Told.NoObject = false
-is_handed (Told.Malformed e) = false
-is_handed Told.InvalidId = false
-is_handed Told.Handed = true
+is_handed (Ok u) = true
+is_handed (Err why) = false
 
 -- nothing was handed on: the handshake is as it was, and so is every byte of `out`
-abbrev pub Nothing : EisHandshaker → (out later : List ℕ) → Told → HandshakeReceived → Type 0
-Nothing h out later told r = (r ≡ record { told = told; answer = unfinished h HandshakeOutcome.Accepted 0; taken = 0 }) × (later ≡ out)
+abbrev pub Nothing : EisHandshaker → (out later : List ℕ) → Unhanded → HandshakeReceived → Type 0
+Nothing h out later why r = (r ≡ record { told = Err why; answer = unfinished h (Ok None) 0; taken = 0 }) × (later ≡ out)
 
 -- a request was handed on: "the answer gives its length as taken", and "a refused message takes nothing", 9 too
 pub record HandedOn (h : EisHandshaker) (request : paper.Message) (length : ℕ) (out later : List ℕ) (r : HandshakeReceived) : Type 0 where
-  pub told : r.told ≡ Told.Handed
+  pub told : r.told ≡ Ok tt
   pub done : Done h out later (paper.handle_request (view_of h) request (lib.ListN.length out)) r.answer
   pub taken : r.taken ≡ cond (is_refusal r.answer.outcome) 0 length
 
-abbrev pub Follows : Reading → EisHandshaker → (message out later : List ℕ) → HandshakeReceived → Type 0
-Follows Reading.Wait h m out later r = Nothing h out later Told.Wait r
-Follows Reading.NoObject h m out later r = Nothing h out later Told.NoObject r
-Follows (Reading.Malformed e) h m out later r = Nothing h out later (Told.Malformed e) r
-Follows Reading.InvalidId h m out later r = Nothing h out later Told.InvalidId r
-Follows (Reading.Request a n) h m out later r = HandedOn h (request_in a (take n m)) n out later r
+abbrev pub Follows : rust.Result Reading Unhanded → EisHandshaker → (message out later : List ℕ) → HandshakeReceived → Type 0
+Follows (Ok x) h m out later r = HandedOn h (request_in x.arguments (take x.length m)) x.length out later r
+Follows (Err why) h m out later r = Nothing h out later why r
 
 -- 21 before all else
 pub record Received (h : EisHandshaker) (message out later : List ℕ) (r : HandshakeReceived) : Type 0 where
   pub damaged : is_sound h ≡ false
-      → (r ≡ record { told = Told.Handed; answer = unfinished h (HandshakeOutcome.Refused HandshakeError.BadState) 0; taken = 0 }) × (later ≡ out)
+      → (r ≡ record { told = Ok tt; answer = unfinished h (Err HandshakeError.BadState) 0; taken = 0 }) × (later ≡ out)
   pub received : is_sound h ≡ true → Follows (handshake_reading (view_of h) message) h message out later r

@@ -1,13 +1,15 @@
 -- Whole lists of calls on a handshake, requests and messages among them, and what holds of them. proofs/Runs.antt proves the statements. Assumes nothing.
 use Rattle.std.specs.Prelude.{ℕ, ◌≡◌, Bool, true, false, cond, List, [], ◌∷◌, map, length, take}
+use Rattle.std.specs.Prelude.{Ok, Err}
+use Rattle.std.specs.Prelude as rust
 use Rattle.handshake.specs.Handshake as paper
 use Rattle.handshake.specs.View.{view_of, is_sound, request_of, Handled}
 use Rattle.handshake.specs.Run.{Call, HandshakeExchange, call_of, seen_in, seen}
 use Rattle.handshake.specs.declared.handshake.EisHandshaker.{EisHandshaker}
 use Rattle.handshake.specs.declared.handshake.HandshakeAnswer.{HandshakeAnswer}
-use Rattle.handshake_messages.specs.Reading.{request_in, handshake_reading, Received}
+use Rattle.handshake_messages.specs.Reading.{request_in, handshake_reading, Told, Received}
 use Rattle.handshake_messages.specs.declared.Reading.{Reading}
-use Rattle.handshake_messages.specs.declared.Told.{Told}
+use Rattle.handshake_messages.specs.declared.Unhanded.{Unhanded}
 use Rattle.handshake_messages.specs.declared.HandshakeReceived.{HandshakeReceived}
 
 -- ---- the definitions
@@ -32,20 +34,17 @@ is_refused (paper.Result.refused n) = true
 is_refused (paper.Result.finished r) = false
 
 -- nothing was handed on
-abbrev pub nothing : Told → paper.Handshake → TurnSeen
-nothing told h = TurnSeen.message told 0 (record { handshake = h; outcome = paper.Result.accepted; bytes = [] })
+abbrev pub nothing : Unhanded → paper.Handshake → TurnSeen
+nothing why h = TurnSeen.message (Err why) 0 (record { handshake = h; outcome = paper.Result.accepted; bytes = [] })
 
 -- a request of so many bytes was: "a refused message takes nothing"
 abbrev pub handed : (length : ℕ) → paper.Step → TurnSeen
-handed n s = TurnSeen.message Told.Handed (cond (is_refused s.outcome) 0 n) s
+handed n s = TurnSeen.message (Ok tt) (cond (is_refused s.outcome) 0 n) s
 
-unfoldable pub message_turn : Reading → paper.Handshake → (message : List ℕ) → (room : ℕ) → TurnSeen
+unfoldable pub message_turn : rust.Result Reading Unhanded → paper.Handshake → (message : List ℕ) → (room : ℕ) → TurnSeen
 unfolding request_in paper.handle_request
-message_turn Reading.Wait h m room = nothing Told.Wait h
-message_turn Reading.NoObject h m room = nothing Told.NoObject h
-message_turn (Reading.Malformed e) h m room = nothing (Told.Malformed e) h
-message_turn Reading.InvalidId h m room = nothing Told.InvalidId h
-message_turn (Reading.Request a n) h m room = handed n (paper.handle_request h (request_in a (take n m)) room)
+message_turn (Ok x) h m room = handed x.length (paper.handle_request h (request_in x.arguments (take x.length m)) room)
+message_turn (Err why) h m room = nothing why h
 
 unfoldable pub turn : paper.Handshake → TurnGiven → TurnSeen
 unfolding message_turn paper.handle_request

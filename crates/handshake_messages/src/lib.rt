@@ -1,124 +1,107 @@
 // A client's messages during the handshake: the first of a lent slice is read, and handed on as the request that it stands for.
 #![tactic(auto)]
 
-ghost use Rattle.std.specs.Prelude.{◌+◌, ◌%◌, ◌≤◌, ◌≡◌, cond, length};
-ghost use Rattle.handshake.specs.View.{is_refusal, unfinished, Handled};
-ghost use Rattle.handshake.specs.declared.handshake.HandshakeOutcome.{HandshakeOutcome};
-ghost use Rattle.handshake_messages.specs.Reading.{object_of, check_id, reading_of, context_type_in, request_in, is_handed, Calls, Received};
+ghost use Rattle.std.specs.Prelude.{◌+◌, ◌%◌, ◌≤◌, ◌≡◌, length};
+ghost use Rattle.handshake.specs.View.{Handled};
+ghost use Rattle.handshake_messages.specs.Reading.{object_of, is_peer_id, check_id, reading_of, context_type_in, request_in, Calls, Received};
 
 use eiproto::eiproto_eis;
 use eiproto::eiproto_enum::ContextType;
 use handshake::handshake::{
-    EisHandshaker, HandshakeAnswer, HandshakeError, HandshakeMessage, HandshakeOutcome,
-    NAME_LENGTH_LIMIT, unfinished,
+    EisHandshaker, HandshakeAnswer, HandshakeError, HandshakeMessage, NAME_LENGTH_LIMIT,
 };
 use parse::{Arguments, First, HEADER_LENGTH};
+use requests::eis::RequestKind;
 use wire::{ParseError, backend};
 
-// A Sync's number among the requests.
-const SYNC: u64 = 5;
+// The numbers of the handshake's requests, and that of a Sync.
+const HANDSHAKE_VERSION: u64 = RequestKind::HandshakeVersion as u64;
 
-// The interface of an object that lives.
+const FINISH: u64 = RequestKind::HandshakeFinish as u64;
+
+const CONTEXT_TYPE: u64 = RequestKind::HandshakeContextType as u64;
+
+const NAME: u64 = RequestKind::HandshakeName as u64;
+
+const INTERFACE_VERSION: u64 = RequestKind::HandshakeInterfaceVersion as u64;
+
+const SYNC: u64 = RequestKind::ConnectionSync as u64;
+
+// A whole message on an object that lives: its request's arguments, and how many bytes it has.
 #[derive(Clone, Copy)]
-pub enum Object {
-    Alive(u8),
-    Unknown,
+pub struct Reading {
+    pub arguments: Arguments,
+    pub length: usize,
 }
 
-// What the first message of a slice is: not yet whole, on no object that lives, malformed, with an id that a client may not give, or a request
-// and how many bytes its message has.
+// Why a message's request is not handed on: it is not yet whole, on no object that lives, malformed, or has an id that a client may not give.
 #[derive(Clone, Copy)]
-pub enum Reading {
+pub enum Unhanded {
     Wait,
     NoObject,
     Malformed(ParseError),
     InvalidId,
-    Request { arguments: Arguments, length: usize },
-}
-
-// What became of a message: `Handed` if its request was handed on, and else why it was not.
-#[derive(Clone, Copy)]
-pub enum Told {
-    Wait,
-    NoObject,
-    Malformed(ParseError),
-    InvalidId,
-    Handed,
 }
 
 // What a call gives: the answer to the request (of one that was not handed on, the handshake as it was), and how many bytes of the slice were taken.
 #[derive(Clone, Copy)]
 pub struct HandshakeReceived {
-    pub told: Told,
+    pub told: Result<(), Unhanded>,
     pub answer: HandshakeAnswer,
     pub taken: usize,
 }
 
-impl Told {
-    pub fn is_handed(self) -> bool
-        ensures { result ≡ is_handed self }
-    {
-        match self {
-            Told::Wait => false,
-            Told::NoObject => false,
-            Told::Malformed(_) => false,
-            Told::InvalidId => false,
-            Told::Handed => true,
-        }
-    }
-}
-
-// The handshake's object lives until the first id is given, and each id that was given is a connection's.
-fn find_object(next: u64, id: u64) -> Object
+// The interface of the object of an id, where one lives: the handshake's until the first id is given, and each id that was given is a
+// connection's.
+#[tactic(auto, unfolding(crate::specs::Reading::object_of))]
+fn find_object(next: u64, id: u64) -> Option<u8>
     ensures { result ≡ object_of next id }
 {
     if id == backend::HANDSHAKE_ID {
-        if next == backend::FIRST_SERVER_ID {
-            return Object::Alive(0);
-        }
-        return Object::Unknown;
+        return (next == backend::FIRST_SERVER_ID).then_some(0);
     }
-    if id < backend::FIRST_SERVER_ID {
-        return Object::Unknown;
+    if id < backend::FIRST_SERVER_ID || next <= id {
+        return None;
     }
-    if id < next {
-        return Object::Alive(eiproto_eis::CONNECTION);
-    }
-    Object::Unknown
+    Some(eiproto_eis::CONNECTION)
 }
 
-// What was read of a message on an object that lives. A callback's id has to be one of the client's: none is kept here, so that they start at 1.
-fn check_id(first: First) -> Reading
+// Whether an id is one of the client's: none is kept here, so that they start at 1.
+#[tactic(auto, unfolding(crate::specs::Reading::is_peer_id))]
+fn is_peer_id(id: u64) -> bool
+    ensures { result ≡ is_peer_id id }
+{
+    0 < id && id < backend::FIRST_SERVER_ID
+}
+
+// What was read of a message on an object that lives. A callback's id has to be one of the client's.
+#[tactic(auto, unfolding(crate::specs::Reading::check_id))]
+fn check_id(first: Result<Option<First>, ParseError>) -> Result<Reading, Unhanded>
     ensures { result ≡ check_id first }
 {
     match first {
-        First::Wait => Reading::Wait,
-        First::Malformed(e) => Reading::Malformed(e),
-        First::Read { arguments, length } => {
-            if arguments.request != SYNC {
-                return Reading::Request { arguments, length };
+        Ok(None) => Err(Unhanded::Wait),
+        Err(e) => Err(Unhanded::Malformed(e)),
+        Ok(Some(First { arguments, length })) => {
+            if arguments.request == SYNC && !is_peer_id(arguments.first) {
+                return Err(Unhanded::InvalidId);
             }
-            if arguments.first == 0 {
-                return Reading::InvalidId;
-            }
-            if arguments.first < backend::FIRST_SERVER_ID {
-                return Reading::Request { arguments, length };
-            }
-            Reading::InvalidId
+            Ok(Reading { arguments, length })
         }
     }
 }
 
 // The first message of a slice, on a handshake whose next id is this.
-pub fn read(next: u64, message: &[u8]) -> Reading
+#[tactic(auto, unfolding(crate::specs::Reading::reading_of, crate::specs::Reading::body_read))]
+pub fn read(next: u64, message: &[u8]) -> Result<Reading, Unhanded>
     ensures { result ≡ reading_of next message.now }
 {
     if message.len() < HEADER_LENGTH {
-        return Reading::Wait;
+        return Err(Unhanded::Wait);
     }
     match find_object(next, parse::number64(message, 0)) {
-        Object::Unknown => Reading::NoObject,
-        Object::Alive(interface) => check_id(parse::read_first(interface, message)),
+        Some(interface) => check_id(parse::read_first(interface, message)),
+        None => Err(Unhanded::NoObject),
     }
 }
 
@@ -146,32 +129,32 @@ struct HandshakeCall {
     length: usize,
 }
 
+#[tactic(auto, unfolding(crate::specs::Reading::request_in))]
 fn call_of(a: Arguments) -> HandshakeCall
     ensures { Calls a result }
 {
-    let number = a.request;
-    match number {
-        0 => HandshakeCall {
+    match a.request {
+        HANDSHAKE_VERSION => HandshakeCall {
             request: HandshakeMessage::HandshakeVersion {
                 version: low(a.first),
             },
             length: 0,
         },
-        1 => HandshakeCall {
+        FINISH => HandshakeCall {
             request: HandshakeMessage::Finish,
             length: 0,
         },
-        2 => HandshakeCall {
+        CONTEXT_TYPE => HandshakeCall {
             request: HandshakeMessage::ContextType {
                 context: context_type(a.first),
             },
             length: 0,
         },
-        3 => HandshakeCall {
+        NAME => HandshakeCall {
             request: HandshakeMessage::Name,
             length: a.length,
         },
-        4 => HandshakeCall {
+        INTERFACE_VERSION => HandshakeCall {
             request: HandshakeMessage::InterfaceVersion {
                 version: low(a.first),
             },
@@ -190,32 +173,7 @@ fn hand_on(h: EisHandshaker, a: Arguments, message: &[u8], out: &mut [u8]) -> Ha
     ensures { Handled h (request_in a message.now) out.old out.new result }
 {
     let call = call_of(a);
-    let request = call.request;
-    let start = a.start;
-    let end = start + call.length;
-    h.handle_request(request, &message[start..end], out)
-}
-
-// A refused message takes nothing.
-fn taken(outcome: HandshakeOutcome, length: usize) -> usize
-    ensures { result ≡ cond (is_refusal outcome) 0 length }
-{
-    match outcome {
-        HandshakeOutcome::Accepted => length,
-        HandshakeOutcome::Finished => length,
-        HandshakeOutcome::Refused(_) => 0,
-    }
-}
-
-// Nothing is handed on.
-fn nothing(h: EisHandshaker, told: Told) -> HandshakeReceived
-    ensures { result ≡ record { told = told; answer = unfinished h HandshakeOutcome.Accepted 0; taken = 0 } }
-{
-    HandshakeReceived {
-        told,
-        answer: unfinished(h, HandshakeOutcome::Accepted, 0),
-        taken: 0,
-    }
+    h.handle_request(call.request, &message[a.start..a.start + call.length], out)
 }
 
 // After `Context::pending_request`: reads the first message of the slice, and hands its request on.
@@ -224,24 +182,37 @@ pub fn pending_request(h: EisHandshaker, message: &[u8], out: &mut [u8]) -> Hand
 {
     if NAME_LENGTH_LIMIT < h.name.length {
         return HandshakeReceived {
-            told: Told::Handed,
-            answer: unfinished(h, HandshakeOutcome::Refused(HandshakeError::BadState), 0),
+            told: Ok(()),
+            answer: HandshakeAnswer {
+                handshaker: h,
+                outcome: Err(HandshakeError::BadState),
+                count: 0,
+            },
             taken: 0,
         };
     }
     match read(h.next, message) {
-        Reading::Wait => nothing(h, Told::Wait),
-        Reading::NoObject => nothing(h, Told::NoObject),
-        Reading::Malformed(e) => nothing(h, Told::Malformed(e)),
-        Reading::InvalidId => nothing(h, Told::InvalidId),
-        Reading::Request { arguments, length } => {
-            let answer = hand_on(h, arguments, &message[..length], out);
-            let outcome = answer.outcome;
+        Ok(reading) => {
+            let answer = hand_on(h, reading.arguments, &message[..reading.length], out);
             HandshakeReceived {
-                told: Told::Handed,
+                told: Ok(()),
                 answer,
-                taken: taken(outcome, length),
+                // A refused message takes nothing.
+                taken: if answer.outcome.is_ok() {
+                    reading.length
+                } else {
+                    0
+                },
             }
         }
+        Err(why) => HandshakeReceived {
+            told: Err(why),
+            answer: HandshakeAnswer {
+                handshaker: h,
+                outcome: Ok(None),
+                count: 0,
+            },
+            taken: 0,
+        },
     }
 }

@@ -8,18 +8,23 @@ use native.Mathlib.Omega.{arith}
 use borrow.Author.Tests.{eq-eqb, eqb-true, le-leb, lt-leb}
 use lib.Dec.{eqb, leb}
 use lib.ListN.{length, get_or}
+use Rattle.std.specs.Prelude.{Some, None, Ok, Err}
+use Rattle.std.specs.Prelude as rust
+use Rattle.std.specs.Result.{is_ok}
+use Rattle.eiproto.specs.Told.{told}
 use Rattle.handshake.specs.Handshake as paper
-use Rattle.handshake.specs.View.{view_of, name_of, context_of, response_of, outcome_of, is_refusal, is_sound, Meets, Done}
+use Rattle.handshake.specs.View.{view_of, name_of, response_of, HandshakeOutcome, outcome_of, is_refusal, is_sound, Meets, Done}
 use Rattle.handshake.specs.View as view
 use Rattle.handshake.specs.declared.handshake.EisHandshaker.{EisHandshaker}
 use Rattle.handshake.specs.declared.handshake.EisHandshakeResp.{EisHandshakeResp}
 use Rattle.handshake.specs.declared.handshake.HandshakeError.{HandshakeError}
-use Rattle.handshake.specs.declared.handshake.HandshakeOutcome.{HandshakeOutcome}
 use Rattle.handshake.specs.declared.handshake.HandshakeAnswer.{HandshakeAnswer}
 use Rattle.control.specs.Control.{control_length}
 use Rattle.converter.specs.Next.{Begins}
+use Rattle.std.specs.Prelude.{Result}
 use Rattle.answers.specs.declared.Answer.{Answer}
-use Rattle.lent_handshake.specs.Lent.{name_length, handshake_in, name_at, context_at, context_number, is_lent, is_held, status_of, status_in, Refused21, Holds, Started, Handled, Begun, Finished, Named}
+use Rattle.answers.specs.declared.Error.{Error}
+use Rattle.lent_handshake.specs.Lent.{name_length, handshake_in, name_at, context_at, context_number, is_lent, is_held, Refused21, Holds, Started, Handled, Begun, Finished, Named}
 use Rattle.lent_handshake.specs.declared.HandshakeReply.{HandshakeReply}
 use Rattle.lent_handshake.specs.declared.Client.{Client}
 use Rattle.lent_handshake.proofs.Words.{both, unlent_held, held-sound}
@@ -30,7 +35,7 @@ Kept v m h = (is_held v m ≡ true) × (handshake_in v m ≡ view_of h)
 
 -- the reply is `bad_state`'s
 abbrev pub Bad : HandshakeReply → Type 0
-Bad r = (r.outcome ≡ HandshakeOutcome.Refused HandshakeError.BadState) × (r.count ≡ 0)
+Bad r = (r.outcome ≡ Err HandshakeError.BadState) × (r.count ≡ 0)
 
 abbrev pub reply_of : HandshakeAnswer → HandshakeReply
 reply_of r = record { outcome = r.outcome; count = r.count }
@@ -38,18 +43,21 @@ reply_of r = record { outcome = r.outcome; count = r.count }
 bad-refused : {w n out : List ℕ} {r : HandshakeReply} → Bad r → Refused21 w n w n out out r
 bad-refused e = record { outcome = e.0; count = e.1; words = refl; name = refl; bytes = refl }
 
-status : (o : HandshakeOutcome) (p : EisHandshakeResp) → status_of o ≡ status_in (outcome_of o p)
-unfolding outcome_of
-status HandshakeOutcome.Accepted p = refl
-status HandshakeOutcome.Finished p = refl
-status (HandshakeOutcome.Refused e) p = refl
+-- by what `is_ok` answers
+pub ok_accepted : (o : HandshakeOutcome) → true ≡ is_ok o → is_refusal o ≡ false
+ok_accepted (Ok s) t = refl
+ok_accepted (Err e) t = absurd (false≢true (sym t))
+
+pub not-ok_refused : (o : HandshakeOutcome) → false ≡ is_ok o → is_refusal o ≡ true
+not-ok_refused (Ok s) t = absurd (false≢true t)
+not-ok_refused (Err e) t = refl
 
 holds : {v m out later : List ℕ} {s : paper.Step} {r : HandshakeAnswer} → Meets out later s r → Kept v m r.handshaker → Holds v m out later s (reply_of r)
 holds {r = r} a k =
     record {
       held = k.0;
       handshake = k.1 ∙ a.handshake;
-      outcome = status r.outcome r.response ∙ ap status_in a.outcome;
+      outcome = a.outcome;
       count = a.count;
       bytes = a.buffer;
     }
@@ -111,7 +119,7 @@ module _ (w n : List ℕ) (h : EisHandshaker) (lent : is_lent w n ≡ true) (is 
 
   -- a Finish that succeeds settles this response
   pub settles : (p : paper.Response) → is_held w n ≡ true → (paper.handle_request (handshake_in w n) message (length out)).outcome ≡ paper.Result.finished p
-      → outcome_of r.outcome r.response ≡ paper.Result.finished p
+      → outcome_of r.outcome ≡ paper.Result.finished p
   settles p t e = (done t).meets.outcome ∙ e
 
 -- ---- a Finish
@@ -159,26 +167,26 @@ finished {w} {n} {c = c} l a same begins =
     }
 
 -- an outcome that is no Finish settles nothing
-pub unsettled : (o : HandshakeOutcome) (s : EisHandshakeResp) (p : paper.Response) → view.is_finished o ≡ false → outcome_of o s ≡ paper.Result.finished p → ⊥
+pub unsettled : (o : HandshakeOutcome) (p : paper.Response) → view.is_finished o ≡ false → outcome_of o ≡ paper.Result.finished p → ⊥
 unfolding outcome_of
-unsettled HandshakeOutcome.Accepted s p f e = let z : ◌≡◌ {A = ℕ} 0 1 = cc in omega arith
-unsettled HandshakeOutcome.Finished s p f e = false≢true (sym f)
-unsettled (HandshakeOutcome.Refused x) s p f e = let z : ◌≡◌ {A = ℕ} 0 1 = cc in omega arith
+unsettled (Ok None) p f e = let z : ◌≡◌ {A = ℕ} 0 1 = cc in omega arith
+unsettled (Ok (Some s)) p f e = false≢true (sym f)
+unsettled (Err x) p f e = let z : ◌≡◌ {A = ℕ} 0 1 = cc in omega arith
 
 same_response : (s p : paper.Response) → paper.Result.finished s ≡ paper.Result.finished p → s ≡ p
 same_response s p e = cc
 
 -- the session that `request::new` begins is that of the response
-pub settled-begun : {c d : List ℕ} {s : EisHandshakeResp} {a : Answer} {o : HandshakeOutcome} (p : paper.Response) → length c ≡ control_length → Begins c d s a
-    → o ≡ HandshakeOutcome.Finished → outcome_of o s ≡ paper.Result.finished p → Begun d p
+pub settled-begun : {c d : List ℕ} {s : EisHandshakeResp} {a : Result Answer Error} {o : HandshakeOutcome} (p : paper.Response) → length c ≡ control_length → Begins c d s a
+    → o ≡ Ok (Some s) → outcome_of o ≡ paper.Result.finished p → Begun d p
 unfolding outcome_of response_of
 settled-begun {d = d} {s} p l b f e =
-    let k : response_of s ≡ p = same_response (response_of s) p (sym (ap (λ (x : HandshakeOutcome). outcome_of x s) f) ∙ e) in
+    let k : response_of s ≡ p = same_response (response_of s) p (sym (ap outcome_of f) ∙ e) in
     subst (λ (q : paper.Response). Begun d q) k (b.begun l)
 
 -- ---- who the client is
 
-pub unlent_named : {w n : List ℕ} {r : Client} → is_lent w n ≡ false → r ≡ Client.Refused HandshakeError.BadState → Named w n r
+pub unlent_named : {w n : List ℕ} {r : rust.Result Client HandshakeError} → is_lent w n ≡ false → r ≡ Err HandshakeError.BadState → Named w n r
 unlent_named {w} {n} d e = record { damaged = λ _. e; known = λ l. absurd (false≢true (sym (unlent_held w n d) ∙ l)) }
 
 is_said : Option (List ℕ) → Bool
@@ -191,7 +199,7 @@ said true x = refl
 said false x = refl
 
 module _ (w n : List ℕ) (h : EisHandshaker) (lent : is_lent w n ≡ true) (is : view_of h ≡ handshake_in w n) (long : h.name.length ≡ get_or w 0 0) where
-  pub long-named : {r : Client} → 254 < h.name.length → r ≡ Client.Refused HandshakeError.BadState → Named w n r
+  pub long-named : {r : rust.Result Client HandshakeError} → 254 < h.name.length → r ≡ Err HandshakeError.BadState → Named w n r
   unfolding is_sound
   long-named l e =
       record { damaged = λ _. e; known = λ t. absurd (false≢true (sym (lt-leb h.name.length 254 l) ∙ sym (held-sound w n h lent long) ∙ t)) }
@@ -200,13 +208,13 @@ module _ (w n : List ℕ) (h : EisHandshaker) (lent : is_lent w n ≡ true) (is 
   unfolding view_of name_of handshake_in name_at
   given_is = sym (said h.name.given _) ∙ ap (λ (x : paper.Handshake). is_said x.name) is ∙ said (eqb (get_or w 1 0) 1) _
 
-  context_is : context_of h.context ≡ context_at (get_or w 2 0)
+  context_is : told h.context ≡ context_at (get_or w 2 0)
   unfolding view_of handshake_in
   context_is = ap (λ (x : paper.Handshake). x.context_type) is
 
-  pub known-named : (number : ℕ) → h.name.length ≤ 254 → number ≡ context_number (context_of h.context) → Named w n (Client.Known h.name.length h.name.given number)
+  pub known-named : (number : ℕ) → h.name.length ≤ 254 → number ≡ context_number (told h.context) → Named w n (Ok (record { length = h.name.length; given = h.name.given; context = number }))
   unfolding is_sound
   known-named number l e =
       let t = held-sound w n h lent long ∙ le-leb h.name.length 254 l in
       let k = e ∙ ap context_number context_is in
-      record { damaged = λ d. absurd (false≢true (sym d ∙ t)); known = λ _. λ i. Client.Known (long i) (given_is i) (k i) }
+      record { damaged = λ d. absurd (false≢true (sym d ∙ t)); known = λ _. λ i. Ok (record { length = long i; given = given_is i; context = k i }) }

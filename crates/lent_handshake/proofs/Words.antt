@@ -13,8 +13,10 @@ use lib.ListN.{length, get_or, set, take, length-map}
 use lib.Seq.{take-suc, take-suc-set, take_all, get_or-set_same, get_or-set_other}
 use Rattle.eiproto.specs.Enum.{context_type_number}
 use Rattle.eiproto.specs.declared.eiproto_enum.ContextType.{ContextType}
-use Rattle.handshake.specs.View.{name_of, context_of, version_in, versions_of, view_of, is_sound}
-use Rattle.handshake.specs.declared.handshake.InterfaceVersion.{InterfaceVersion}
+use Rattle.std.specs.Prelude as rust
+use Rattle.std.specs.Int.{from_bool}
+use Rattle.eiproto.specs.Told.{told}
+use Rattle.handshake.specs.View.{name_of, versions_of, view_of, is_sound}
 use Rattle.handshake.specs.declared.handshake.EisHandshaker.{EisHandshaker}
 use Rattle.handshake.proofs.Reports.{row_at, versions-set}
 use Rattle.control.specs.Table.{tab}
@@ -50,6 +52,12 @@ pub held-sound : (w n : List ℕ) (h : EisHandshaker) → is_lent w n ≡ true �
 unfolding is_sound
 held-sound w n h l e = held-rest w n l ∙ ap (λ (x : ℕ). leb x name_length) (sym e)
 
+pub words_long : (w n : List ℕ) → is_lent w n ≡ true → length w ≡ 17
+words_long w n e = (lent_parts w n e).0
+
+pub name_long : (w n : List ℕ) → is_lent w n ≡ true → length n ≡ 254
+name_long w n e = (lent_parts w n e).1
+
 -- ---- one version, one context type
 
 pub version_below : (n k : ℕ) → (n ≡ 0 → ⊥) → k ≡ (n - 1) % 4294967296 → some k ≡ version_at n
@@ -66,17 +74,22 @@ unfolding context_at
 context_number_lem ContextType.Receiver = refl
 context_number_lem ContextType.Sender = refl
 
+-- whether the name was said, as a word
+pub said_word : (b : Bool) → b ≡ eqb (from_bool b) 1
+said_word true = refl
+said_word false = refl
+
 -- ---- the versions, one after another
 
 abbrev pub versions_in : List ℕ → ℕ → Option ℕ
 versions_in w j = version_at (get_or w (5 + j) 0)
 
-module _ (w : List ℕ) (rows : List InterfaceVersion) (i : ℕ) where
-  pub load-next : (row : InterfaceVersion) → i < length rows → version_in row ≡ versions_in w i → take i (versions_of rows) ≡ tab i (versions_in w)
+module _ (w : List ℕ) (rows : List (rust.Option ℕ)) (i : ℕ) where
+  pub load-next : (row : rust.Option ℕ) → i < length rows → told row ≡ versions_in w i → take i (versions_of rows) ≡ tab i (versions_in w)
       → take (i + 1) (versions_of (set rows i row)) ≡ tab (i + 1) (versions_in w)
   load-next row l e h =
       let k : i < length (versions_of rows) = rw length-map l in
-      rw (add-one, versions-set rows i row, take-suc-set (versions_of rows) i (version_in row) k, tab-append i (versions_in w), h, e)
+      rw (add-one, versions-set rows i row, take-suc-set (versions_of rows) i (told row) k, tab-append i (versions_in w), h, e)
 
   pub load_all : length rows ≡ 12 → i ≡ 12 → take i (versions_of rows) ≡ tab i (versions_in w) → versions_of rows ≡ (handshake_in w []).versions
   unfolding handshake_in
@@ -84,14 +97,14 @@ module _ (w : List ℕ) (rows : List InterfaceVersion) (i : ℕ) where
       let k : length (versions_of rows) ≤ i = rw length-map (omega arith) in
       sym (take_all i (versions_of rows) k) ∙ h ∙ ap (λ (x : ℕ). tab x (versions_in w)) e
 
-  pub store-next : (word : ℕ) (d : InterfaceVersion) → i < length rows → 5 + i < length w → version_at word ≡ version_in (get_or rows i d) → tab i (versions_in w) ≡ take i (versions_of rows)
+  pub store-next : (word : ℕ) (d : rust.Option ℕ) → i < length rows → 5 + i < length w → version_at word ≡ told (get_or rows i d) → tab i (versions_in w) ≡ take i (versions_of rows)
       → tab (i + 1) (versions_in (set w (5 + i) word)) ≡ take (i + 1) (versions_of rows)
   store-next word d l m e h =
       let k : i < length (versions_of rows) = rw length-map l in
-      tab_push i (i + 1) (versions_in w) (versions_in (set w (5 + i) word)) (version_in (get_or rows i d)) refl
+      tab_push i (i + 1) (versions_in w) (versions_in (set w (5 + i) word)) (told (get_or rows i d)) refl
       (ap version_at (get_or-set_same w (5 + i) word 0 m) ∙ e)
       (λ j q. ap version_at (get_or-set_other w (5 + i) (5 + j) word 0 (λ z. omega arith)))
-      ∙ ap (λ (xs : List (Option ℕ)). xs ++ (version_in (get_or rows i d) ∷ [])) h
+      ∙ ap (λ (xs : List (Option ℕ)). xs ++ (told (get_or rows i d) ∷ [])) h
       ∙ sym (rw (add-one, take-suc (versions_of rows) i none k, row_at rows i d l))
 
   pub store_all : length rows ≡ 12 → i ≡ 12 → tab i (versions_in w) ≡ take i (versions_of rows) → (handshake_in w []).versions ≡ versions_of rows
@@ -100,7 +113,7 @@ module _ (w : List ℕ) (rows : List InterfaceVersion) (i : ℕ) where
 -- ---- the handshake, word by word
 
 pub words_are : (w n : List ℕ) (h : EisHandshaker) → h.name.bytes ≡ n → h.name.length ≡ get_or w 0 0 → h.name.given ≡ eqb (get_or w 1 0) 1
-    → context_of h.context ≡ context_at (get_or w 2 0) → h.serial ≡ get_or w 3 0 % 4294967296 → h.next ≡ get_or w 4 0
+    → told h.context ≡ context_at (get_or w 2 0) → h.serial ≡ get_or w 3 0 % 4294967296 → h.next ≡ get_or w 4 0
     → versions_of h.interfaces ≡ (handshake_in w []).versions → view_of h ≡ handshake_in w n
 unfolding view_of name_of name_at handshake_in
 words_are w n h bytes long given context serial next versions =
@@ -114,7 +127,7 @@ module _ (m : List ℕ) (h : EisHandshaker) (given context : ℕ) where
   abbrev stored : List ℕ → List ℕ
   stored w = headed w h.name.length given context h.serial h.next
 
-  pub store_is : (w : List ℕ) → length w ≡ handshake_length → h.name.given ≡ eqb given 1 → context_at context ≡ context_of h.context → h.serial < 4294967296
+  pub store_is : (w : List ℕ) → length w ≡ handshake_length → h.name.given ≡ eqb given 1 → context_at context ≡ told h.context → h.serial < 4294967296
       → m ≡ h.name.bytes → (handshake_in w []).versions ≡ versions_of h.interfaces → handshake_in (stored w) m ≡ view_of h
   unfolding handshake_in tab
   store_is (a ∷ b ∷ c ∷ d ∷ e ∷ w) l g k s y v =

@@ -1,17 +1,18 @@
 -- A handshake in two lent slices: what they mean, and what is promised of a call on them. Assumes nothing.
 use Rattle.std.specs.Prelude.{ℕ, zero, suc, ◌+◌, ◌%◌, ◌≡◌, Bool, true, false, cond, ◌&&◌, List, eqb, leb, Float, length, get_or, take}
+use Rattle.std.specs.Prelude.{Some, None, Ok, Err}
+use Rattle.std.specs.Prelude as rust
 use Rattle.std.proofs.Math.Option.{Option, none, some}
 use Rattle.eiproto.specs.Enum.{context_type_number}
 use Rattle.eiproto.specs.declared.eiproto_enum.ContextType.{ContextType}
 use Rattle.wire.specs.Bits.{splice}
 use Rattle.handshake.specs.Handshake as paper
-use Rattle.handshake.specs.View.{view_of, is_sound, number, outcome_of, is_refusal, is_finished}
+use Rattle.handshake.specs.View.{view_of, is_sound, number, HandshakeOutcome, outcome_of, is_refusal, is_finished}
 use Rattle.handshake.specs.declared.handshake.HandshakeError.{HandshakeError}
-use Rattle.handshake.specs.declared.handshake.HandshakeOutcome.{HandshakeOutcome}
 use Rattle.handshake.specs.declared.handshake.HandshakeAnswer.{HandshakeAnswer}
 use Rattle.handshake_messages.specs.Reading.{handshake_reading, request_in}
 use Rattle.handshake_messages.specs.declared.Reading.{Reading}
-use Rattle.handshake_messages.specs.declared.Told.{Told}
+use Rattle.handshake_messages.specs.declared.Unhanded.{Unhanded}
 use Rattle.model.specs.Session.{fresh}
 use Rattle.control.specs.Table.{tab}
 use Rattle.control.specs.Control.{control_length}
@@ -67,7 +68,7 @@ is_held w n = is_lent w n && leb (get_or w 0 0) name_length
 
 -- 21 leaves everything as it was
 pub record Refused21 (w n v m out later : List ℕ) (r : HandshakeReply) : Type 0 where
-  pub outcome : r.outcome ≡ HandshakeOutcome.Refused HandshakeError.BadState
+  pub outcome : r.outcome ≡ Err HandshakeError.BadState
   pub count : r.count ≡ 0
   pub words : v ≡ w
   pub name : m ≡ n
@@ -75,20 +76,14 @@ pub record Refused21 (w n v m out later : List ℕ) (r : HandshakeReply) : Type 
 
 -- the outcome as a number: 0 where it is no refusal
 abbrev pub status_of : HandshakeOutcome → ℕ
-status_of HandshakeOutcome.Accepted = 0
-status_of HandshakeOutcome.Finished = 0
-status_of (HandshakeOutcome.Refused e) = number e
-
-abbrev pub status_in : paper.Result → ℕ
-status_in paper.Result.accepted = 0
-status_in (paper.Result.finished p) = 0
-status_in (paper.Result.refused n) = n
+status_of (Ok s) = 0
+status_of (Err e) = number e
 
 -- the slices hold the step's handshake, the answer is the step's, and so is every byte of `out`
 pub record Holds (v m out later : List ℕ) (s : paper.Step) (r : HandshakeReply) : Type 0 where
   pub held : is_held v m ≡ true
   pub handshake : handshake_in v m ≡ s.handshake
-  pub outcome : status_of r.outcome ≡ status_in s.outcome
+  pub outcome : outcome_of r.outcome ≡ s.outcome
   pub count : r.count ≡ length s.bytes
   pub bytes : later ≡ splice out 0 s.bytes
 
@@ -130,7 +125,7 @@ pub record Settled (w n v m c d : List ℕ) (a : HandshakeAnswer) : Type 0 where
   pub refused : is_refusal a.outcome ≡ true → (v ≡ w) × (m ≡ n)
   pub stored : is_refusal a.outcome ≡ false → (is_held v m ≡ true) × (handshake_in v m ≡ view_of a.handshaker)
   pub control : is_finished a.outcome ≡ false → d ≡ c
-  pub begun : (p : paper.Response) → outcome_of a.outcome a.response ≡ paper.Result.finished p → Begun d p
+  pub begun : (p : paper.Response) → outcome_of a.outcome ≡ paper.Result.finished p → Begun d p
 
 -- every slice is as it was
 pub record Untouched (w n v m c d out later : List ℕ) (s r : MessageReply) : Type 0 where
@@ -141,16 +136,16 @@ pub record Untouched (w n v m c d out later : List ℕ) (s r : MessageReply) : T
   pub bytes : later ≡ out
 
 -- where nothing is handed on
-abbrev pub nothing_reply : Told → MessageReply
-nothing_reply told = record { told = told; reply = record { outcome = HandshakeOutcome.Accepted; count = 0 }; taken = 0 }
+abbrev pub nothing_reply : Unhanded → MessageReply
+nothing_reply why = record { told = Err why; reply = record { outcome = Ok None; count = 0 }; taken = 0 }
 
 -- 21
 abbrev pub damaged_reply : MessageReply
-damaged_reply = record { told = Told.Handed; reply = record { outcome = HandshakeOutcome.Refused HandshakeError.BadState; count = 0 }; taken = 0 }
+damaged_reply = record { told = Ok tt; reply = record { outcome = Err HandshakeError.BadState; count = 0 }; taken = 0 }
 
 -- a request was handed on, whose message has so many bytes: as "the handshake call .. it stands for", and "a refused message takes nothing"
 pub record HandedOn (w n v m c d out later : List ℕ) (request : paper.Message) (long : ℕ) (r : MessageReply) : Type 0 where
-  pub told : r.told ≡ Told.Handed
+  pub told : r.told ≡ Ok tt
   pub taken : r.taken ≡ cond (is_refusal r.reply.outcome) 0 long
   pub handled : Holds v m out later (paper.handle_request (handshake_in w n) request (length out)) r.reply
   pub kept : is_refusal r.reply.outcome ≡ true → (v ≡ w) × (m ≡ n)
@@ -158,12 +153,9 @@ pub record HandedOn (w n v m c d out later : List ℕ) (request : paper.Message)
   pub control : is_finished r.reply.outcome ≡ false → d ≡ c
   pub begun : (p : paper.Response) → (paper.handle_request (handshake_in w n) request (length out)).outcome ≡ paper.Result.finished p → Begun d p
 
-abbrev pub Follows : Reading → (w n v m c d message out later : List ℕ) → MessageReply → Type 0
-Follows Reading.Wait w n v m c d message out later r = Untouched w n v m c d out later (nothing_reply Told.Wait) r
-Follows Reading.NoObject w n v m c d message out later r = Untouched w n v m c d out later (nothing_reply Told.NoObject) r
-Follows (Reading.Malformed e) w n v m c d message out later r = Untouched w n v m c d out later (nothing_reply (Told.Malformed e)) r
-Follows Reading.InvalidId w n v m c d message out later r = Untouched w n v m c d out later (nothing_reply Told.InvalidId) r
-Follows (Reading.Request a long) w n v m c d message out later r = HandedOn w n v m c d out later (request_in a (take long message)) long r
+abbrev pub Follows : rust.Result Reading Unhanded → (w n v m c d message out later : List ℕ) → MessageReply → Type 0
+Follows (Ok x) w n v m c d message out later r = HandedOn w n v m c d out later (request_in x.arguments (take x.length message)) x.length r
+Follows (Err why) w n v m c d message out later r = Untouched w n v m c d out later (nothing_reply why) r
 
 -- "Order: 21" first, and then as the message is read
 pub record Received (w n v m c d message out later : List ℕ) (r : MessageReply) : Type 0 where
@@ -177,11 +169,11 @@ context_number none = 0
 context_number (some c) = context_type_number c
 
 abbrev pub client_in : (words : List ℕ) → Client
-client_in w = Client.Known (get_or w 0 0) (eqb (get_or w 1 0) 1) (context_number (context_at (get_or w 2 0)))
+client_in w = record { length = get_or w 0 0; given = eqb (get_or w 1 0) 1; context = context_number (context_at (get_or w 2 0)) }
 
-pub record Named (w n : List ℕ) (r : Client) : Type 0 where
-  pub damaged : is_held w n ≡ false → r ≡ Client.Refused HandshakeError.BadState
-  pub known : is_held w n ≡ true → r ≡ client_in w
+pub record Named (w n : List ℕ) (r : rust.Result Client HandshakeError) : Type 0 where
+  pub damaged : is_held w n ≡ false → r ≡ Err HandshakeError.BadState
+  pub known : is_held w n ≡ true → r ≡ Ok (client_in w)
 
 -- ---- the same, of the slices that a call is lent
 
@@ -204,5 +196,5 @@ abbrev pub Receives : (words name control out : Numbers) (message : List ℕ) �
 Receives w n c out message r =
     Received w.entry.now n.entry.now w.exit.now n.exit.now c.entry.now c.exit.now message out.entry.now out.exit.now r
 
-abbrev pub Names : (words name : SharedNumbers) → Client → Type 0
+abbrev pub Names : (words name : SharedNumbers) → rust.Result Client HandshakeError → Type 0
 Names w n r = Named w.entry.now n.entry.now r

@@ -9,14 +9,14 @@ use Rattle.lent_handshake.proofs.load_versions.Goals as goal
 pub loop-i-init : goal.loop-i-init
 unfolding tab
 loop-i-init c =
-    (omega arith, (refl, refl))
+    (refl, refl)
 
 pub loop-i-preserved : goal.loop-i-preserved
 loop-i-preserved c =
     let s = c.loop-i in
-    (omega arith, (simp length-set (omega arith), load-next c.args.words.now s.versions s.i _ (omega arith) c.version_of.ensures s.invariant.1.1))
+    (simp length-set (omega arith), load-next c.args.words.now s.versions s.i _ (omega arith) c.version_of.ensures s.invariant.1)
 
 pub returns : goal.returns
 returns c =
     let s = c.loop-i in
-    load_all c.args.words.now s.versions s.i (omega arith) (omega arith) s.invariant.1.1
+    load_all c.args.words.now s.versions s.i s.invariant.0 (omega arith) s.invariant.1

@@ -1,5 +1,4 @@
 -- The loop's invariant: the rows made so far are what the words say. Assumes nothing.
-use Prim.Native.Nat.{◌-◌, ◌≤◌}
 use mathlib.Core.Path.{◌≡◌}
 use lib.ListN.{length, take}
 use Rattle.handshake.specs.View.{versions_of}
@@ -9,8 +8,4 @@ use Rattle.lent_handshake.proofs.load_versions.Given as goal
 
 abbrev pub invariant-loop-i : goal.invariant-loop-i
 invariant-loop-i l =
-    (l.i ≤ 12) × ((length l.versions ≡ 12) × (take l.i (versions_of l.versions) ≡ tab l.i (versions_in l.words)))
-
-abbrev pub decreases-loop-i : goal.decreases-loop-i
-decreases-loop-i l =
-    12 - l.i
+    (length l.versions ≡ 12) × (take l.i (versions_of l.versions) ≡ tab l.i (versions_in l.words))

@@ -2,7 +2,7 @@
 use mathlib.Core.Path.{◌≡◌, refl}
 use native.Mathlib.Omega.{arith}
 use borrow.Author.Rules.{rules}
-use lib.ListN.{length-set, length}
+use lib.ListN.{length}
 use Rattle.handshake.proofs.Reports.{length-rows}
 use Rattle.control.specs.Table.{tab}
 use Rattle.lent_handshake.proofs.Words.{store-next, store_all}
@@ -11,18 +11,18 @@ use Rattle.lent_handshake.proofs.store_versions.Goals as goal
 pub loop-i-init : goal.loop-i-init
 unfolding tab
 loop-i-init c =
-    (omega arith, (omega arith, refl))
+    refl
 
 pub loop-i-preserved : goal.loop-i-preserved
 loop-i-preserved c =
     let s = c.loop-i in
     let rows = c.args.versions in
     let n : length rows ≡ 12 = search (rules, length-rows) in
-    (omega arith, (simp length-set (omega arith), store-next s.words rows s.i _ _ (omega arith) (omega arith) c.version_word.ensures s.invariant.1.1))
+    store-next s.words rows s.i _ _ (omega arith) (omega arith) c.version_word.ensures s.invariant
 
 pub returns : goal.returns
 returns c =
     let s = c.loop-i in
     let rows = c.args.versions in
     let n : length rows ≡ 12 = search (rules, length-rows) in
-    store_all s.words rows s.i n (omega arith) s.invariant.1.1
+    store_all s.words rows s.i n (omega arith) s.invariant

@@ -1,35 +1,22 @@
 -- `handshake::handshake::complete` meets its contract: the three interfaces are asked for in the order of the definition. Assumes nothing.
-use borrow.Author.Rules.{rules}
-use borrow.Author.Tests.{not-true, not-false}
+use mathlib.Core.Bool.{false≢true}
+use mathlib.Core.Path.{sym, ◌∙◌}
 use Rattle.handshake.specs.Handshake.{complete}
-use Rattle.std.proofs.lemmas.Bool.{not_from_false, not_from_true}
 use Rattle.handshake.proofs.handshake.complete.Goals as goal
+use Rattle.handshake.proofs.handshake.complete.Goals.{then-has, else-has}
 
-pub has-requires : goal.has-requires
-has-requires c = search rules
-
-pub returns-then-not-has : goal.returns-then-not-has
+pub returns-then-has-2 : goal.returns-then-has-2
 unfolding complete
-returns-then-not-has c =
-    let a = c.has in
-    rw (← a.ensures, not-true a.result (not_from_false _ c.if-not-has.true))
+returns-then-has-2 c =
+    elim c.if-has.branch [
+      | then-has w ↦ rw (← c.has.ensures, w.if-has.true, ← w.has-then-has.ensures, sym w.value-is ∙ c.if-has-2.true, c.has-then-has-2.ensures)
+      | else-has w ↦ absurd (false≢true (sym w.if-has.false ∙ (sym w.value-is ∙ c.if-has-2.true)))
+    ]
 
-pub has-requires-2 : goal.has-requires-2
-has-requires-2 c = search rules
-
-pub returns-then-not-has-2 : goal.returns-then-not-has-2
+pub returns-else-has-2 : goal.returns-else-has-2
 unfolding complete
-returns-then-not-has-2 c =
-    let a = c.has in
-    let b = c.has-2 in
-    rw (← a.ensures, not-false a.result (not_from_true _ c.if-not-has.false), ← b.ensures, not-true b.result (not_from_false _ c.if-not-has-2.true))
-
-pub has-requires-3 : goal.has-requires-3
-has-requires-3 c = search rules
-
-pub returns : goal.returns
-unfolding complete
-returns c =
-    let a = c.has in
-    let b = c.has-2 in
-    rw (← a.ensures, not-false a.result (not_from_true _ c.if-not-has.false), ← b.ensures, not-false b.result (not_from_true _ c.if-not-has-2.false), c.has-3.ensures)
+returns-else-has-2 c =
+    elim c.if-has.branch [
+      | then-has w ↦ c.if-has-2.false ∙ rw (← c.has.ensures, w.if-has.true, ← w.has-then-has.ensures, sym w.value-is ∙ c.if-has-2.false)
+      | else-has w ↦ c.if-has-2.false ∙ rw (← c.has.ensures, w.if-has.false)
+    ]

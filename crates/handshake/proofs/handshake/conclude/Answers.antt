@@ -1,6 +1,6 @@
 -- `handshake::handshake::conclude` meets its contract: with room for the report and the connection's record it is concluded, else 19. Assumes nothing.
 use Prim.Native.Nat.{◌+◌, ◌≤◌, ◌<◌}
-use mathlib.Core.Path.{◌≡◌, ◌∙◌}
+use mathlib.Core.Path.{◌≡◌, refl, ◌∙◌}
 use native.Mathlib.Omega.{arith}
 use borrow.Author.Rules.{rules}
 use lib.ListN.{length, length-map}
@@ -8,7 +8,7 @@ use Rattle.wire.specs.Record.{fixed_length}
 use Rattle.wire.specs.declared.event.Event.{Event}
 use Rattle.wire.proofs.Splices.{put_le}
 use Rattle.handshake.specs.Handshake.{concluded, report}
-use Rattle.handshake.specs.View.{view_of, versions_of}
+use Rattle.handshake.specs.View.{view_of, versions_of, no_interfaces}
 use Rattle.handshake.specs.declared.handshake.HandshakeError.{HandshakeError}
 use Rattle.handshake.proofs.Answers.{refused-done, concluded-done}
 use Rattle.handshake.proofs.Cases.{finish-concluded, room-short, room_enough}
@@ -51,7 +51,7 @@ overflow_add-result c =
     )
 
 pub returns : goal.returns
-unfolding view_of
+unfolding view_of no_interfaces
 returns c =
     let h = c.args.h in
     let room = length c.args.out.now in
@@ -66,7 +66,7 @@ returns c =
     concluded-done h c.requires.0
     (full ∙ room_enough (view_of h) room (concluded (view_of h)) (rw length-concluded fits))
     c.requires.1.1
-    c.no_interfaces-none.ensures
+    refl
     c.response_of.ensures.0
     c.response_of.ensures.1
     c.report-at.ensures

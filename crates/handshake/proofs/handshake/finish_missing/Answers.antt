@@ -1,8 +1,7 @@
 -- `handshake::handshake::finish_missing` meets its contract: with room for the report it is 9, else 19. Assumes nothing.
 use Prim.Native.Nat.{◌≤◌, ◌<◌}
-use mathlib.Core.Path.{◌∙◌}
+use mathlib.Core.Path.{refl, ◌∙◌}
 use native.Mathlib.Omega.{arith}
-use borrow.Author.Rules.{rules}
 use lib.ListN.{length}
 use Rattle.handshake.specs.Handshake.{missing}
 use Rattle.handshake.specs.View.{view_of}
@@ -30,5 +29,5 @@ returns c =
     let fits : length (missing h).bytes ≤ room = omega (arith, c.if-out-report_length.false, c.report_length.ensures) in
     missing-done c.args.h c.requires.0
     (finish-missing h room c.requires.1 ∙ room_enough h room (missing h) fits)
-    c.report-count.ensures
-    c.unfinished.ensures
+    c.report.ensures
+    refl

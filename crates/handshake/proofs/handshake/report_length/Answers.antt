@@ -1,43 +1,23 @@
--- `handshake::handshake::report_length` meets its contract. The loop's invariant: the length of the report of the rows passed. Assumes nothing.
-use Prim.Native.Nat.{◌*◌, ◌-◌, ◌≤◌}
-use mathlib.Core.Path.{◌≡◌, refl, ap, ◌∙◌}
+-- `handshake::handshake::report_length` meets its contract: a record of one length for each version. Assumes nothing.
+use mathlib.Core.Path.{◌≡◌, ◌∙◌}
 use native.Mathlib.Omega.{arith}
 use borrow.Author.Rules.{rules}
-use lib.ListN.{length, take, length-map}
-use lib.Seq.{take_all}
-use Rattle.handshake.specs.Handshake.{report}
-use Rattle.handshake.specs.View.{versions_of}
-use Rattle.handshake.proofs.Reports.{length_hit, length-version, report_miss, length-rows}
+use lib.ListN.{length}
+use Rattle.std.specs.Prelude.{count_by, is_some}
+use Rattle.std.proofs.lemmas.List.Sums.{count_by-le-length}
+use Rattle.handshake.proofs.Reports.{length-version, length_report, length-rows}
 use Rattle.handshake.proofs.handshake.report_length.Goals as goal
 
-pub loop-i-init : goal.loop-i-init
-unfolding report
-loop-i-init c =
-    (omega arith, (omega arith, refl))
-
-pub overflow_add-total : goal.overflow_add-total
-overflow_add-total c =
-    let l : c.fixed_length-total.result ≡ 15 = c.fixed_length-total.ensures ∙ simp length-version in
-    omega arith
-
-pub loop-i-preserved-then-row : goal.loop-i-preserved-then-row
-loop-i-preserved-then-row c =
-    let s = c.loop-i in
+pub overflow_mul-result : goal.overflow_mul-result
+overflow_mul-result c =
     let rows = c.args.interfaces in
-    let n : length rows ≡ 12 = search (rules, length-rows) in
-    let l : c.fixed_length-total.result ≡ 15 = c.fixed_length-total.ensures ∙ simp length-version in
-    (omega arith, (omega arith, omega (arith, c.fixed_length-total.ensures, length_hit rows s.i _ (omega arith) c.if-row.true)))
-
-pub loop-i-preserved : goal.loop-i-preserved
-loop-i-preserved c =
-    let s = c.loop-i in
-    let rows = c.args.interfaces in
-    let n : length rows ≡ 12 = search (rules, length-rows) in
-    (omega arith, (omega arith, rw (report_miss rows s.i _ (omega arith) c.if-row.false) s.invariant.1.1))
+    let n : c.count-negotiated.result ≡ count_by is_some rows = search rules in
+    let l : length rows ≡ 12 = search (rules, length-rows) in
+    let e : c.fixed_length.result ≡ 15 = c.fixed_length.ensures ∙ simp length-version in
+    rw e (omega (arith, n, l, count_by-le-length is_some rows))
 
 pub returns : goal.returns
 returns c =
-    let rows = c.args.interfaces in
-    let n : length rows ≡ 12 = search (rules, length-rows) in
-    let l : length (versions_of rows) ≤ c.loop-i.i = rw length-map (omega arith) in
-    c.loop-i.invariant.1.1 ∙ ap (λ vs. length (report 1 vs)) (take_all c.loop-i.i (versions_of rows) l)
+    let n : c.count-negotiated.result ≡ count_by is_some c.args.interfaces = search rules in
+    let e : c.fixed_length.result ≡ 15 = c.fixed_length.ensures ∙ simp length-version in
+    rw (n, e, length_report)

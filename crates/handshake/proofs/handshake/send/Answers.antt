@@ -1,5 +1,4 @@
 -- `handshake::handshake::send` meets its contract: a handshake event is a record of object 0 with no text. Assumes nothing.
-use borrow.Author.Rules.{rules}
 use Rattle.handshake.specs.Handshake.{sent}
 use Rattle.handshake.proofs.handshake.send.Goals as goal
 

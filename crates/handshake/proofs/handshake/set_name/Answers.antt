@@ -1,13 +1,11 @@
 -- `handshake::handshake::set_name` meets its contract: a case of the definition for each answer. Assumes nothing.
-use mathlib.Core.Path.{sym, ◌∙◌}
-use borrow.Author.Rules.{rules}
-use borrow.Author.Tests.{le-leb, not-false, not-true}
+use mathlib.Core.Path.{refl, sym, ◌∙◌}
+use borrow.Author.Tests.{le-leb}
 use lib.ListN.{length, take}
 use Rattle.handshake.specs.View.{view_of, name_of, is_sound}
 use Rattle.handshake.specs.declared.handshake.HandshakeError.{HandshakeError}
 use Rattle.handshake.proofs.Answers.{refused-done, accepted-done}
 use Rattle.handshake.proofs.Cases.{name-bad, name-long, name_twice, name-first}
-use Rattle.std.proofs.lemmas.Bool.{not_from_false, not_from_true}
 use Rattle.handshake.proofs.handshake.set_name.Goals as goal
 
 pub returns-then-not-valid : goal.returns-then-not-valid
@@ -15,8 +13,8 @@ returns-then-not-valid c =
     λ out.
     let a = c.args in
     refused-done a.h HandshakeError.BadUtf8 c.requires
-    (name-bad (view_of a.h) (length out) a.text.now (sym c.valid.ensures ∙ not-true _ (not_from_false _ c.if-not-valid.true)))
-    c.refused.ensures
+    (name-bad (view_of a.h) (length out) a.text.now (sym c.if-not-valid.ensures))
+    refl
     out
 
 pub returns-then-text-gt-NAME_LENGTH_LIMIT : goal.returns-then-text-gt-NAME_LENGTH_LIMIT
@@ -24,8 +22,8 @@ returns-then-text-gt-NAME_LENGTH_LIMIT c =
     λ out.
     let a = c.args in
     refused-done a.h HandshakeError.NameLong c.requires
-    (name-long (view_of a.h) (length out) a.text.now (sym c.valid.ensures ∙ not-false _ (not_from_true _ c.if-not-valid.false)) c.if-text-gt-NAME_LENGTH_LIMIT.true)
-    c.refused-then-text-gt-NAME_LENGTH_LIMIT.ensures
+    (name-long (view_of a.h) (length out) a.text.now (sym c.if-not-valid.ensures) c.if-text-gt-NAME_LENGTH_LIMIT.true)
+    refl
     out
 
 pub returns-then-h : goal.returns-then-h
@@ -33,10 +31,10 @@ unfolding view_of name_of
 returns-then-h c =
     λ out.
     let a = c.args in
-    let valid = sym c.valid.ensures ∙ not-false _ (not_from_true _ c.if-not-valid.false) in
+    let valid = sym c.if-not-valid.ensures in
     refused-done a.h HandshakeError.DuplicateEvent c.requires
     (name_twice (view_of a.h) (length out) a.text.now valid c.if-text-gt-NAME_LENGTH_LIMIT.false {old = take a.h.name.length a.h.name.bytes} (rw c.if-h.true))
-    c.refused-then-h.ensures
+    refl
     out
 
 pub returns : goal.returns
@@ -44,9 +42,9 @@ unfolding view_of name_of is_sound
 returns c =
     λ out.
     let a = c.args in
-    let n = c.name_of-named in
-    let valid = sym c.valid.ensures ∙ not-false _ (not_from_true _ c.if-not-valid.false) in
+    let n = c.name_of in
+    let valid = sym c.if-not-valid.ensures in
     accepted-done a.h _ (le-leb n.result.length 254 n.ensures.1)
     (name-first (view_of a.h) (length out) a.text.now valid c.if-text-gt-NAME_LENGTH_LIMIT.false (rw c.if-h.false) ∙ rw n.ensures.0)
-    c.accepted.ensures
+    refl
     out

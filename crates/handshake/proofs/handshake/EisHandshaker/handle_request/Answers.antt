@@ -1,6 +1,5 @@
 -- `handshake::handshake::EisHandshaker::handle_request` meets its contract: 21 by the first test, and each arm by its function's contract. Assumes nothing.
 use mathlib.Core.Path.{refl}
-use borrow.Author.Rules.{rules}
 use Rattle.handshake.specs.Handshake.{handle_request}
 use Rattle.handshake.proofs.Answers.{handled, handled-damaged, sound_is, accepted-done}
 use Rattle.handshake.proofs.handshake.EisHandshaker.handle_request.Goals as goal
@@ -35,22 +34,22 @@ unfolding handle_request
 returns-in-HandshakeVersion c =
     let a = c.args in
     let l = c.if-self-gt-NAME_LENGTH_LIMIT.false in
-    handled a.self _ l (rw c.in-HandshakeVersion.is (accepted-done a.self a.self (sound_is _ l) refl c.accepted.ensures a.out.now))
+    handled a.self _ l (rw c.in-HandshakeVersion.is (accepted-done a.self a.self (sound_is _ l) refl c.quiet.ensures a.out.now))
 
 pub returns-in-Name : goal.returns-in-Name
 returns-in-Name c =
     let a = c.args in
-    handled a.self _ c.if-self-gt-NAME_LENGTH_LIMIT.false (rw c.in-Name.is (c.set_name.ensures a.out.now))
+    handled a.self _ c.if-self-gt-NAME_LENGTH_LIMIT.false (rw (c.in-Name.is, c.quiet-in-Name.ensures) (c.set_name.ensures a.out.now))
 
 pub returns-in-ContextType : goal.returns-in-ContextType
 returns-in-ContextType c =
     let a = c.args in
-    handled a.self _ c.if-self-gt-NAME_LENGTH_LIMIT.false (rw c.in-ContextType.is (c.set_context.ensures a.out.now))
+    handled a.self _ c.if-self-gt-NAME_LENGTH_LIMIT.false (rw (c.in-ContextType.is, c.quiet-in-ContextType.ensures) (c.set_context.ensures a.out.now))
 
 pub returns-in-InterfaceVersion : goal.returns-in-InterfaceVersion
 returns-in-InterfaceVersion c =
     let a = c.args in
-    handled a.self _ c.if-self-gt-NAME_LENGTH_LIMIT.false (rw c.in-InterfaceVersion.is (c.negotiate.ensures a.out.now))
+    handled a.self _ c.if-self-gt-NAME_LENGTH_LIMIT.false (rw (c.in-InterfaceVersion.is, c.quiet-in-InterfaceVersion.ensures) (c.negotiate.ensures a.out.now))
 
 pub returns-in-Finish : goal.returns-in-Finish
 unfolding handle_request
@@ -61,4 +60,4 @@ returns-in-Finish c =
 pub returns-in-Other : goal.returns-in-Other
 returns-in-Other c =
     let a = c.args in
-    handled a.self _ c.if-self-gt-NAME_LENGTH_LIMIT.false (rw c.in-Other.is (c.turn_away.ensures a.out.now))
+    handled a.self _ c.if-self-gt-NAME_LENGTH_LIMIT.false (rw (c.in-Other.is, c.refused-in-Other.ensures) (c.turn_away.ensures a.out.now))

@@ -1,9 +1,0 @@
--- By the test. Assumes nothing.
-use borrow.Author.Tests.{eq-eqb, ne_eqb}
-use Rattle.handshake_messages.proofs.context_type.Goals as goal
-
-pub returns-then-n-eq1 : goal.returns-then-n-eq1
-returns-then-n-eq1 c = rw (eq-eqb _ 1 c.if-n-eq1.true)
-
-pub returns-else-n-eq1 : goal.returns-else-n-eq1
-returns-else-n-eq1 c = rw (ne_eqb _ 1 c.if-n-eq1.false)
