@@ -1,5 +1,7 @@
 -- A row's held touches, read and written. Assumes nothing.
-use Rattle.std.proofs.Common.{◌≡◌, ℕ, suc, ◌+◌, ◌%◌, ◌^◌, ◌<◌, ◌≤◌, true, false, List, length, get_or, take, drop, set, sym, ap, ◌∙◌, mod-eq_of_lt, add-one, arith, length-set, drop_of_length-le, length-take-le, drop-cons, get_or-set_other, get_or-take, get_or-set_same, ext_get_or, eq-eqb, ne_eqb}
+use Rattle.std.proofs.Common.{◌≡◌, ℕ, ◌+◌, ◌%◌, ◌^◌, ◌<◌, ◌≤◌, Bool, ◌||◌, eqb, List, [], ◌∷◌, map, length, get_or, take, drop, set, sym, refl, ap, ◌∙◌, ap₂, mod-eq_of_lt, arith, length-set, length-take-le, length-drop, get_or-set_other, get_or-take, get_or-set_same, ext_get_or, eq-eqb, ne_eqb}
+use Rattle.std.specs.List.{list_any}
+use Rattle.std.proofs.lemmas.List.{get_or-drop, get_or-map, length-map}
 use Rattle.eiproto.specs.Bits.{common}
 use Rattle.touches.specs.declared.DownTouchIds.{DownTouchIds}
 use Rattle.touches.specs.Touches.{touches_limit, held, member}
@@ -7,24 +9,20 @@ use Rattle.touches.specs.Changes.{Holds}
 use Rattle.control.specs.Table.{tab}
 use Rattle.control.specs.Control.{device_place, device_count, device_word, held_at, interfaces_on, core_at, touches_at}
 use Rattle.control.specs.Sound.{Sound}
-use Rattle.control.proofs.Tables.{tab_at, tab-length}
+use Rattle.control.proofs.Tables.{case_eq, tab_at, tab-length}
 use Rattle.control.specs.Change.{Amended, with_touches}
 use Rattle.control.proofs.Views.{amended}
 use Rattle.control.proofs.Changes.{Wrote}
 
--- ---- a list gone through for a number: it is passed, found, or not there
+-- ---- whether a number is among the low halves of words
 
-pub member-passes : (x : ℕ) (l : List ℕ) (i : ℕ) → i < length l → (get_or l i 0 ≡ x → ⊥) → member x (drop i l) ≡ member x (drop (i + 1) l)
+member_low : (x : ℕ) (ws : List ℕ) → member x (map (λ w. w % 2 ^ 32) ws) ≡ list_any (λ w. eqb (w % 2 ^ 32) x) ws
 unfolding member
-member-passes x l i h n = rw (drop-cons l i 0, ne_eqb x (get_or l i 0) (λ e. n (sym e)), add-one i)
-
-pub member_is : (x : ℕ) (l : List ℕ) (i : ℕ) → i < length l → get_or l i 0 ≡ x → member x (drop i l) ≡ true
-unfolding member
-member_is x l i h e = rw (drop-cons l i 0, eq-eqb x (get_or l i 0) (sym e))
-
-pub member-ends : (x : ℕ) (l : List ℕ) (i : ℕ) → length l ≤ i → member x (drop i l) ≡ false
-unfolding member
-member-ends x l i h = rw (drop_of_length-le l h)
+member_low x [] = refl
+member_low x (w ∷ ws) =
+    let y : ℕ = w % 2 ^ 32 in
+    ap₂ (λ (s t : Bool). s || t) (case_eq x y (λ e. eq-eqb x y e ∙ sym (eq-eqb y x (sym e))) (λ n. ne_eqb x y n ∙ sym (ne_eqb y x (λ e. n (sym e)))))
+    (member_low x ws)
 
 -- ---- the words of a row
 
@@ -49,6 +47,22 @@ module _ (c : List ℕ) (ok : Sound c) (k : ℕ) (in_table : k < device_count c)
   touch_at j l =
       let f : ℕ → ℕ = λ i. device_word c k (6 + i) % 2 ^ 32 in
       get_or-take (held_at c k) (tab touches_limit f) j 0 l ∙ tab_at touches_limit f j 0 (omega (arith, ok.held k in_table))
+
+  pub down-member : (x : ℕ) → member x (touches_at c k) ≡ list_any (λ w. eqb (w % 2 ^ 32) x) (take (held_at c k) (drop (device_place k + 6) c))
+  down-member x =
+      let ws : List ℕ = take (held_at c k) (drop (device_place k + 6) c) in
+      let room : device_place k + 6 + held_at c k ≤ length c = omega (arith, ok.long, ok.devices, ok.held k in_table) in
+      let long : length ws ≡ held_at c k = length-take-le (held_at c k) (drop (device_place k + 6) c) (omega (arith, length-drop (device_place k + 6) c)) in
+      let words : touches_at c k ≡ map (λ w. w % 2 ^ 32) ws =
+      ext_get_or 0 (touches_at c k) (map (λ w. w % 2 ^ 32) ws) (touches-length ∙ sym (length-map ws (λ w. w % 2 ^ 32) ∙ long))
+      (λ i l.
+      let below : i < held_at c k = omega (arith, touches-length) in
+      let z : device_place k + 6 + i ≡ device_place k + (6 + i) = omega arith in
+      touch_at i below
+      ∙ sym (get_or-map (λ w. w % 2 ^ 32) ws i 0 0 (omega arith)
+      ∙ ap (λ (y : ℕ). y % 2 ^ 32) (get_or-take (held_at c k) (drop (device_place k + 6) c) i 0 below ∙ get_or-drop (device_place k + 6) c i 0 ∙ ap (λ (y : ℕ). get_or c y 0) z)))
+      in
+      ap (member x) words ∙ member_low x ws
 
   pub touches-read : (ids : List ℕ) → length ids ≡ touches_limit → ((i : ℕ) → i < held_at c k → get_or ids i 0 ≡ device_word c k (6 + i) % 2 ^ 32)
       → Holds (core_at c k).down_touch_ids (record { ids = ids; count = held_at c k })

@@ -1,6 +1,6 @@
 // The control words of a session, changed where they are. Each change says what it makes of the connection, the devices and the queue
 // (specs/Change), and that the words are sound again.
-ghost use Rattle.std.specs.Prelude.{◌≡◌, ◌+◌, ◌%◌, ◌^◌, ◌<◌, ◌≤◌, [], ◌∷◌, ◌++◌, length, slice_set};
+ghost use Rattle.std.specs.Prelude.{◌≡◌, ◌+◌, ◌-◌, ◌*◌, ◌%◌, ◌<◌, ◌≤◌, [], ◌∷◌, ◌++◌, length, slice_set};
 ghost use Rattle.std.proofs.Math.Option.{some};
 ghost use Rattle.control.specs.Control.{seats_limit, devices_limit, pending_limit, queue_limit, control_length, seat_count, device_count, core_at};
 ghost use Rattle.model.specs.Edit.{interfaces_without};
@@ -15,17 +15,11 @@ ghost use Rattle.control.specs.Change.{new_core, with_pending, with_touches, wit
 use crate::{CONTROL_LENGTH, layout};
 use touches::{DownTouchIds, EIS_MAX_TOUCHES};
 
-fn wide(x: u32) -> u64
-    ensures { (result ≡ x) × (result < 2 ^ 32) }
-{
-    x as u64
-}
-
 pub fn set_last_serial(control: &mut [u64], serial: u32)
     requires { Sound control.old }
     ensures { Reconnects control.old control.new (with_serial serial) }
 {
-    control[layout::LAST_SERIAL] = wide(serial);
+    control[layout::LAST_SERIAL] = u64::from(serial);
 }
 
 pub fn set_next_id(control: &mut [u64], id: u64)
@@ -88,16 +82,24 @@ pub fn append_device(control: &mut [u64], id: u64, seat: u64, capabilities: u64)
     control[layout::DEVICE_COUNT] = n + 1;
 }
 
-// n words from `from` on, moved down to `to`.
-pub fn shift(a: &mut [u64], to: usize, from: usize, n: usize)
+// n values from `from` on, moved down to `to`.
+pub fn shift<T: Copy>(a: &mut [T], to: usize, from: usize, n: usize)
     requires { (to ≤ from) × (from + n ≤ length a.old) }
-    ensures { Shifted (value_at 0 a.old) (value_at 0 a.new) to from n }
+    ensures { (d : T) → Shifted (value_at d a.old) (value_at d a.new) to from n }
 {
-    let mut i: usize = 0;
-    while i < n {
+    // A loop: `copy_within` takes six instructions more.
+    for i in 0..n {
         a[to + i] = a[from + i];
-        i += 1;
     }
+}
+
+// Row k of the n rows of a table that begins at AT taken out; those behind it move down.
+fn cut_row<const AT: usize, const WIDTH: usize>(control: &mut [u64], k: usize, n: usize)
+    requires { (k < n) × (AT + WIDTH * n ≤ length control.old) }
+    ensures { Shifted (value_at 0 control.old) (value_at 0 control.new) (AT + WIDTH * k) (AT + WIDTH * k + WIDTH) (WIDTH * (n - 1 - k)) }
+{
+    let at = AT + WIDTH * k;
+    shift(control, at, at + WIDTH, WIDTH * (n - 1 - k));
 }
 
 // The seat in slot k taken out; those behind it move down.
@@ -106,9 +108,7 @@ pub fn remove_seat_row(control: &mut [u64], k: usize)
     ensures { Reconnects control.old control.new (λ n. with_seats (cut_at k n.seats) n) }
 {
     let n = control[layout::SEAT_COUNT];
-    let m = (n as usize) - 1 - k;
-    let at = layout::SEATS + layout::SEAT_WORDS * k;
-    shift(control, at, at + layout::SEAT_WORDS, layout::SEAT_WORDS * m);
+    cut_row::<{ layout::SEATS }, { layout::SEAT_WORDS }>(control, k, n as usize);
     control[layout::SEAT_COUNT] = n - 1;
 }
 
@@ -118,14 +118,7 @@ pub fn remove_device_row(control: &mut [u64], k: usize)
     ensures { Removed control.old control.new k }
 {
     let n = control[layout::DEVICE_COUNT];
-    let m = (n as usize) - 1 - k;
-    let at = layout::DEVICES + layout::DEVICE_WORDS * k;
-    shift(
-        control,
-        at,
-        at + layout::DEVICE_WORDS,
-        layout::DEVICE_WORDS * m,
-    );
+    cut_row::<{ layout::DEVICES }, { layout::DEVICE_WORDS }>(control, k, n as usize);
     control[layout::DEVICE_COUNT] = n - 1;
 }
 
@@ -156,10 +149,8 @@ pub fn down_touch_ids(control: &[u64], k: usize) -> DownTouchIds
     let at = layout::DEVICES + layout::DEVICE_WORDS * k;
     let count = control[at + layout::HELD] as usize;
     let mut ids: [u32; EIS_MAX_TOUCHES] = [0; EIS_MAX_TOUCHES];
-    let mut j: usize = 0;
-    while j < count {
+    for j in 0..count {
         ids[j] = (control[at + (layout::TOUCHES + j)] % 4294967296) as u32;
-        j += 1;
     }
     DownTouchIds { ids, count }
 }
@@ -169,12 +160,9 @@ pub fn set_down_touch_ids(control: &mut [u64], k: usize, touches: DownTouchIds)
     ensures { Amends control.old control.new k (with_touches (held touches)) }
 {
     let at = layout::DEVICES + layout::DEVICE_WORDS * k;
-    let count = touches.count;
-    control[at + layout::HELD] = count as u64;
-    let mut j: usize = 0;
-    while j < count {
-        control[at + (layout::TOUCHES + j)] = wide(touches.ids[j]);
-        j += 1;
+    control[at + layout::HELD] = touches.count as u64;
+    for j in 0..touches.count {
+        control[at + (layout::TOUCHES + j)] = u64::from(touches.ids[j]);
     }
 }
 
@@ -183,7 +171,7 @@ pub fn set_version(control: &mut [u64], place: usize, version: u32)
     requires { Sound control.old × (place < 12) }
     ensures { Reconnects control.old control.new (λ n. with_versions (slice_set n.versions place (some version)) n) }
 {
-    control[layout::VERSIONS + place] = wide(version) + 1;
+    control[layout::VERSIONS + place] = u64::from(version) + 1;
 }
 
 // The words of a session as a Finish that succeeds leaves it, with no version negotiated yet.
@@ -191,12 +179,11 @@ pub fn new(control: &mut [u64], connection: u64, serial: u32, next: u64)
     requires { length control.old ≡ control_length }
     ensures { Fresh control.new connection serial next }
 {
-    let mut i: usize = 0;
-    while i < CONTROL_LENGTH {
+    // A loop: `fill` takes five instructions more.
+    for i in 0..CONTROL_LENGTH {
         control[i] = 0;
-        i += 1;
     }
     control[layout::CONNECTION_ID] = connection;
-    control[layout::LAST_SERIAL] = wide(serial);
+    control[layout::LAST_SERIAL] = u64::from(serial);
     control[layout::NEXT_ID] = next;
 }

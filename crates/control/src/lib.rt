@@ -1,6 +1,6 @@
 // The control words of a session, read where they are (specs/Control says what each means). Each function but `sound` asks that they
 // are sound, or only that there are `CONTROL_LENGTH`.
-#![tactic(auto)]
+#![tactic(auto, unfolding(crate::specs::Control::connection_of, crate::specs::Control::seat_at, crate::specs::Control::core_at, crate::specs::Control::interface_id, crate::specs::Sound::row_sound, model::specs::Decide::stated, model::specs::Decide::seat_version, model::specs::Decide::device_version))]
 
 pub mod edits;
 mod layout;
@@ -15,7 +15,7 @@ ghost use Rattle.control.specs.Table.{first};
 ghost use Rattle.control.specs.Control.{seats_limit, devices_limit, control_length, seat_count, device_count, queue_head, queue_length, capabilities_at, listed_at};
 ghost use Rattle.control.specs.Control.{connection_of, seat_at, interface_id, core_at, touches_at, cores_of};
 ghost use Rattle.control.specs.Sound.{row_sound, rows_sound, is_sound, Sound};
-ghost use Rattle.control.specs.Answer.{slot_told, version_told};
+ghost use Rattle.eiproto.specs.Told.{told};
 
 use eiproto::eiproto_eis;
 use eiproto::event::DeviceCapability;
@@ -31,20 +31,6 @@ pub const PENDING_LIMIT: usize = 64;
 pub const QUEUE_LIMIT: usize = 256;
 
 pub const CONTROL_LENGTH: usize = layout::DEVICES + layout::DEVICE_WORDS * DEVICES_LIMIT;
-
-// A place in a table.
-#[derive(Clone, Copy)]
-pub enum Slot {
-    At(usize),
-    Unknown,
-}
-
-// The version of an interface, where it was negotiated.
-#[derive(Clone, Copy)]
-pub enum Negotiated {
-    Version(u32),
-    Nothing,
-}
 
 // Whether the pending requests and the held touches of a row are within their limits.
 fn row_sound(control: &[u64], k: usize) -> bool
@@ -64,12 +50,10 @@ fn rows_low(control: &[u64], n: usize) -> bool
 {
     let mut pending: u64 = 0;
     let mut held: u64 = 0;
-    let mut k: usize = 0;
-    while k < n {
+    for k in 0..n {
         let at = layout::DEVICES + layout::DEVICE_WORDS * k;
-        pending = pending | control[at + layout::PENDING];
-        held = held | control[at + layout::HELD];
-        k += 1;
+        pending |= control[at + layout::PENDING];
+        held |= control[at + layout::HELD];
     }
     pending < PENDING_LIMIT as u64 && held < EIS_MAX_TOUCHES as u64
 }
@@ -79,40 +63,29 @@ fn rows_sound(control: &[u64], n: usize) -> bool
     requires { (length control.now ≡ control_length) × (n ≤ devices_limit) }
     ensures { result ≡ rows_sound control.now n }
 {
-    let mut k: usize = 0;
-    while k < n {
+    if rows_low(control, n) {
+        return true;
+    }
+    // A loop: `all` takes one instruction more for each row.
+    for k in 0..n {
         if !row_sound(control, k) {
             return false;
         }
-        k += 1;
     }
     true
 }
 
 // Whether these are the words of a session: refusal 21's test. Its time does not grow with what is queued.
+#[tactic(auto, unfolding(crate::specs::Sound::is_sound))]
 pub fn sound(control: &[u64]) -> bool
     ensures { result ≡ is_sound control.now }
 {
-    if control.len() != CONTROL_LENGTH {
-        return false;
-    }
-    if SEATS_LIMIT < seat_count(control) {
-        return false;
-    }
-    let n = device_count(control);
-    if DEVICES_LIMIT < n {
-        return false;
-    }
-    if QUEUE_LIMIT <= queue_head(control) {
-        return false;
-    }
-    if QUEUE_LIMIT < queue_length(control) {
-        return false;
-    }
-    if rows_low(control, n) {
-        return true;
-    }
-    rows_sound(control, n)
+    control.len() == CONTROL_LENGTH
+        && seat_count(control) <= SEATS_LIMIT
+        && device_count(control) <= DEVICES_LIMIT
+        && queue_head(control) < QUEUE_LIMIT
+        && queue_length(control) <= QUEUE_LIMIT
+        && rows_sound(control, device_count(control))
 }
 
 // ---- the connection
@@ -155,39 +128,31 @@ pub fn connection_gone(control: &[u64]) -> bool
 }
 
 // The version at a place among the twelve.
-fn version_at(control: &[u64], place: usize) -> Negotiated
+fn version_at(control: &[u64], place: usize) -> Option<u32>
     requires { (length control.now ≡ control_length) × (place < 12) }
-    ensures { version_told result ≡ slice_index_or (connection_of control.now).versions place none }
+    ensures { told result ≡ slice_index_or (connection_of control.now).versions place none }
 {
-    let word = control[layout::VERSIONS + place];
-    if word == 0 {
-        return Negotiated::Nothing;
-    }
-    Negotiated::Version(((word - 1) % 4294967296) as u32)
+    let above = control[layout::VERSIONS + place].checked_sub(1)?;
+    Some((above % 4294967296) as u32)
 }
 
 // The version of the interface of a number from 1 on: `negotiated_interfaces.get(name)`.
-pub fn version(control: &[u64], interface: u8) -> Negotiated
+pub fn version(control: &[u64], interface: u8) -> Option<u32>
     requires { length control.now ≡ control_length }
-    ensures { version_told result ≡ version (connection_of control.now) interface }
+    ensures { told result ≡ version (connection_of control.now) interface }
 {
-    if interface == 0 {
-        return version_at(control, 0);
+    let place = usize::from(interface.saturating_sub(1));
+    if 12 <= place {
+        return None;
     }
-    if 12 < interface {
-        return Negotiated::Nothing;
-    }
-    version_at(control, (interface as usize) - 1)
+    version_at(control, place)
 }
 
 // "Seats and devices without a negotiated version state 1 themselves."
-fn stated(negotiated: Negotiated) -> u32
-    ensures { result ≡ stated (version_told negotiated) }
+fn stated(negotiated: Option<u32>) -> u32
+    ensures { result ≡ stated (told negotiated) }
 {
-    match negotiated {
-        Negotiated::Version(v) => v,
-        Negotiated::Nothing => 1,
-    }
+    negotiated.unwrap_or(1)
 }
 
 pub fn seat_version(control: &[u64]) -> u32
@@ -209,10 +174,7 @@ fn is_negotiated(control: &[u64], bit: u32) -> bool
     requires { length control.now ≡ control_length }
     ensures { result ≡ is_some (version (connection_of control.now) (interface_of_bit bit)) }
 {
-    match version(control, DeviceCapability::interface_of_bit(bit)) {
-        Negotiated::Version(_) => true,
-        Negotiated::Nothing => false,
-    }
+    version(control, DeviceCapability::interface_of_bit(bit)).is_some()
 }
 
 // The mask of the capabilities whose interface was negotiated.
@@ -221,12 +183,9 @@ pub fn negotiated_capabilities(control: &[u64]) -> u64
     ensures { result ≡ negotiated_capabilities (connection_of control.now) }
 {
     let mut mask: u64 = 0;
-    let mut bit: u32 = 7;
-    while 0 < bit {
-        bit -= 1;
-        mask = mask * 2;
+    for bit in 0..7 {
         if is_negotiated(control, bit) {
-            mask += 1;
+            mask += 1 << bit;
         }
     }
     mask
@@ -272,19 +231,17 @@ pub fn seat_capabilities(control: &[u64], k: usize) -> u64
 }
 
 // The slot of the first seat with the id.
-pub fn find_seat(control: &[u64], id: u64) -> Slot
+pub fn find_seat(control: &[u64], id: u64) -> Option<usize>
     requires { Sound control.now }
-    ensures { slot_told result ≡ first (λ s. nat_eq s.id id) (connection_of control.now).seats }
+    ensures { told result ≡ first (λ s. nat_eq s.id id) (connection_of control.now).seats }
 {
-    let seats = seat_count(control);
-    let mut slot: usize = 0;
-    while slot < seats {
-        if seat_id(control, slot) == id {
-            return Slot::At(slot);
+    // A loop: with `find`, `objects::find_object` takes more instructions.
+    for k in 0..seat_count(control) {
+        if seat_id(control, k) == id {
+            return Some(k);
         }
-        slot += 1;
     }
-    Slot::Unknown
+    None
 }
 
 // ---- devices
@@ -340,18 +297,14 @@ pub fn pending_count(control: &[u64], k: usize) -> usize
 pub fn interface_id(device: u64, capabilities: u64, bit: u32) -> u64
     ensures { result ≡ interface_id device capabilities bit }
 {
-    let below = DeviceCapability::count_below(capabilities, bit);
-    std::num::wrapping_add_u64(device, 1 + (below as u64))
+    device.wrapping_add(1 + u64::from(DeviceCapability::count_below(capabilities, bit)))
 }
 
 // Whether a mask has a bit.
 pub fn has_bit(mask: u64, place: u32) -> bool
     ensures { result ≡ bit place mask }
 {
-    if 63 < place {
-        return false;
-    }
-    mask / (1 << place) % 2 == 1
+    place < 64 && (mask >> place) % 2 == 1
 }
 
 pub fn has_capability(control: &[u64], k: usize, bit: u32) -> bool
@@ -366,42 +319,30 @@ pub fn lists_interface(control: &[u64], k: usize, bit: u32, id: u64) -> bool
     requires { (length control.now ≡ control_length) × (k < devices_limit) }
     ensures { result ≡ lists_as bit id (core_at control.now k).interfaces }
 {
-    if !has_bit(device_listed(control, k), bit) {
-        return false;
-    }
-    interface_id(device_id(control, k), device_capabilities(control, k), bit) == id
+    has_capability(control, k, bit)
+        && interface_id(device_id(control, k), device_capabilities(control, k), bit) == id
 }
 
 // The slot of the first device with the id.
-pub fn find_device(control: &[u64], id: u64) -> Slot
+pub fn find_device(control: &[u64], id: u64) -> Option<usize>
     requires { Sound control.now }
-    ensures { slot_told result ≡ first (λ d. nat_eq d.id id) (cores_of control.now) }
+    ensures { told result ≡ first (λ d. nat_eq d.id id) (cores_of control.now) }
 {
-    let n = device_count(control);
-    let mut slot: usize = 0;
-    while slot < n {
-        if device_id(control, slot) == id {
-            return Slot::At(slot);
+    // A loop: with `find`, `objects::find_object` takes more instructions.
+    for k in 0..device_count(control) {
+        if device_id(control, k) == id {
+            return Some(k);
         }
-        slot += 1;
     }
-    Slot::Unknown
+    None
 }
 
 // The slot of the first device that lists an interface with the id for the capability of the bit: `device_for_interface`.
-pub fn find_interface(control: &[u64], bit: u32, id: u64) -> Slot
+pub fn find_interface(control: &[u64], bit: u32, id: u64) -> Option<usize>
     requires { Sound control.now }
-    ensures { slot_told result ≡ first (λ d. lists_as bit id d.interfaces) (cores_of control.now) }
+    ensures { told result ≡ first (λ d. lists_as bit id d.interfaces) (cores_of control.now) }
 {
-    let n = device_count(control);
-    let mut slot: usize = 0;
-    while slot < n {
-        if lists_interface(control, slot, bit, id) {
-            return Slot::At(slot);
-        }
-        slot += 1;
-    }
-    Slot::Unknown
+    (0..device_count(control)).find(|&k| lists_interface(control, k, bit, id))
 }
 
 // How many touches are down on the device in slot k.
@@ -417,14 +358,7 @@ pub fn is_down(control: &[u64], k: usize, touch: u32) -> bool
     requires { Sound control.now × (k < device_count control.now) }
     ensures { result ≡ member touch (touches_at control.now k) }
 {
-    let at = layout::DEVICES + layout::DEVICE_WORDS * k;
-    let count = control[at + layout::HELD] as usize;
-    let mut j: usize = 0;
-    while j < count {
-        if (control[at + (layout::TOUCHES + j)] % 4294967296) as u32 == touch {
-            return true;
-        }
-        j += 1;
-    }
-    false
+    let at = layout::DEVICES + layout::DEVICE_WORDS * k + layout::TOUCHES;
+    let down = &control[at..at + touch_count(control, k)];
+    down.iter().any(|&word| (word % 4294967296) as u32 == touch)
 }

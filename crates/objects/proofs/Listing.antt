@@ -58,14 +58,18 @@ below_place : (m b : ℕ) → bits_below m b ≤ b
 unfolding bits_below bits_of
 below_place m b = few_from 64 0 (m % 2 ^ b) b (mod-lt m (omega (arith, pow_mono {i = 0} {j = b} (omega arith))))
 
+-- as a number that is 0 or more than 7 is told
+abbrev pub Far : ℕ → Type 0
+Far near = (near ≡ 0) ⊎ ((near ≡ 0 → ⊥) × (7 < near))
+
 -- `near` is the id less the device's, in 64 bits
 module _ (device caps id near : ℕ) (narrow : near < 2 ^ 64) (apart : (near + device) % 2 ^ 64 ≡ id) where
-  other-id : (near ≡ 0) ⊎ (7 < near) → (b : ℕ) → b < 7 → interface_id device caps b ≡ id → ⊥
+  other-id : Far near → (b : ℕ) → b < 7 → interface_id device caps b ≡ id → ⊥
   unfolding interface_id
   other-id (inl z) b l e = omega (arith, below_place caps b)
-  other-id (inr z) b l e = omega (arith, below_place caps b)
+  other-id (inr z) b l e = omega (arith, z.1, below_place caps b)
 
-  far_among : (near ≡ 0) ⊎ (7 < near) → (bs : List ℕ) → every (λ b. ltb b 7) bs ≡ true → listed_as id (map (interface_on device caps) bs) ≡ none
+  far_among : Far near → (bs : List ℕ) → every (λ b. ltb b 7) bs ≡ true → listed_as id (map (interface_on device caps) bs) ≡ none
   unfolding listed_as every interface_on
   far_among f [] e = refl
   far_among f (b ∷ bs) e = go (ltb b 7) refl e (λ r. far_among f bs r)
@@ -77,7 +81,7 @@ module _ (device caps id near : ℕ) (narrow : near < 2 ^ 64) (apart : (near + d
       go false q e h = absurd (false≢true e)
 
   -- it lists none with the id
-  pub far_none : (listed : ℕ) → listed < 128 → (near ≡ 0) ⊎ (7 < near) → listed_as id (interfaces_on device caps listed) ≡ none
+  pub far_none : (listed : ℕ) → listed < 128 → Far near → listed_as id (interfaces_on device caps listed) ≡ none
   unfolding interfaces_on
   far_none listed h f = far_among f (bits_of listed) (bits_small 7 listed h)
 

@@ -9,12 +9,12 @@ use native.Mathlib.Omega.{arith}
 use borrow.Author.Tests.{lt-leb}
 use lib.Dec.{eqb}
 use lib.ListN.{length}
+use Rattle.std.specs.Prelude.{Result}
 use Rattle.eiproto.specs.Bits.{bits_of}
 use Rattle.requests.specs.Row.{Row, row_at}
 use Rattle.touches.specs.declared.DownTouchIds.{DownTouchIds}
-use Rattle.touches.specs.declared.DownAnswer.{DownAnswer}
 use Rattle.touches.specs.Touches.{touches_limit, held, member, without, down_refusal}
-use Rattle.touches.specs.Changes.{Holds, Inserts, Removes}
+use Rattle.touches.specs.Changes.{Holds, Removes}
 use Rattle.model.specs.Call.{Load}
 use Rattle.model.specs.Session.{Item, Interface, Seat, Device, Connection, Session}
 use Rattle.model.specs.Edit.{Amend, Edit, raised, interfaces_without, seats_without, connection_with, new_device, new_interfaces, device_with, amended, at, with_connection, with_devices, enact, enact_all}
@@ -193,12 +193,12 @@ module _ {c e : List ℕ} where
 
 -- ---- the touches themselves
 
-pub inserts : {ids : List ℕ} {d f : DownTouchIds} {answer : DownAnswer} {t : ℕ} → Holds ids d → Inserts t d f answer → length ids < touches_limit → member t ids ≡ false
+pub inserts : {ids : List ℕ} {d f : DownTouchIds} (t : ℕ) → Holds ids d → (down_refusal t (held d) ≡ 0 → Holds (held d ++ (t ∷ [])) f) → length ids < touches_limit → member t ids ≡ false
     → Holds (ids ++ (t ∷ [])) f
 unfolding down_refusal
-inserts {ids} {d} {f} {answer} {t} h i few new =
+inserts {ids} {d} {f} t h i few new =
     let z : down_refusal t ids ≡ 0 = rw (lt-leb touches_limit (length ids) few, new) in
-    subst (λ (xs : List ℕ). Holds (xs ++ (t ∷ [])) f) h.ids_are (i.inserted (ap (down_refusal t) h.ids_are ∙ z))
+    subst (λ (xs : List ℕ). Holds (xs ++ (t ∷ [])) f) h.ids_are (i (ap (down_refusal t) h.ids_are ∙ z))
 
 without-unheld : (t : ℕ) (ids : List ℕ) → member t ids ≡ false → without t ids ≡ ids
 unfolding member without

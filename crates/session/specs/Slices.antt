@@ -1,6 +1,7 @@
 -- The slices of a session as a function is lent them. In an `ensures` a parameter has its value at entry and at exit, in a `requires` at entry alone.
 -- Assumes nothing.
 use Rattle.std.specs.Prelude.{ℕ, Bool, true, false, List, Float}
+use Rattle.std.specs.Prelude as rust
 use Rattle.std.proofs.Math.Option.{Option, none, some}
 use Rattle.std.specs.Borrow.{Bor, MutBor}
 use denote.Triple.Both.{Both}
@@ -41,3 +42,8 @@ optional false text = none
 
 abbrev pub text : (given : Bool) → SharedNumbers → Option (List ℕ)
 text given t = optional given t.entry.now
+
+-- the same, lent as an option
+abbrev pub given : rust.Option (Bor (List ℕ)) → Option (List ℕ)
+given rust.None = none
+given (rust.Some t) = some t.now

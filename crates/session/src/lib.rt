@@ -1,5 +1,5 @@
 // The edits of a session that change its control words alone, in place. What the four lent slices of a session mean is in specs/View.
-#![tactic(auto)]
+#![tactic(auto, unfolding(crate::specs::View::is_lent, crate::specs::View::is_whole))]
 
 ghost use Rattle.std.specs.Prelude.{◌≡◌, false, [], ◌∷◌, ℕ, ◌+◌, ◌≤◌, ◌<◌, length};
 ghost use Rattle.eiproto.specs.Bits.{bits_of};
@@ -11,7 +11,7 @@ ghost use Rattle.session.specs.View.{last_id, is_lent, is_whole};
 ghost use Rattle.session.specs.View.{store};
 ghost use Rattle.session.specs.Enact.{EnactsControl};
 
-use control::{DEVICES_LIMIT, PENDING_LIMIT, QUEUE_LIMIT, Slot};
+use control::{DEVICES_LIMIT, PENDING_LIMIT, QUEUE_LIMIT};
 use eiproto::event::DeviceCapability;
 use requests::row::{ROW_REALS, ROW_WORDS, TEXTS_LIMIT};
 
@@ -33,23 +33,14 @@ pub const TEXTS_LENGTH: usize = SLOT_LENGTH * TEXTS_LIMIT;
 pub fn lent(control: &[u64], words: &[u64], reals: &[f32]) -> bool
     ensures { result ≡ is_lent control.now words.now reals.now }
 {
-    if !control::sound(control) {
-        return false;
-    }
-    if words.len() != WORDS_LENGTH {
-        return false;
-    }
-    reals.len() == REALS_LENGTH
+    control::sound(control) && words.len() == WORDS_LENGTH && reals.len() == REALS_LENGTH
 }
 
 // The same, of a call that is lent all four slices.
 pub fn whole(control: &[u64], words: &[u64], reals: &[f32], texts: &[u8]) -> bool
     ensures { result ≡ is_whole (store control.now words.now reals.now texts.now) }
 {
-    if !lent(control, words, reals) {
-        return false;
-    }
-    texts.len() == TEXTS_LENGTH
+    lent(control, words, reals) && texts.len() == TEXTS_LENGTH
 }
 
 // The last serial, after events that took the serials up to this one.
@@ -92,9 +83,8 @@ pub fn remove_seat(control: &mut [u64], id: u64)
     requires { Sound control.old }
     ensures { EnactsControl control (Edit.remove_seat id ∷ []) }
 {
-    match control::find_seat(control, id) {
-        Slot::At(k) => control::edits::remove_seat_row(control, k),
-        Slot::Unknown => {}
+    if let Some(k) = control::find_seat(control, id) {
+        control::edits::remove_seat_row(control, k);
     }
 }
 
@@ -104,7 +94,7 @@ pub fn add_device(control: &mut [u64], seat: u64, capabilities: u64)
     ensures { EnactsControl control (Edit.add_device seat capabilities ∷ []) }
 {
     let id = control::next_id(control);
-    let interfaces = DeviceCapability::count(capabilities) as u64;
+    let interfaces = u64::from(DeviceCapability::count(capabilities));
     control::edits::append_device(control, id, seat, capabilities);
     control::edits::set_next_id(control, id + 1 + interfaces);
 }
@@ -114,9 +104,10 @@ pub fn touch_down(control: &mut [u64], k: usize, touch: u32)
     requires { Sound control.old × ((k < device_count control.old) × ((length (touches_at control.old k) < touches_limit) × (member touch (touches_at control.old k) ≡ false))) }
     ensures { EnactsControl control (Edit.amend k (Amend.touch_down touch) ∷ []) }
 {
-    let held = control::edits::down_touch_ids(control, k);
-    let insertion = touches::kept::insert(held, touch);
-    control::edits::set_down_touch_ids(control, k, insertion.touches);
+    let mut held = control::edits::down_touch_ids(control, k);
+    // There is room for it, and it is not held: this is no refusal.
+    let _ = held.insert(touch);
+    control::edits::set_down_touch_ids(control, k, held);
 }
 
 // A touch that is no longer down.
@@ -124,17 +115,18 @@ pub fn touch_up(control: &mut [u64], k: usize, touch: u32)
     requires { Sound control.old × (k < device_count control.old) }
     ensures { EnactsControl control (Edit.amend k (Amend.touch_up touch) ∷ []) }
 {
-    let held = control::edits::down_touch_ids(control, k);
-    let removal = touches::kept::remove(held, touch);
-    control::edits::set_down_touch_ids(control, k, removal.touches);
+    let mut held = control::edits::down_touch_ids(control, k);
+    held.remove(touch);
+    control::edits::set_down_touch_ids(control, k, held);
 }
 
 pub fn clear_touches(control: &mut [u64], k: usize)
     requires { Sound control.old × (k < device_count control.old) }
     ensures { EnactsControl control (Edit.amend k Amend.clear_touches ∷ []) }
 {
-    let held = control::edits::down_touch_ids(control, k);
-    control::edits::set_down_touch_ids(control, k, touches::kept::clear(held));
+    let mut held = control::edits::down_touch_ids(control, k);
+    held.clear();
+    control::edits::set_down_touch_ids(control, k, held);
 }
 
 // The interface of a capability's bit, which the device in slot k no longer lists.

@@ -1,13 +1,7 @@
--- The loop passes seats with other ids. Assumes nothing.
-use Rattle.std.proofs.Common.{◌≡◌, ℕ, ◌-◌, ◌<◌, ◌≤◌, false, eqb, List, sym, ◌∙◌, arith, rules, below_more, eq-eqb, ne_eqb}
-use Rattle.control.specs.Control.{seat_count, seat_at, connection_of}
-use Rattle.control.proofs.Tables.{tab-first, tab-first-none}
+-- The loop passes slots with other ids. Assumes nothing.
+use Rattle.std.proofs.Common.{◌≡◌, ℕ, ◌<◌, false, eqb}
+use Rattle.control.specs.Control.{seat_at}
 use Rattle.control.proofs.find_seat.Given as goal
 
-abbrev pub invariant-loop-slot : goal.invariant-loop-slot
-invariant-loop-slot l =
-    (l.slot ≤ l.seats) × ((j : ℕ) → j < l.slot → eqb (seat_at l.control j).id l.id ≡ false)
-
-abbrev pub decreases-loop-slot : goal.decreases-loop-slot
-decreases-loop-slot l =
-    l.seats - l.slot
+abbrev pub invariant-loop-k : goal.invariant-loop-k
+invariant-loop-k l = (j : ℕ) → j < l.k → eqb (seat_at l.control j).id l.id ≡ false

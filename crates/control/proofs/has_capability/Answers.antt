@@ -1,5 +1,5 @@
 -- An interface is listed for each bit of the mask. Assumes nothing.
-use Rattle.std.proofs.Common.{sym, ap, ◌∙◌, rules}
+use Rattle.std.proofs.Common.{sym, ap, ◌∙◌}
 use Rattle.eiproto.specs.Bits.{bit}
 use Rattle.control.proofs.Interfaces.{core-lists}
 use Rattle.control.proofs.has_capability.Goals as goal

@@ -1,41 +1,17 @@
--- The loop passes other touches. Assumes nothing.
-use Rattle.std.proofs.Common.{◌≡◌, ℕ, ◌-◌, ◌≤◌, List, length, drop, sym, refl, ◌∙◌, arith, rules}
-use Rattle.touches.specs.Touches.{member, touches_limit}
-use Rattle.control.specs.Control.{touches_at, held_at}
-use Rattle.control.proofs.Touches.{touches-length, touch_at, member-passes, member_is, member-ends}
+-- `any` over the words of the ids that are down. Assumes nothing.
+use Rattle.std.proofs.Common.{◌≡◌, ℕ, ◌+◌, ◌-◌, ◌%◌, ◌^◌, eqb, List, take, drop, sym, ap, ◌∙◌, arith, rules, tests}
+use Rattle.std.proofs.lemmas.Iterator.{YieldsList-from_slice}
+use Rattle.std.proofs.lemmas.Iterator.Search.{any_from_yields_List}
+use Rattle.control.specs.Control.{device_place, held_at}
+use Rattle.control.proofs.Touches.{touches-length, down-member}
 use Rattle.control.proofs.is_down.Goals as goal
-
-pub loop-j-init : goal.loop-j-init
-loop-j-init c =
-    (omega arith, (c.requires.0.held c.args.k c.requires.1, refl))
-
-pub returns-then-control-at : goal.returns-then-control-at
-returns-then-control-at c =
-    let a = c.args in
-    let at = c.loop-j in
-    let w : List ℕ = a.control.now in
-    let n : length (touches_at w a.k) ≡ held_at w a.k = touches-length w c.requires.0 a.k c.requires.1 in
-    sym (member_is a.touch (touches_at w a.k) at.j (omega arith) (touch_at w c.requires.0 a.k c.requires.1 at.j (omega arith) ∙ c.if-control-at.true))
-    ∙ at.invariant.1.1
-
-pub loop-j-preserved : goal.loop-j-preserved
-loop-j-preserved c =
-    let a = c.args in
-    let at = c.loop-j in
-    let w : List ℕ = a.control.now in
-    let n : length (touches_at w a.k) ≡ held_at w a.k = touches-length w c.requires.0 a.k c.requires.1 in (
-      omega arith,
-      (
-        at.invariant.1.0,
-        sym (member-passes a.touch (touches_at w a.k) at.j (omega arith) (λ e. c.if-control-at.false (sym (touch_at w c.requires.0 a.k c.requires.1 at.j (omega arith)) ∙ e)))
-            ∙ at.invariant.1.1,
-      ),
-    )
 
 pub returns : goal.returns
 returns c =
     let a = c.args in
-    let at = c.loop-j in
     let w : List ℕ = a.control.now in
-    let n : length (touches_at w a.k) ≡ held_at w a.k = touches-length w c.requires.0 a.k c.requires.1 in
-    sym (member-ends a.touch (touches_at w a.k) at.j (omega arith)) ∙ at.invariant.1.1
+    let at : ℕ = device_place a.k + 6 in
+    let n : at + c.touch_count.result - at ≡ held_at w a.k = omega (arith, c.touch_count.ensures, touches-length w c.requires.0 a.k c.requires.1) in
+    any_from_yields_List (λ x. eqb (x % 2 ^ 32) a.touch) _ _ c.any.result c.any.ensures.ran
+    (YieldsList-from_slice (take (held_at w a.k) (drop at w)) (c.iter.ensures.rest ∙ ap (λ (m : ℕ). take m (drop at w)) n)) (λ x b q k. search (rules, tests))
+    ∙ sym (down-member w c.requires.0 a.k c.requires.1 a.touch)

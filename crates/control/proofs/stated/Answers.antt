@@ -1,13 +1,7 @@
--- The answer is the option. Assumes nothing.
-use Rattle.std.proofs.Common.{sym, ap, rules}
-use Rattle.model.specs.Decide.{stated}
-use Rattle.control.specs.Answer.{version_told}
+-- The definitions' option has the same cases. Assumes nothing.
+use Rattle.std.proofs.Common.{◌∙◌}
+use Rattle.control.proofs.Versions.{stated_told}
 use Rattle.control.proofs.stated.Goals as goal
 
-pub returns-in-Version : goal.returns-in-Version
-unfolding stated
-returns-in-Version c = ap (λ n. stated (version_told n)) (sym c.in-Version.is)
-
-pub returns-in-Nothing : goal.returns-in-Nothing
-unfolding stated
-returns-in-Nothing c = ap (λ n. stated (version_told n)) (sym c.in-Nothing.is)
+pub returns : goal.returns
+returns c = c.unwrap_or.ensures ∙ stated_told c.args.negotiated

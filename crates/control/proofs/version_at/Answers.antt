@@ -1,27 +1,18 @@
 -- 0 is none, else one more than the version. Assumes nothing.
-use Rattle.std.proofs.Common.{sym, rules}
+use Rattle.std.proofs.Common.{ℕ, ◌+◌, ◌%◌, ◌^◌, ◌≤◌, get_or, sym, ap, ◌∙◌, arith}
+use mathlib.Core.Option.{some}
+use Rattle.eiproto.specs.Told.{told}
 use Rattle.control.proofs.Versions.{at_none, at_some}
 use Rattle.control.proofs.version_at.Goals as goal
 
-pub overflow_add-word : goal.overflow_add-word
-overflow_add-word c = search rules
-
-pub offset_bounds-control-place : goal.offset_bounds-control-place
-offset_bounds-control-place c = search rules
-
-pub bounds-control-place : goal.bounds-control-place
-bounds-control-place c = search rules
-
-pub returns-then-word-eq0 : goal.returns-then-word-eq0
-returns-then-word-eq0 c =
-    let a = c.args in sym (at_none a.control.now a.place (search rules) c.if-word-eq0.true)
-
-pub overflow_sub-result : goal.overflow_sub-result
-overflow_sub-result c = search rules
-
-pub overflow_cast-result : goal.overflow_cast-result
-overflow_cast-result c = search rules
+pub returns-in_err-above : goal.returns-in_err-above
+returns-in_err-above c =
+    let a = c.args in
+    let zero : 1 ≤ get_or a.control.now (8 + a.place) 0 → ⊥ = c.in_err-above.ensures {u = tt} in
+    ap told c.from_residual.ensures ∙ sym (at_none a.control.now a.place c.requires.1 (omega arith))
 
 pub returns : goal.returns
 returns c =
-    let a = c.args in sym (at_some a.control.now a.place (search rules) c.if-word-eq0.false)
+    let a = c.args in
+    let stated_in = c.in_ok-above.ensures {u = tt} in
+    ap (λ (x : ℕ). some (x % 2 ^ 32)) stated_in.1 ∙ sym (at_some a.control.now a.place c.requires.1 (λ z. omega arith))

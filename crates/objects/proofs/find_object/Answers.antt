@@ -1,21 +1,20 @@
 -- What the finds say decides, one after another. Assumes nothing.
-use Rattle.std.proofs.Common.{◌≡◌, ℕ, eqb, sym, ap, ◌∙◌, ⊎_elim, rules}
+use Rattle.std.proofs.Common.{◌≡◌, ℕ, sym, ap, ◌∙◌}
 use mathlib.Core.Option.{none, some}
-use borrow.Author.Tests.{not-true, not-false}
+use borrow.Author.Tests.{not-true}
+use Rattle.std.proofs.lemmas.Bool.{not_from_false}
 use Rattle.eiproto.specs.Interface.{ei_seat, ei_device}
+use Rattle.eiproto.specs.Told.{told}
 use Rattle.model.specs.Session.{view}
 use Rattle.model.specs.Decide.{version}
-use Rattle.model.specs.Live.{object_of}
-use Rattle.control.specs.Table.{first}
-use Rattle.control.specs.Answer.{slot_told}
+use Rattle.model.specs.Live.{listed_in, object_of, interface_object}
 use Rattle.control.specs.Control.{connection_of}
 use Rattle.session.specs.View.{store, session}
-use Rattle.session.proofs.Views.{view-connection, found-seat, no_seat, found-device, no_device}
-use Rattle.objects.specs.Answer.{listed_told}
-use Rattle.objects.proofs.Lives.{Passed, gone-passed, other-passed, live-connection, live-seat, live-device, live-interface, live-nothing}
-use Rattle.std.proofs.lemmas.Bool.{not_from_false, not_from_true}
+use Rattle.session.proofs.Views.{view-connection}
+use Rattle.objects.specs.Answer.{object_told}
+use Rattle.objects.proofs.Lives.{Passed, gone-passed, other-passed, live-connection, live-seat, live-device, live-listed, seat_seen, device_seen}
 use Rattle.objects.proofs.find_object.Goals as goal
-use Rattle.objects.proofs.find_object.Goals.{then-connection_id-id+else-not-connection_gone, else-connection_id-id}
+use Rattle.objects.proofs.find_object.Goals.{else-connection_id-id-via-then-connection_id-id+else-not-connection_gone, else-connection_id-id-via-else-connection_id-id}
 
 -- the connection
 pub returns-then-not-connection_gone : goal.returns-then-not-connection_gone
@@ -26,63 +25,63 @@ returns-then-not-connection_gone c w q t =
     (sym c.connection_id.ensures ∙ c.if-connection_id-id.true) (sym c.connection_gone.ensures ∙ not-true _ (not_from_false _ c.if-not-connection_gone.true)))
 
 -- a seat
-pub returns-in-At : goal.returns-in-At
-returns-in-At c w q t =
-    let passed_at : Passed (connection_of c.args.control.now) c.args.id =
-    elim c.if-connection_id-id.branch [
-      | then-connection_id-id+else-not-connection_gone w ↦ gone-passed (connection_of c.args.control.now) c.args.id (sym w.connection_gone.ensures ∙ w.if-not-connection_gone.false)
-      | else-connection_id-id w ↦ other-passed (connection_of c.args.control.now) c.args.id (λ e. w.if-connection_id-id.false (c.connection_id.ensures ∙ e))
-    ] in
+pub returns-then-is_some : goal.returns-then-is_some
+returns-then-is_some c w q t =
     let a = c.args in
-    let s = store a.control.now w q t in
-    ap (λ (v : ℕ). some (record { interface = ei_seat; version = v })) c.seat_version.ensures
-    ∙ sym (live-seat (view (session s)) a.id (connection_of a.control.now) (view-connection s) (passed_at)
-    (found-seat s a.id (sym c.find_seat.ensures ∙ ap slot_told c.in-At.is)))
-
--- a device
-pub returns-in-At-find_device : goal.returns-in-At-find_device
-returns-in-At-find_device c w q t =
-    let passed_at : Passed (connection_of c.args.control.now) c.args.id =
-    elim c.if-connection_id-id.branch [
-      | then-connection_id-id+else-not-connection_gone w ↦ gone-passed (connection_of c.args.control.now) c.args.id (sym w.connection_gone.ensures ∙ w.if-not-connection_gone.false)
-      | else-connection_id-id w ↦ other-passed (connection_of c.args.control.now) c.args.id (λ e. w.if-connection_id-id.false (c.connection_id.ensures ∙ e))
+    let passed : Passed (connection_of a.control.now) a.id = elim c.else-connection_id-id.branch [
+      | else-connection_id-id-via-then-connection_id-id+else-not-connection_gone x ↦ gone-passed (connection_of a.control.now) a.id (sym x.connection_gone.ensures ∙ x.if-not-connection_gone.false)
+      | else-connection_id-id-via-else-connection_id-id x ↦ other-passed (connection_of a.control.now) a.id (λ e. x.if-connection_id-id.false (c.connection_id.ensures ∙ e))
     ] in
-    let unseated_at : let a = c.args in first (λ t. eqb t.id a.id) (connection_of a.control.now).seats ≡ none = sym c.find_seat.ensures ∙ ap slot_told c.in-Unknown.is in
-    let a = c.args in
-    let s = store a.control.now w q t in
-    ap (λ (v : ℕ). some (record { interface = ei_device; version = v })) c.device_version.ensures
-    ∙ sym (live-device (view (session s)) a.id (connection_of a.control.now) (view-connection s) (passed_at)
-    (no_seat s a.id (unseated_at))
-    (found-device s a.id (sym c.find_device.ensures ∙ ap slot_told c.in-At-find_device.is)))
-
--- an interface
-pub returns-in-For : goal.returns-in-For
-returns-in-For c w q t =
-    let passed_at : Passed (connection_of c.args.control.now) c.args.id =
-    elim c.if-connection_id-id.branch [
-      | then-connection_id-id+else-not-connection_gone w ↦ gone-passed (connection_of c.args.control.now) c.args.id (sym w.connection_gone.ensures ∙ w.if-not-connection_gone.false)
-      | else-connection_id-id w ↦ other-passed (connection_of c.args.control.now) c.args.id (λ e. w.if-connection_id-id.false (c.connection_id.ensures ∙ e))
-    ] in
-    let unseated_at : let a = c.args in first (λ t. eqb t.id a.id) (connection_of a.control.now).seats ≡ none = sym c.find_seat.ensures ∙ ap slot_told c.in-Unknown.is in
-    let a = c.args in
     let s = store a.control.now w q t in
     let n = connection_of a.control.now in
-    c.object_of.ensures ∙ ap (λ (i : ℕ). object_of i (version n i)) c.interface_of_bit.ensures
-    ∙ sym (live-interface (view (session s)) a.id n (view-connection s) (passed_at) (no_seat s a.id (unseated_at))
-    (no_device s a.id (sym c.find_device.ensures ∙ ap slot_told c.in-Unknown-find_device.is))
-    (sym (c.find_listed.ensures w q t) ∙ ap listed_told c.in-For.is))
+    let seat = seat_seen s a.id c.find_seat.result c.find_seat.ensures ∙ sym c.is_some.ensures ∙ c.if-is_some.true in
+    ap (λ (v : ℕ). some (record { interface = ei_seat; version = v })) c.seat_version.ensures
+    ∙ sym (live-seat (view (session s)) a.id n (view-connection s) passed seat)
+
+-- a device
+pub returns-then-is_some-2 : goal.returns-then-is_some-2
+returns-then-is_some-2 c w q t =
+    let a = c.args in
+    let passed : Passed (connection_of a.control.now) a.id = elim c.else-connection_id-id.branch [
+      | else-connection_id-id-via-then-connection_id-id+else-not-connection_gone x ↦ gone-passed (connection_of a.control.now) a.id (sym x.connection_gone.ensures ∙ x.if-not-connection_gone.false)
+      | else-connection_id-id-via-else-connection_id-id x ↦ other-passed (connection_of a.control.now) a.id (λ e. x.if-connection_id-id.false (c.connection_id.ensures ∙ e))
+    ] in
+    let s = store a.control.now w q t in
+    let n = connection_of a.control.now in
+    let seat = seat_seen s a.id c.find_seat.result c.find_seat.ensures ∙ sym c.is_some.ensures ∙ c.if-is_some.false in
+    let device = device_seen s a.id c.find_device.result c.find_device.ensures ∙ sym c.is_some-2.ensures ∙ c.if-is_some-2.true in
+    ap (λ (v : ℕ). some (record { interface = ei_device; version = v })) c.device_version.ensures
+    ∙ sym (live-device (view (session s)) a.id n (view-connection s) passed seat device)
 
 -- nothing
-pub returns-in-Nothing : goal.returns-in-Nothing
-returns-in-Nothing c w q t =
-    let passed_at : Passed (connection_of c.args.control.now) c.args.id =
-    elim c.if-connection_id-id.branch [
-      | then-connection_id-id+else-not-connection_gone w ↦ gone-passed (connection_of c.args.control.now) c.args.id (sym w.connection_gone.ensures ∙ w.if-not-connection_gone.false)
-      | else-connection_id-id w ↦ other-passed (connection_of c.args.control.now) c.args.id (λ e. w.if-connection_id-id.false (c.connection_id.ensures ∙ e))
-    ] in
-    let unseated_at : let a = c.args in first (λ t. eqb t.id a.id) (connection_of a.control.now).seats ≡ none = sym c.find_seat.ensures ∙ ap slot_told c.in-Unknown.is in
+pub returns-in_err-bit : goal.returns-in_err-bit
+unfolding interface_object
+returns-in_err-bit c w q t =
     let a = c.args in
+    let passed : Passed (connection_of a.control.now) a.id = elim c.else-connection_id-id.branch [
+      | else-connection_id-id-via-then-connection_id-id+else-not-connection_gone x ↦ gone-passed (connection_of a.control.now) a.id (sym x.connection_gone.ensures ∙ x.if-not-connection_gone.false)
+      | else-connection_id-id-via-else-connection_id-id x ↦ other-passed (connection_of a.control.now) a.id (λ e. x.if-connection_id-id.false (c.connection_id.ensures ∙ e))
+    ] in
     let s = store a.control.now w q t in
-    sym (live-nothing (view (session s)) a.id (connection_of a.control.now) (view-connection s) (passed_at) (no_seat s a.id (unseated_at))
-    (no_device s a.id (sym c.find_device.ensures ∙ ap slot_told c.in-Unknown-find_device.is))
-    (sym (c.find_listed.ensures w q t) ∙ ap listed_told c.in-Nothing.is))
+    let n = connection_of a.control.now in
+    let seat = seat_seen s a.id c.find_seat.result c.find_seat.ensures ∙ sym c.is_some.ensures ∙ c.if-is_some.false in
+    let device = device_seen s a.id c.find_device.result c.find_device.ensures ∙ sym c.is_some-2.ensures ∙ c.if-is_some-2.false in
+    let listed : listed_in a.id (view (session s)).devices ≡ none = sym (c.find_listed.ensures w q t) ∙ ap told (c.in_err-bit.was {u = tt}) in
+    ap object_told c.from_residual.ensures ∙ sym (live-listed (view (session s)) a.id n (view-connection s) passed seat device listed)
+
+-- an interface
+pub returns : goal.returns
+unfolding interface_object
+returns c w q t =
+    let a = c.args in
+    let passed : Passed (connection_of a.control.now) a.id = elim c.else-connection_id-id.branch [
+      | else-connection_id-id-via-then-connection_id-id+else-not-connection_gone x ↦ gone-passed (connection_of a.control.now) a.id (sym x.connection_gone.ensures ∙ x.if-not-connection_gone.false)
+      | else-connection_id-id-via-else-connection_id-id x ↦ other-passed (connection_of a.control.now) a.id (λ e. x.if-connection_id-id.false (c.connection_id.ensures ∙ e))
+    ] in
+    let s = store a.control.now w q t in
+    let n = connection_of a.control.now in
+    let seat = seat_seen s a.id c.find_seat.result c.find_seat.ensures ∙ sym c.is_some.ensures ∙ c.if-is_some.false in
+    let device = device_seen s a.id c.find_device.result c.find_device.ensures ∙ sym c.is_some-2.ensures ∙ c.if-is_some-2.false in
+    let listed : listed_in a.id (view (session s)).devices ≡ some c.in_ok-bit.bit = sym (c.find_listed.ensures w q t) ∙ ap told (c.in_ok-bit.was {u = tt}) in
+    c.object_of.ensures ∙ ap (λ (i : ℕ). object_of i (version n i)) c.interface_of_bit.ensures
+    ∙ sym (live-listed (view (session s)) a.id n (view-connection s) passed seat device listed)

@@ -1,5 +1,5 @@
 -- The loop passes bits whose interface has another id. Assumes nothing.
-use Rattle.std.proofs.Common.{◌≡◌, ℕ, ◌^◌, ◌<◌, sym, refl, ap, ◌∙◌, arith, rules}
+use Rattle.std.proofs.Common.{◌≡◌, ℕ, sym, refl, ap, ◌∙◌, arith}
 use Rattle.eiproto.proofs.Bits.{lowest}
 use Rattle.model.specs.Live.{listed_as}
 use Rattle.control.specs.Control.{interfaces_on}

@@ -1,9 +1,7 @@
 -- The loop passes bits whose interface has another id. Assumes nothing.
-use Rattle.std.proofs.Common.{◌≡◌, ℕ, ◌^◌, ◌<◌, sym, refl, ap, ◌∙◌, arith, rules}
-use Rattle.eiproto.proofs.Bits.{lowest}
+use Rattle.std.proofs.Common.{◌≡◌, ◌^◌, ◌<◌}
 use Rattle.model.specs.Live.{listed_as}
 use Rattle.control.specs.Control.{interfaces_on}
-use Rattle.objects.proofs.Listing.{none-listed, lowest_met, lowest_passed}
 use Rattle.objects.proofs.listed_among.Given as goal
 
 abbrev pub invariant-loop-mask : goal.invariant-loop-mask

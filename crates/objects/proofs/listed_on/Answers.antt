@@ -1,6 +1,5 @@
 -- A device whose id is not near lists none with the id; of any other the bits are asked. Assumes nothing.
-use Rattle.std.proofs.Common.{◌≡◌, ◌<◌, ◌⊎◌, sym, ap, ◌∙◌, inl, inr, arith, rules}
-use mathlib.Core.Option.{none}
+use Rattle.std.proofs.Common.{ℕ, ◌+◌, ◌-◌, ◌%◌, ◌^◌, sym, ap, ◌∙◌, arith}
 use Rattle.model.specs.Live.{listed_as}
 use Rattle.control.specs.Control.{capabilities_at, listed_at, interfaces_on, core_at}
 use Rattle.control.proofs.Interfaces.{core-interfaces, listed_small}
@@ -9,21 +8,12 @@ use Rattle.objects.proofs.listed_on.Goals as goal
 
 pub returns-then-near-eq0 : goal.returns-then-near-eq0
 returns-then-near-eq0 c =
-    let far_at : (c.wrapping_sub_u64-near.result ≡ 0) ⊎ (7 < c.wrapping_sub_u64-near.result) → let a = c.args in none ≡ listed_as a.id (core_at a.control.now a.k).interfaces = λ f. let a = c.args in
+    let a = c.args in
     let w = a.control.now in
+    let near : ℕ = (a.id + (2 ^ 64 - c.device_id-device.result)) % 2 ^ 64 in
     sym (ap (listed_as a.id) (core-interfaces w a.k)
-    ∙ far_none (core_at w a.k).id (capabilities_at w a.k) a.id c.wrapping_sub_u64-near.result (omega arith)
-    (omega (arith, c.wrapping_sub_u64-near.ensures.value, c.device_id-device.ensures)) (listed_at w a.k) (listed_small w a.k) f) in
-    far_at (inl c.if-near-eq0.true)
-
-pub returns-then-near-gt7 : goal.returns-then-near-gt7
-returns-then-near-gt7 c =
-    let far_at : (c.wrapping_sub_u64-near.result ≡ 0) ⊎ (7 < c.wrapping_sub_u64-near.result) → let a = c.args in none ≡ listed_as a.id (core_at a.control.now a.k).interfaces = λ f. let a = c.args in
-    let w = a.control.now in
-    sym (ap (listed_as a.id) (core-interfaces w a.k)
-    ∙ far_none (core_at w a.k).id (capabilities_at w a.k) a.id c.wrapping_sub_u64-near.result (omega arith)
-    (omega (arith, c.wrapping_sub_u64-near.ensures.value, c.device_id-device.ensures)) (listed_at w a.k) (listed_small w a.k) f) in
-    far_at (inr (omega arith))
+    ∙ far_none (core_at w a.k).id (capabilities_at w a.k) a.id near (omega arith) (omega (arith, c.device_id-device.ensures)) (listed_at w a.k) (listed_small w a.k)
+    c.then-near-eq0.either)
 
 pub returns : goal.returns
 returns c =

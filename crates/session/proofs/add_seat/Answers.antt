@@ -1,6 +1,5 @@
 -- The seat comes last, then the next id is raised. Assumes nothing.
 use Rattle.session.proofs.Edits.{seat_added_lem}
-use borrow.Author.Rules.{rules}
 use Rattle.session.proofs.add_seat.Goals as goal
 
 pub returns : goal.returns

@@ -1,6 +1,5 @@
 -- No touch is left. Assumes nothing.
 use Rattle.session.proofs.Edits.{touches_cleared}
-use borrow.Author.Rules.{rules}
 use Rattle.session.proofs.clear_touches.Goals as goal
 
 pub returns : goal.returns

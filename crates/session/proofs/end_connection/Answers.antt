@@ -1,7 +1,6 @@
 -- The serial is set, and then a word of the connection. Assumes nothing.
 use Rattle.session.proofs.Edits.{serial-raised, connection-ended}
 use Rattle.session.proofs.Views.{enacted_join}
-use borrow.Author.Rules.{rules}
 use Rattle.session.proofs.end_connection.Goals as goal
 
 pub returns : goal.returns

@@ -1,6 +1,5 @@
 -- One word of the connection. Assumes nothing.
 use Rattle.session.proofs.Edits.{peer_made}
-use borrow.Author.Rules.{rules}
 use Rattle.session.proofs.new_peer_object.Goals as goal
 
 pub returns : goal.returns

@@ -1,6 +1,5 @@
 -- The serial is set, and the raise of the model says the same number. Assumes nothing.
 use Rattle.session.proofs.Edits.{serial-raised}
-use borrow.Author.Rules.{rules}
 use Rattle.session.proofs.raise.Goals as goal
 
 pub returns : goal.returns

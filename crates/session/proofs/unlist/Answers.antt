@@ -1,6 +1,5 @@
 -- As the control words have it. Assumes nothing.
 use Rattle.session.proofs.Edits.{interface-unlisted}
-use borrow.Author.Rules.{rules}
 use Rattle.session.proofs.unlist.Goals as goal
 
 pub returns : goal.returns

@@ -1,5 +1,5 @@
 -- The words behind the last device, then the count. Assumes nothing.
-use Rattle.std.proofs.Common.{◌%◌, refl, arith, length-set, rules}
+use Rattle.std.proofs.Common.{◌%◌, refl, arith, length-set}
 use Rattle.control.proofs.Changes.{wrote_none, wrote_one, new_words, device_appended}
 use Rattle.control.proofs.edits.append_device.Goals as goal
 

@@ -1,5 +1,5 @@
 -- The words behind the last seat, then the count. Assumes nothing.
-use Rattle.std.proofs.Common.{refl, arith, length-set, rules}
+use Rattle.std.proofs.Common.{refl, arith, length-set}
 use Rattle.control.proofs.Changes.{wrote_none, wrote_one, seat_appended}
 use Rattle.control.proofs.edits.append_seat.Goals as goal
 

@@ -1,6 +1,5 @@
 -- One word, read again. Assumes nothing.
 use Rattle.control.proofs.Changes.{gone-set}
-use Rattle.std.proofs.Common.{rules}
 use Rattle.control.proofs.edits.end_connection.Goals as goal
 
 pub returns : goal.returns

@@ -1,6 +1,5 @@
 -- One word, read again. Assumes nothing.
 use Rattle.control.proofs.Changes.{peer_set}
-use Rattle.std.proofs.Common.{rules}
 use Rattle.control.proofs.edits.set_last_peer_id.Goals as goal
 
 pub returns : goal.returns

@@ -1,6 +1,5 @@
 -- One word, read again. Assumes nothing.
 use Rattle.control.proofs.Changes.{next-set}
-use Rattle.std.proofs.Common.{rules}
 use Rattle.control.proofs.edits.set_next_id.Goals as goal
 
 pub returns : goal.returns

@@ -1,6 +1,5 @@
 -- One word of the row, read again. Assumes nothing.
 use Rattle.control.proofs.Changes.{pending-set}
-use Rattle.std.proofs.Common.{rules}
 use Rattle.control.proofs.edits.set_pending.Goals as goal
 
 pub returns : goal.returns

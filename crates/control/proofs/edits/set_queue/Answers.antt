@@ -1,6 +1,5 @@
 -- Two words, read again. Assumes nothing.
 use Rattle.control.proofs.Changes.{queue-set}
-use Rattle.std.proofs.Common.{rules}
 use Rattle.control.proofs.edits.set_queue.Goals as goal
 
 pub returns : goal.returns

@@ -1,25 +1,17 @@
--- The words before i are moved. Assumes nothing.
-use Rattle.std.proofs.Common.{◌≡◌, ℕ, ◌+◌, ◌-◌, ◌≤◌, length, get_or, refl, ◌∙◌, subst, arith, length-set, rules}
+-- The values before i are moved. Assumes nothing.
+use Rattle.std.proofs.Common.{ℕ, subst, arith}
 use Rattle.control.specs.Shift.{value_at, Shifted}
 use Rattle.control.proofs.Shifts.{shifted_none, shifted_step}
 use Rattle.control.proofs.edits.shift.Goals as goal
 
 pub loop-i-init : goal.loop-i-init
-loop-i-init c =
-    let a = c.args in (omega arith, (refl, shifted_none 0 a.a.now a.a.now a.to a.from))
+loop-i-init g c d = shifted_none d c.args.a.now c.args.a.now c.args.to c.args.from
 
 pub loop-i-preserved : goal.loop-i-preserved
-loop-i-preserved c =
+loop-i-preserved g c d =
     let a = c.args in
-    let at = c.loop-i in (
-      omega arith,
-      (
-        length-set at.a (a.to + at.i) (get_or at.a (a.from + at.i) 0) ∙ at.invariant.1.0,
-        shifted_step 0 a.a.now at.a a.to a.from at.i (omega arith) (omega arith) at.invariant.1.1,
-      ),
-    )
+    let l = c.loop-i in
+    shifted_step d a.a.now l.a a.to a.from l.i c.index-a-from.result c.index-a-from.is (omega arith) (omega arith) (l.invariant d)
 
 pub returns : goal.returns
-returns c =
-    let a = c.args in
-    let at = c.loop-i in subst (λ (k : ℕ). Shifted (value_at 0 a.a.now) (value_at 0 at.a) a.to a.from k) (omega arith) at.invariant.1.1
+returns g c d = subst (λ (k : ℕ). Shifted (value_at d c.args.a.now) (value_at d c.loop-i.a) c.args.to c.args.from k) (omega arith) (c.loop-i.invariant d)

@@ -1,5 +1,5 @@
 -- A set bit is taken out of the mask; with none there is nothing to do. Assumes nothing.
-use Rattle.std.proofs.Common.{◌≡◌, ℕ, ◌+◌, ◌-◌, true, sym, ap, ◌∙◌, arith, rules}
+use Rattle.std.proofs.Common.{◌≡◌, ℕ, ◌+◌, ◌-◌, true, sym, ap, ◌∙◌, arith}
 use Rattle.eiproto.specs.Bits.{bit}
 use Rattle.eiproto.proofs.Bits.{one_shl}
 use Rattle.control.specs.Control.{device_place, device_word}
