@@ -1,9 +1,9 @@
 -- What a new seat and a new device announce, bit by bit: what is done, then what is left. Assumes nothing.
 use Rattle.std.proofs.Common.{◌≡◌, ℕ, ◌+◌, ◌*◌, ◌%◌, ◌^◌, ◌<◌, ◌≤◌, List, [], ◌∷◌, ◌++◌, length, sym, refl, ap, ◌∙◌, arith}
 use mathlib.Core.Option.{none, some}
-use Rattle.eiproto.specs.Bits.{bit, bits_of, every, common, lowest_bit, without_lowest}
+use Rattle.eiproto.specs.Bits.{bit, bits_of, every, common}
 use Rattle.eiproto.specs.Capability.{interface_of_bit}
-use Rattle.eiproto.proofs.Bits.{bits_none, lowest, one_shl}
+use Rattle.eiproto.proofs.Bits.{one_shl}
 use Rattle.wire.specs.declared.event.Event.{Event}
 use Rattle.wire.specs.Bits.{widths}
 use Rattle.wire.specs.Record.{layout, text_of, fixed_length, record_length}
@@ -16,7 +16,6 @@ use Rattle.model.proofs.Cut.{has-version, Among, new_among}
 use Rattle.control.proofs.Interfaces.{new_length}
 use Rattle.events.specs.Events.{Sends}
 use Rattle.events.proofs.Writes.{one_length, cons-length}
-use Rattle.events.proofs.Objects.{bits-more}
 
 -- ---- capabilities
 
@@ -33,24 +32,23 @@ capability-fits at seat b mask interface text h =
     omega (arith, one_length seat (capability_event b) [], capability-room mask interface text, capability-room (2 ^ b) (interface_of_bit b) [])
 
 -- the mask that the code shifts is the bit's
-pub capability-sent : {out later : List ℕ} {at interface r : ℕ} (seat m b : ℕ) → 0 < m → m < 128 → b ≡ lowest_bit m → interface ≡ interface_of_bit b
+pub capability-sent : {out later : List ℕ} {at interface r : ℕ} (seat b : ℕ) → b < 64 → interface ≡ interface_of_bit b
     → Sends out later at (on seat (Event.Capability (1 * 2 ^ b % 2 ^ 64) interface) ∷ []) r → Sends out later at (on seat (capability_event b) ∷ []) r
-capability-sent seat m b p h l i s =
-    rw (one_shl b (omega (arith, (lowest m p (omega arith)).small)), i) at s
+capability-sent seat b h i s =
+    rw (one_shl b h, i) at s
 
 module _ (seat : ℕ) where
   -- the events of a mask's bits
   abbrev pub announced : ℕ → List Sent
   announced m = capability_events seat (bits_of m)
 
-  pub announced-none : (m : ℕ) → m ≡ 0 → announced m ≡ []
+  pub announced-none : (m : ℕ) → bits_of m ≡ [] → announced m ≡ []
   unfolding capability_events
-  announced-none m z = ap announced z ∙ ap (capability_events seat) bits_none
+  announced-none m z = ap (capability_events seat) z
 
-  pub announced-more : (m b later : ℕ) → 0 < m → m < 128 → b ≡ lowest_bit m → later ≡ without_lowest m
-      → announced m ≡ on seat (capability_event b) ∷ announced later
+  pub announced-more : (m b later : ℕ) → bits_of m ≡ b ∷ bits_of later → announced m ≡ on seat (capability_event b) ∷ announced later
   unfolding capability_events
-  announced-more m b later p h l w = ap (capability_events seat) (bits-more m later p h w b l)
+  announced-more m b later e = ap (capability_events seat) e
 
   pub capabilities-length : (bs : List ℕ) → length (records (capability_events seat bs)) ≡ 19 * length bs
   unfolding capability_events records
@@ -110,12 +108,12 @@ module _ (c : Connection) (device : ℕ) where
   unfolding new_interfaces
   coming-first caps = refl
 
-  pub coming-none : (id m : ℕ) → m ≡ 0 → coming id m ≡ []
+  pub coming-none : (id m : ℕ) → bits_of m ≡ [] → coming id m ≡ []
   unfolding interface_events interfaces_from
-  coming-none id m z = ap (coming id) z ∙ ap (λ (l : List ℕ). interface_events c device (interfaces_from id l)) bits_none
+  coming-none id m z = ap (λ (l : List ℕ). interface_events c device (interfaces_from id l)) z
 
   -- the lowest bit's event, if its interface has a version, then the others'
-  pub coming-more : (id m b later : ℕ) → 0 < m → m < 128 → b ≡ lowest_bit m → later ≡ without_lowest m
+  pub coming-more : (id m b later : ℕ) → bits_of m ≡ b ∷ bits_of later
       → coming id m ≡ interface_event device (record { capability = b; id = id }) (version c (interface_of_bit b)) ++ coming (id + 1) later
   unfolding interface_events interfaces_from
-  coming-more id m b later p h l w = ap (λ (bs : List ℕ). interface_events c device (interfaces_from id bs)) (bits-more m later p h w b l)
+  coming-more id m b later e = ap (λ (bs : List ℕ). interface_events c device (interfaces_from id bs)) e

@@ -12,7 +12,8 @@ use Rattle.control.specs.Control.{connection_of}
 use Rattle.events.specs.Events.{Sends}
 use Rattle.events.specs.Announce.{CanAnnounceInterfaces, CanAnnounceDevice}
 use Rattle.events.proofs.Writes.{append-length, one_length, cons-length, sends_join}
-use Rattle.events.proofs.Named.{done-text}
+use Rattle.events.proofs.Named.{done-fixed, done-text}
+use Rattle.events.proofs.Objects.{bits_most}
 
 device-text : (id version : ℕ) (text : List ℕ) → record_length (Event.Device id version) text ≡ fixed_length (Event.Device id version)
 unfolding record_length text_of layout
@@ -115,3 +116,6 @@ module _ {control : List ℕ} {seat id version : ℕ} {name : Option (List ℕ)}
               (sends_join (omega (arith, q.next, listed-bytes n seat id version name kind caps))
               s
               (sends_join (omega (arith, q.next, t.next, last-bytes n seat id version name kind caps)) t u)))
+
+-- what bounds the sum of a device's lengths
+pub ruleset device_sizes = (device-fixed, type-fixed, done-fixed, bits_most)

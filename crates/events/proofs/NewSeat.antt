@@ -12,7 +12,8 @@ use Rattle.control.specs.Control.{connection_of}
 use Rattle.events.specs.Events.{Sends}
 use Rattle.events.specs.Announce.{CanAnnounceSeat}
 use Rattle.events.proofs.Writes.{append-length, one_length, cons-length, sends_join}
-use Rattle.events.proofs.Named.{done-text}
+use Rattle.events.proofs.Named.{done-fixed, done-text}
+use Rattle.events.proofs.Objects.{bits_most}
 
 seat-text : (id version : ℕ) (text : List ℕ) → record_length (Event.Seat id version) text ≡ fixed_length (Event.Seat id version)
 unfolding record_length text_of layout
@@ -83,3 +84,6 @@ module _ {control : List ℕ} {id version : ℕ} {name : Option (List ℕ)} {cap
 pub seat-fixed : (id version : ℕ) → fixed_length (Event.Seat id version) ≡ 22
 unfolding fixed_length layout widths
 seat-fixed id version = refl
+
+-- what bounds the sum of a seat's lengths
+pub ruleset seat_sizes = (seat-fixed, done-fixed, bits_most)

@@ -1,10 +1,10 @@
 -- The objects that go with devices and seats, slot by slot and bit by bit. Assumes nothing.
-use Rattle.std.proofs.Common.{◌≡◌, ℕ, zero, suc, ◌+◌, ◌<◌, ◌≤◌, Bool, false, cond, eqb, List, [], ◌∷◌, ◌++◌, map, length, sym, refl, ap, ◌∙◌, ap₂, append_assoc, append-nil, add-one, arith, length-append, eq-eqb, ne_eqb, leb-false}
+use Rattle.std.proofs.Common.{◌≡◌, ℕ, zero, suc, ◌+◌, ◌/◌, ◌%◌, ◌<◌, ◌≤◌, Bool, true, false, cond, eqb, List, [], ◌∷◌, ◌++◌, map, length, sym, refl, ap, ◌∙◌, append_assoc, append-nil, add-one, arith, length-append, eq-eqb, ne_eqb, leb-false, ltb, lt-ltb, ltb-true}
 use lib.Count.{ones-le}
 use lib.ListN.{length-map}
-use Rattle.eiproto.specs.Bits.{bits_of, lowest_bit, without_lowest}
+use Rattle.eiproto.specs.Bits.{bits_from, bits_of, every}
 use Rattle.eiproto.specs.Capability.{unknown_bits}
-use Rattle.eiproto.proofs.Bits.{bits-length, bits_none, lowest}
+use Rattle.eiproto.proofs.Bits.{bits-length, every_at}
 use Rattle.model.specs.Session.{Seat, Device}
 use Rattle.model.specs.Decide.{objects_of, devices_objects, seat_objects, seats_objects}
 use Rattle.control.specs.Table.{tab}
@@ -130,22 +130,26 @@ place_is c k seat e = ap (λ (n : ℕ). seat_objects n (bare_devices c)) e
 
 -- ---- bits in turn
 
-module _ (m later : ℕ) (p : 0 < m) (h : m < 128) (w : later ≡ without_lowest m) where
-  pub left_less : later < m
-  left_less = omega (arith, (lowest m p (omega arith)).less)
+below_from : (k p n m : ℕ) → p + k ≤ n → every (λ b. ltb b n) (bits_from k p m) ≡ true
+unfolding bits_from every
+below_from zero p n m h = refl
+below_from (suc k) p n m h = go (eqb (m % 2) 1) (below_from k (p + 1) n (m / 2) (omega arith))
+  where
+    go : (t : Bool) → every (λ b. ltb b n) (bits_from k (p + 1) (m / 2)) ≡ true → every (λ b. ltb b n) (cond t (p ∷ []) [] ++ bits_from k (p + 1) (m / 2)) ≡ true
+    go true e = rw (lt-ltb p n (omega arith)) e
+    go false e = e
 
-  pub left-small : later < 128
-  left-small = omega (arith, left_less)
-
-  pub bits-more : (b : ℕ) → b ≡ lowest_bit m → bits_of m ≡ b ∷ bits_of later
-  bits-more b l = (lowest m p (omega arith)).bits ∙ ap₂ (λ (x y : ℕ). x ∷ bits_of y) (sym l) (sym w)
-
+-- the first of a mask's bits, then those that are left
+module _ (m b later : ℕ) (e : bits_of m ≡ b ∷ bits_of later) where
   pub bits-fewer : length (bits_of m) ≡ length (bits_of later) + 1
-  bits-fewer = ap length (bits-more (lowest_bit m) refl) ∙ omega arith
+  bits-fewer = ap length e ∙ omega arith
 
-  pub ids_more : (device made b : ℕ) {object : ℕ} → b ≡ lowest_bit m → object ≡ interface_id device made b
-      → ids_of device made m ≡ object ∷ ids_of device made later
-  ids_more device made b l o = ap (λ (bs : List ℕ). map (interface_id device made) bs ++ (device ∷ [])) (bits-more b l) ∙ rw o
+  pub bit_fits : b < 64
+  unfolding bits_of
+  bit_fits = ltb-true b 64 (rw e at (every_at (λ x. ltb x 64) (bits_of m) 0 0 (below_from 64 0 64 m (omega arith)) (omega (arith, bits-fewer))))
 
-pub ids-last : (device made m : ℕ) → m ≡ 0 → ids_of device made m ≡ device ∷ []
-ids-last device made m z = rw (z, bits_none)
+  pub ids_more : (device made : ℕ) {object : ℕ} → object ≡ interface_id device made b → ids_of device made m ≡ object ∷ ids_of device made later
+  ids_more device made o = ap (λ (bs : List ℕ). map (interface_id device made) bs ++ (device ∷ [])) e ∙ rw o
+
+pub ids-last : (device made m : ℕ) → bits_of m ≡ [] → ids_of device made m ≡ device ∷ []
+ids-last device made m z = rw z

@@ -12,17 +12,16 @@ ghost use Rattle.model.specs.Plan.{records};
 ghost use Rattle.model.specs.Decide.{negotiated_capabilities, name_events, capability_events, interface_events, objects_of, devices_objects, seat_objects, seats_objects, seat_events, device_events};
 ghost use Rattle.control.specs.Control.{control_length, connection_of, core_at};
 ghost use Rattle.control.specs.Sound.{Sound};
-ghost use Rattle.session.specs.Slices.{optional, text};
+ghost use Rattle.session.specs.Slices.{given};
 ghost use Rattle.events.specs.Events.{Writes, WritesDestroyed, bare, bare_devices};
 ghost use Rattle.events.specs.Announce.{offered, CanAnnounceInterfaces, CanAnnounceSeat, CanAnnounceDevice};
 
-use control::Negotiated;
-use eiproto::event::DeviceCapability;
+use eiproto::event::{Bits, DeviceCapability};
 use wire::event;
 use wire::event::Event;
 
 // A place in `out`, and the last serial so far.
-#[derive(Clone, Copy)]
+#[derive(Clone, Copy, Debug, PartialEq, Eq)]
 pub struct Mark {
     pub at: usize,
     pub serial: u32,
@@ -47,7 +46,7 @@ pub fn send(out: &mut [u8], at: usize, object: u64, e: Event, text: &[u8]) -> us
 pub fn next_serial(serial: u32) -> u32
     ensures { result ≡ next_serial serial }
 {
-    std::num::wrapping_add_u32(serial, 1)
+    serial.wrapping_add(1)
 }
 
 // ---- what goes is destroyed
@@ -75,14 +74,10 @@ pub fn seat_objects(control: &[u64], seat: u64) -> usize
     requires { Sound control.now }
     ensures { (result ≡ length (seat_objects seat (bare_devices control.now))) × (result ≤ 65) }
 {
-    let devices = control::device_count(control);
-    let mut total: usize = 1;
-    let mut k: usize = 0;
-    while k < devices {
-        let device = k;
-        k += 1;
-        if control::device_seat(control, device) == seat {
-            total += device_objects(control, device);
+    let mut total = 1;
+    for k in 0..control::device_count(control) {
+        if control::device_seat(control, k) == seat {
+            total += device_objects(control, k);
         }
     }
     total
@@ -93,12 +88,9 @@ pub fn seats_objects(control: &[u64]) -> usize
     requires { Sound control.now }
     ensures { (result ≡ length (seats_objects (connection_of control.now).seats (bare_devices control.now))) × (result ≤ 260) }
 {
-    let seats = control::seat_count(control);
-    let mut total: usize = 0;
-    let mut place: usize = 0;
-    while place < seats {
+    let mut total = 0;
+    for place in 0..control::seat_count(control) {
         total += seat_objects(control, control::seat_id(control, place));
-        place += 1;
     }
     total
 }
@@ -110,12 +102,9 @@ pub fn destroy_device(control: &[u64], k: usize, out: &mut [u8], mark: Mark) -> 
 {
     let id = control::device_id(control, k);
     let made = control::device_capabilities(control, k);
-    let mut left = control::device_listed(control, k);
     let mut so_far = mark;
-    while left != 0 {
-        let bit = DeviceCapability::lowest(left);
+    for bit in Bits(control::device_listed(control, k)) {
         so_far = destroy(out, so_far, control::interface_id(id, made, bit));
-        left = DeviceCapability::without_lowest(left);
     }
     destroy(out, so_far, id)
 }
@@ -125,12 +114,8 @@ fn destroy_devices(control: &[u64], seat: u64, out: &mut [u8], mark: Mark) -> Ma
     requires { Sound control.now × (mark.at + 14 * length (devices_objects seat (bare_devices control.now)) ≤ length out.old) }
     ensures { WritesDestroyed out mark (devices_objects seat (bare_devices control.now)) result }
 {
-    let devices = control::device_count(control);
     let mut so_far = mark;
-    let mut k: usize = 0;
-    while k < devices {
-        let slot = k;
-        k += 1;
+    for slot in 0..control::device_count(control) {
         if control::device_seat(control, slot) == seat {
             so_far = destroy_device(control, slot, out, so_far);
         }
@@ -152,12 +137,9 @@ pub fn destroy_seats(control: &[u64], out: &mut [u8], mark: Mark) -> Mark
     requires { Sound control.now × (mark.at + 14 * length (seats_objects (connection_of control.now).seats (bare_devices control.now)) ≤ length out.old) }
     ensures { WritesDestroyed out mark (seats_objects (connection_of control.now).seats (bare_devices control.now)) result }
 {
-    let seats = control::seat_count(control);
     let mut so_far = mark;
-    let mut place: usize = 0;
-    while place < seats {
+    for place in 0..control::seat_count(control) {
         so_far = destroy_seat(control, control::seat_id(control, place), out, so_far);
-        place += 1;
     }
     so_far
 }
@@ -170,21 +152,12 @@ fn announce_capabilities(seat: u64, capabilities: u64, out: &mut [u8], from: usi
     ensures { Writes out from (capability_events seat (bits_of capabilities)) result }
 {
     let mut at = from;
-    let mut left = capabilities;
-    while left != 0 {
-        let bit = DeviceCapability::lowest(left);
-        left = DeviceCapability::without_lowest(left);
-        let interface = DeviceCapability::interface_of_bit(bit);
-        at = send(
-            out,
-            at,
-            seat,
-            Event::Capability {
-                mask: 1u64 << bit,
-                interface,
-            },
-            b"",
-        );
+    for bit in Bits(capabilities) {
+        let announced = Event::Capability {
+            mask: 1 << bit,
+            interface: DeviceCapability::interface_of_bit(bit),
+        };
+        at = send(out, at, seat, announced, b"");
     }
     at
 }
@@ -202,20 +175,15 @@ fn announce_interface(
     ensures { Writes out at (offered control.now device bit id) result }
 {
     let interface = DeviceCapability::interface_of_bit(bit);
-    match control::version(control, interface) {
-        Negotiated::Version(version) => send(
-            out,
-            at,
-            device,
-            Event::Interface {
-                id,
-                interface,
-                version,
-            },
-            b"",
-        ),
-        Negotiated::Nothing => at,
-    }
+    let Some(version) = control::version(control, interface) else {
+        return at;
+    };
+    let offered = Event::Interface {
+        id,
+        interface,
+        version,
+    };
+    send(out, at, device, offered, b"")
 }
 
 // The interfaces of a new device, by capability bit, with the ids behind its own.
@@ -231,48 +199,51 @@ fn announce_interfaces(
 {
     let mut at = from;
     let mut id = device + 1;
-    let mut left = capabilities;
-    while left != 0 {
-        let bit = DeviceCapability::lowest(left);
-        left = DeviceCapability::without_lowest(left);
+    for bit in Bits(capabilities) {
         at = announce_interface(control, device, bit, id, out, at);
         id += 1;
     }
     at
 }
 
-// The bytes of a name event, 0 where no name is given.
-fn name_length(given: bool, name: &[u8]) -> usize
-    ensures { ((object : ℕ) → result ≡ length (records (name_events object (text given name)))) × (result ≤ 10 + length name.now) }
+// The bytes of the event of a name. No slice is longer than half of what a usize counts.
+fn named_length(name: &[u8]) -> usize
+    ensures { (result ≡ record_length Event.Name name.now) × (result ≤ 10 + 0x7fff_ffff_ffff_ffff) }
 {
-    if given {
-        event::record_length(Event::Name, name)
-    } else {
-        0
+    event::record_length(Event::Name, name)
+}
+
+// The bytes of a name event, 0 where no name is given.
+fn name_length(name: Option<&[u8]>) -> usize
+    ensures { ((object : ℕ) → result ≡ length (records (name_events object (given name.entry)))) × (result ≤ 10 + 0x7fff_ffff_ffff_ffff) }
+{
+    match name {
+        Some(name) => named_length(name),
+        None => 0,
     }
 }
 
 // The name event, at a place that has room for it; the place behind it.
-fn announce_name(out: &mut [u8], at: usize, object: u64, given: bool, name: &[u8]) -> usize
-    requires { at + length (records (name_events object (optional given name.now))) ≤ length out.old }
-    ensures { Writes out at (name_events object (text given name)) result }
+fn announce_name(out: &mut [u8], at: usize, object: u64, name: Option<&[u8]>) -> usize
+    requires { at + length (records (name_events object (given name))) ≤ length out.old }
+    ensures { Writes out at (name_events object (given name.entry)) result }
 {
-    if given {
-        send(out, at, object, Event::Name, name)
-    } else {
-        at
+    match name {
+        Some(name) => send(out, at, object, Event::Name, name),
+        None => at,
     }
 }
 
 // A seat's events: itself, its name, its capabilities, done.
-pub fn seat_length(id: u64, version: u32, given: bool, name: &[u8], capabilities: u64) -> usize
+#[tactic(auto, using(crate::proofs::NewSeat::seat_sizes))]
+pub fn seat_length(id: u64, version: u32, name: Option<&[u8]>, capabilities: u64) -> usize
     requires { capabilities < 128 }
-    ensures { (c : Connection) → result ≡ length (records (seat_events c id version (text given name) capabilities)) }
+    ensures { (c : Connection) → result ≡ length (records (seat_events c id version (given name.entry) capabilities)) }
 {
     let seat = event::fixed_length(Event::Seat { id, version });
     let announced = CAPABILITY_LENGTH * (DeviceCapability::count(capabilities) as usize);
     let done = event::fixed_length(Event::Done);
-    seat + name_length(given, name) + announced + done
+    seat + name_length(name) + announced + done
 }
 
 // At the start of `out`; how many bytes were written.
@@ -280,31 +251,31 @@ pub fn announce_seat(
     control: &[u64],
     id: u64,
     version: u32,
-    given: bool,
-    name: &[u8],
+    name: Option<&[u8]>,
     capabilities: u64,
     out: &mut [u8],
 ) -> usize
-    requires { CanAnnounceSeat control.now id version (optional given name.now) capabilities out.old }
-    ensures { Writes out 0 (seat_events (connection_of control.now) id version (text given name) capabilities) result }
+    requires { CanAnnounceSeat control.now id version (given name) capabilities out.old }
+    ensures { Writes out 0 (seat_events (connection_of control.now) id version (given name.entry) capabilities) result }
 {
     let connection = control::connection_id(control);
     let seat = send(out, 0, connection, Event::Seat { id, version }, b"");
-    let named = announce_name(out, seat, id, given, name);
+    let named = announce_name(out, seat, id, name);
     let announced = announce_capabilities(id, capabilities, out, named);
     send(out, announced, id, Event::Done, b"")
 }
 
 // A device's events: itself, its name, its type, its interfaces, done, where each of these was negotiated.
-pub fn device_length(id: u64, version: u32, given: bool, name: &[u8], capabilities: u64) -> usize
+#[tactic(auto, using(crate::proofs::NewDevice::device_sizes))]
+pub fn device_length(id: u64, version: u32, name: Option<&[u8]>, capabilities: u64) -> usize
     requires { capabilities < 128 }
-    ensures { (c : Connection) (seat kind : ℕ) → common capabilities (negotiated_capabilities c) ≡ capabilities → result ≡ length (records (device_events c seat id version (text given name) kind capabilities)) }
+    ensures { (c : Connection) (seat kind : ℕ) → common capabilities (negotiated_capabilities c) ≡ capabilities → result ≡ length (records (device_events c seat id version (given name.entry) kind capabilities)) }
 {
     let device = event::fixed_length(Event::Device { id, version });
     let kind = event::fixed_length(Event::DeviceType { value: 0 });
     let interfaces = INTERFACE_LENGTH * (DeviceCapability::count(capabilities) as usize);
     let done = event::fixed_length(Event::Done);
-    device + name_length(given, name) + kind + interfaces + done
+    device + name_length(name) + kind + interfaces + done
 }
 
 // At the start of `out`; how many bytes were written.
@@ -313,17 +284,16 @@ pub fn announce_device(
     seat: u64,
     id: u64,
     version: u32,
-    given: bool,
-    name: &[u8],
+    name: Option<&[u8]>,
     kind: u32,
     capabilities: u64,
     out: &mut [u8],
 ) -> usize
-    requires { CanAnnounceDevice control.now seat id version (optional given name.now) kind capabilities out.old }
-    ensures { Writes out 0 (device_events (connection_of control.now) seat id version (text given name) kind capabilities) result }
+    requires { CanAnnounceDevice control.now seat id version (given name) kind capabilities out.old }
+    ensures { Writes out 0 (device_events (connection_of control.now) seat id version (given name.entry) kind capabilities) result }
 {
     let device = send(out, 0, seat, Event::Device { id, version }, b"");
-    let named = announce_name(out, device, id, given, name);
+    let named = announce_name(out, device, id, name);
     let typed = send(out, named, id, Event::DeviceType { value: kind }, b"");
     let listed = announce_interfaces(control, id, capabilities, out, typed);
     send(out, listed, id, Event::Done, b"")

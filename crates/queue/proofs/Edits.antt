@@ -9,7 +9,7 @@ use Rattle.model.specs.Call.{Sight, Load}
 use Rattle.model.specs.Session.{Item, Untimed, Queued}
 use Rattle.model.specs.Edit.{Edit, device_with, item, pended, emptied, framed, framed_at, rest, at, with_requests, enact, enact_all}
 use Rattle.control.specs.Table.{tab}
-use Rattle.control.specs.Control.{devices_limit, pending_limit, queue_limit, device_count, queue_head, queue_length, pending_at, Core, core_at}
+use Rattle.control.specs.Control.{devices_limit, pending_limit, queue_limit, device_count, queue_head, queue_length, Core, core_at}
 use Rattle.control.specs.Sound.{Sound}
 use Rattle.control.proofs.Sounds.{pending_bound}
 use Rattle.control.proofs.Tables.{case_eq, tab_ext, tab_same, tab_push}
@@ -29,10 +29,6 @@ unfolding session
 enacted ok q = record { sound = ok; view = q }
 
 -- ---- rows
-
-pub pending_is : (c : List ℕ) (k : ℕ) → (core_at c k).pending ≡ pending_at c k
-unfolding core_at
-pending_is c k = refl
 
 -- n rows copied, one after another: the pending rows are none of the queue's
 pub copied_none : (rows : ℕ → Row) (k head queued device time : ℕ) → Copied rows rows k 0 head queued device time

@@ -18,7 +18,36 @@ use requests::row::NO_SLOT;
 use requests::{cell, row};
 use session::QUEUE_START;
 
+// The ring of the queued requests: the place of the oldest, and how many there are.
+#[derive(Clone, Copy, Debug, PartialEq, Eq)]
+struct Ring {
+    head: usize,
+    length: usize,
+    ghost in_bounds: { (head < queue_limit) × (length ≤ queue_limit) },
+}
+
+impl Ring {
+    fn of(control: &[u64]) -> Ring
+        requires { Sound control.now }
+        ensures { (result.head ≡ queue_head control.now) × (result.length ≡ queue_length control.now) }
+    {
+        Ring {
+            head: control::queue_head(control),
+            length: control::queue_length(control),
+        }
+    }
+
+    // The row of entry j.
+    fn row(self, j: usize) -> usize
+        requires { j ≤ queue_limit }
+        ensures { (result ≡ queue_row self.head j) × (result < row_count) }
+    {
+        QUEUE_START + (self.head + j) % QUEUE_LIMIT
+    }
+}
+
 // Whether the queue has room for n entries more.
+#[tactic(auto, unfolding(crate::specs::Queue::has_room))]
 pub fn has_room(control: &[u64], n: usize) -> bool
     requires { Sound control.now × (n ≤ queue_limit) }
     ensures { result ≡ has_room control.now n }
@@ -27,6 +56,7 @@ pub fn has_room(control: &[u64], n: usize) -> bool
 }
 
 // The entries that a frame of the device in slot k needs.
+#[tactic(auto, using(crate::proofs::Room::entries))]
 pub fn frame_entries(control: &[u64], k: usize) -> usize
     requires { Sound control.now × (k < device_count control.now) }
     ensures { (result ≡ frame_entries (core_at control.now k).pending) × (result ≤ pending_limit + 1) }
@@ -36,6 +66,7 @@ pub fn frame_entries(control: &[u64], k: usize) -> usize
 }
 
 // Whether the queue has room for a frame of the device in slot k.
+#[tactic(auto, using(crate::proofs::Room::entries), unfolding(crate::specs::Queue::has_room))]
 pub fn frame_fits(control: &[u64], k: usize) -> bool
     requires { Sound control.now × (k < device_count control.now) }
     ensures { result ≡ has_room control.now (frame_entries (core_at control.now k).pending) }
@@ -44,15 +75,8 @@ pub fn frame_fits(control: &[u64], k: usize) -> bool
     n == 0 || has_room(control, n + 1)
 }
 
-// The row of entry j of the queue.
-fn queue_row(head: usize, j: usize) -> usize
-    requires { (head < queue_limit) × (j ≤ queue_limit) }
-    ensures { (result ≡ queue_row head j) × (result < row_count) }
-{
-    QUEUE_START + (head + j) % QUEUE_LIMIT
-}
-
 // A request more in the pending list of the device in slot k.
+#[tactic(auto, using(crate::proofs::Room::entries))]
 pub fn pend(control: &mut [u64], words: &mut [u64], reals: &mut [f32], k: usize, request: Cell)
     requires { Lent control.old words.old reals.old × ((k < device_count control.old) × (pending_at control.old k < pending_limit)) }
     ensures { Pends control words reals k (row_of request) }
@@ -67,10 +91,9 @@ pub fn push(control: &mut [u64], words: &mut [u64], reals: &mut [f32], request: 
     requires { Lent control.old words.old reals.old × (queue_length control.old < queue_limit) }
     ensures { (r : Untimed) → request_in request [] ≡ Queued.untimed r → EnactsRows control words reals (Edit.queue r ∷ []) }
 {
-    let head = control::queue_head(control);
-    let queued = control::queue_length(control);
-    row::put(words, reals, queue_row(head, queued), request, NO_SLOT);
-    control::edits::set_queue(control, head, queued + 1);
+    let ring = Ring::of(control);
+    row::put(words, reals, ring.row(ring.length), request, NO_SLOT);
+    control::edits::set_queue(control, ring.head, ring.length + 1);
 }
 
 // Copies n pending rows behind the queue, as the frame of their device queues them.
@@ -79,29 +102,27 @@ fn copy_pending(
     reals: &mut [f32],
     k: usize,
     n: usize,
-    head: usize,
-    queued: usize,
+    ring: Ring,
     device: u64,
     time: u64,
 )
-    requires { Copyable words.old reals.old k n head queued }
-    ensures { Copied (row_at words.old reals.old) (row_at words.new reals.new) k n head queued device time }
+    requires { Copyable words.old reals.old k n ring.head ring.length }
+    ensures { Copied (row_at words.old reals.old) (row_at words.new reals.new) k n ring.head ring.length device time }
 {
-    let mut j: usize = 0;
-    while j < n {
+    for j in 0..n {
         row::copy_framed(
             words,
             reals,
             PENDING_LIMIT * k + j,
-            queue_row(head, queued + j),
+            ring.row(ring.length + j),
             device,
             time,
         );
-        j += 1;
     }
 }
 
 // "Every pending request, in arrival order, gets the frame's time and is queued, then the Frame itself", and nothing where nothing is pending.
+#[tactic(auto, using(crate::proofs::Room::entries))]
 pub fn frame(
     control: &mut [u64],
     words: &mut [u64],
@@ -117,17 +138,16 @@ pub fn frame(
     if n == 0 {
         return;
     }
-    let head = control::queue_head(control);
-    let queued = control::queue_length(control);
+    let ring = Ring::of(control);
     let device = control::device_id(control, k);
-    copy_pending(words, reals, k, n, head, queued, device, time);
+    copy_pending(words, reals, k, n, ring, device, time);
     row::put_cell(
         words,
         reals,
-        queue_row(head, queued + n),
+        ring.row(ring.length + n),
         cell::frame(device, serial, time),
     );
-    control::edits::set_queue(control, head, queued + n + 1);
+    control::edits::set_queue(control, ring.head, ring.length + n + 1);
     control::edits::set_pending(control, k, 0);
 }
 
@@ -136,7 +156,7 @@ pub fn oldest(control: &[u64], words: &[u64], reals: &[f32]) -> Cell
     requires { Lent control.now words.now reals.now × (0 < queue_length control.now) }
     ensures { result ≡ cell_at words.now reals.now (queue_row (queue_head control.now) 0) }
 {
-    row::read_cell(words, reals, queue_row(control::queue_head(control), 0))
+    row::read_cell(words, reals, Ring::of(control).row(0))
 }
 
 // The oldest queued request taken out.
@@ -144,7 +164,6 @@ pub fn pop(control: &mut [u64])
     requires { Sound control.old × (0 < queue_length control.old) }
     ensures { EnactsControl control (Edit.deliver ∷ []) }
 {
-    let head = control::queue_head(control);
-    let queued = control::queue_length(control);
-    control::edits::set_queue(control, (head + 1) % QUEUE_LIMIT, queued - 1);
+    let ring = Ring::of(control);
+    control::edits::set_queue(control, (ring.head + 1) % QUEUE_LIMIT, ring.length - 1);
 }

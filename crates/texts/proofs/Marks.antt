@@ -1,19 +1,17 @@
 -- The mask of the slots in use: a slot marked, and a slot that is not. Assumes nothing.
-use Prim.Native.Nat.{ℕ, zero, suc, ◌+◌, ◌-◌, ◌/◌, ◌%◌, ◌^◌, ◌≤◌, ◌<◌}
-use mathlib.Core.Path.{◌≡◌, refl, ap, ap₂, sym, ◌∙◌}
+use Rattle.std.proofs.Common.{◌≡◌, ℕ, zero, suc, ◌+◌, ◌-◌, ◌*◌, ◌/◌, ◌%◌, ◌^◌, ◌≤◌, ◌<◌, Bool, true, false, cond, length, w32, refl, ap, ap₂, sym, ◌∙◌, inl, inr, arith, eqb-true, eq-eqb, ne_eqb, lt-ltb, le-ltb}
+use Rattle.std.specs.Int.{trailing_ones}
+use Rattle.std.specs.Int.Bits.{bit_or, or_add_and}
+use Rattle.std.proofs.Math.Pow.{pow-lt, shr-shr}
+use Rattle.std.proofs.lemmas.Bool.{cases_Bool}
+use Rattle.std.proofs.lemmas.Nat.Bits.{and_pow, bit_at-trailing_ones}
+use lib.Count.{ones, ones_step, ones-ones}
+use lib.Dec.{ltb}
 use mathlib.Core.Logic.{dite}
 use native.Mathlib.Decide.{dec_lt}
-use lib.Dec.{ltb}
-use Rattle.requests.specs.Row.{texts_limit}
-use mathlib.Core.Bool.{Bool, true, false, cond}
 use native.Mathlib.Nat.{pow-succ'}
-use native.Mathlib.Omega.{arith}
-use borrow.Author.Tests.{eqb-false, eq-eqb, ne_eqb, lt-ltb, le-ltb}
-use lib.Count.{count_trailing_zeros, under, ones, ones_step, ones-ones, trailing_le}
-use lib.ListN.{length}
-use lib.Pow.{shr-shr}
-use mir.Syntax.{w64}
-use mir.Val.{Fits}
+use borrow.Author.Tests.{eqb-false}
+use Rattle.requests.specs.Row.{texts_limit}
 use Rattle.eiproto.specs.Bits.{bit, bits_of}
 use Rattle.eiproto.proofs.Bits.{bits-length}
 use Rattle.control.proofs.Tables.{case_eq}
@@ -51,37 +49,43 @@ added (suc b) (suc k) m l h e =
 
 -- ---- the pass over the slots
 
-pub counted_none : (live : LiveTexts) (slots : ℕ → ℕ) → live.used < 2 ^ texts_limit → Counted live live 0 slots
+pub counted_none : (live : LiveTexts) (slots : ℕ → ℕ) → Counted live live 0 slots
 unfolding texts_among
-counted_none live slots h =
-    record { count = omega arith; most = omega arith; marked = λ j l. absurd (omega arith); kept = λ s e. e; few = omega arith; below = h }
+counted_none live slots =
+    record { count = omega arith; most = omega arith; marked = λ j l. absurd (omega arith); kept = λ s e. e; few = omega arith }
 
 -- no text
-pub counted_past : (live : LiveTexts) (slot : ℕ) → texts_limit ≤ slot → live.used < 2 ^ texts_limit → Counted live live 1 (λ j. slot)
+pub counted_past : (live : LiveTexts) (slot : ℕ) → texts_limit ≤ slot → Counted live live 1 (λ j. slot)
 unfolding texts_among
-counted_past live slot l h =
+counted_past live slot l =
     record {
       count = rw (le-ltb slot texts_limit (omega arith)) (omega arith);
       most = omega arith;
       marked = λ j q m. absurd (omega arith);
       kept = λ s e. e;
       few = omega arith;
-      below = h;
     }
 
-module _ (live : LiveTexts) (slot : ℕ) (l : slot < texts_limit) (h : live.used < 2 ^ texts_limit) where
+module _ (live : LiveTexts) (slot : ℕ) (l : slot < texts_limit) where
   one_more : (count : ℕ) → count ≡ live.count + 1 → count ≡ live.count + texts_among 1 (λ j. slot)
   unfolding texts_among
   one_more count e = rw (lt-ltb slot texts_limit l) (omega arith)
 
   -- a text in a slot that is marked
-  pub counted_again : (count : ℕ) → count ≡ live.count + 1 → bit slot live.used ≡ true → Counted live (record { count = count; used = live.used }) 1 (λ j. slot)
-  counted_again count more e = record { count = one_more count more; most = omega arith; marked = λ j q m. e; kept = λ s f. f; few = omega arith; below = h }
+  counted_again : (count mask : ℕ) → count ≡ live.count + 1 → bit slot live.used ≡ true → mask ≡ live.used → Counted live (record { count = count; used = mask }) 1 (λ j. slot)
+  counted_again count mask more e z =
+      record {
+        count = one_more count more;
+        most = omega arith;
+        marked = λ j q m. ap (bit slot) z ∙ e;
+        kept = λ s f. ap (bit s) z ∙ f;
+        few = omega (arith, ap (λ (x : ℕ). length (bits_of x)) z);
+      }
 
   -- a text in a slot that is not
-  pub counted_new : (count mask : ℕ) → count ≡ live.count + 1 → bit slot live.used ≡ false → mask ≡ live.used + 2 ^ slot
+  counted_new : (count mask : ℕ) → count ≡ live.count + 1 → live.used < 2 ^ texts_limit → bit slot live.used ≡ false → mask ≡ live.used + 2 ^ slot
       → Counted live (record { count = count; used = mask }) 1 (λ j. slot)
-  counted_new count mask more e z =
+  counted_new count mask more h e z =
       let clear : live.used / 2 ^ slot % 2 ≡ 0 = (let n = eqb-false (live.used / 2 ^ slot % 2) 1 e in omega (arith, n)) in
       let a = added slot texts_limit live.used l h clear in
       let has : bit slot mask ≡ true = ap (bit slot) z ∙ eq-eqb ((live.used + 2 ^ slot) / 2 ^ slot % 2) 1 a.here in
@@ -102,8 +106,26 @@ module _ (live : LiveTexts) (slot : ℕ) (l : slot < texts_limit) (h : live.used
               bits-length (live.used + 2 ^ slot) (omega (arith, a.below)),
               a.more,
             );
-        below = omega (arith, a.below);
       }
+
+  -- a text in a slot: its bit is set in the mask, whether or not it was
+  pub counted_text : (count : ℕ) → count ≡ live.count + 1 → live.used < 2 ^ texts_limit
+      → Counted live (record { count = count; used = bit_or live.used (1 * 2 ^ slot % 2 ^ texts_limit) }) 1 (λ j. slot)
+  counted_text count more h =
+      let mask : ℕ = bit_or live.used (1 * 2 ^ slot % 2 ^ texts_limit) in
+      let p = pow-lt l in
+      let one : 1 * 2 ^ slot % 2 ^ texts_limit ≡ 2 ^ slot = omega arith in
+      let both = or_add_and live.used (2 ^ slot) in
+      let shared = and_pow live.used slot in
+      let is : mask ≡ bit_or live.used (2 ^ slot) = ap (bit_or live.used) one in
+      elim (cases_Bool (bit slot live.used)) [
+        | inl e ↦
+            let set : live.used / 2 ^ slot % 2 ≡ 1 = eqb-true (live.used / 2 ^ slot % 2) 1 e in
+            counted_again count mask more e (is ∙ omega (arith, both, shared, ap (λ (x : ℕ). x * 2 ^ slot) set))
+        | inr e ↦
+            let clear : live.used / 2 ^ slot % 2 ≡ 0 = (let n = eqb-false (live.used / 2 ^ slot % 2) 1 e in omega (arith, n)) in
+            counted_new count mask more h e (is ∙ omega (arith, both, shared, ap (λ (x : ℕ). x * 2 ^ slot) clear))
+      ]
 
 among_ext : (n : ℕ) (f g : ℕ → ℕ) → ((j : ℕ) → j < n → f j ≡ g j) → texts_among n f ≡ texts_among n g
 unfolding texts_among
@@ -137,33 +159,14 @@ module _ (n : ℕ) {first next slots : ℕ → ℕ} (front : (j : ℕ) → j < n
             rw e (b.marked i (omega arith) (rw e at s)));
         kept = λ s e. b.kept s (a.kept s e);
         few = omega (arith, a.few, b.few);
-        below = b.below;
       }
 
 -- ---- a slot that is not marked
 
-free_from : (k f used unused : ℕ) → used + unused + 1 ≡ 2 ^ k → k ≤ f → 0 < unused
-    → (count_trailing_zeros f unused < k) × (used / 2 ^ count_trailing_zeros f unused % 2 ≡ 0)
-unfolding count_trailing_zeros
-free_from zero f used unused e l p = absurd (omega arith)
-free_from (suc k) zero used unused e l p = absurd (omega arith)
-free_from (suc k) (suc f) used unused e l p = go (unused % 2) refl (λ x y. free_from k f (used / 2) (unused / 2) x (omega arith) y)
-  where
-    go : (r : ℕ) → unused % 2 ≡ r
-        → (used / 2 + unused / 2 + 1 ≡ 2 ^ k → 0 < unused / 2 → (count_trailing_zeros f (unused / 2) < k) × (used / 2 / 2 ^ count_trailing_zeros f (unused / 2) % 2 ≡ 0))
-        → (under r (count_trailing_zeros f (unused / 2)) < suc k) × (used / 2 ^ under r (count_trailing_zeros f (unused / 2)) % 2 ≡ 0)
-    go zero q ih =
-        let z = pow-succ' 2 k in
-        let t = ih (omega arith) (omega arith) in (omega (arith, t.0), omega (arith, t.1, half (count_trailing_zeros f (unused / 2)) used))
-    go (suc zero) q ih = let z = pow-succ' 2 k in (omega arith, omega arith)
-    go (suc (suc r)) q ih = absurd (omega arith)
-
-pub zeros_fit : (n : ℕ) → Fits w64 (count_trailing_zeros 64 n)
-zeros_fit n = omega (arith, trailing_le 64 n)
-
--- of all slots with fewer marked
-pub free_is : (used unused : ℕ) → used < 2 ^ texts_limit → length (bits_of used) < texts_limit → used + unused + 1 ≡ 2 ^ texts_limit
-    → (count_trailing_zeros 64 unused < texts_limit) × (bit (count_trailing_zeros 64 unused) used ≡ false)
-free_is used unused h few e =
-    let some : 0 < unused = case_eq unused 0 (λ z. absurd (let full : used ≡ 2 ^ texts_limit - 1 = omega arith in omega (arith, bits-length used (omega arith), ap ones full, ones-ones texts_limit))) (λ n. omega arith) in
-    let t = free_from texts_limit 64 used unused e (omega arith) some in (t.0, ne_eqb (used / 2 ^ count_trailing_zeros 64 unused % 2) 1 (λ z. omega (arith, t.1)))
+-- a mask with fewer slots than there are lacks one below `texts_limit`: the place of its lowest 0
+pub free_is : (used : ℕ) → used < 2 ^ texts_limit → length (bits_of used) < texts_limit
+    → (trailing_ones w32 used < texts_limit) × (bit (trailing_ones w32 used) used ≡ false)
+free_is used h few =
+    let some : used + 1 < 2 ^ texts_limit = case_eq used (2 ^ texts_limit - 1) (λ z. absurd (omega (arith, bits-length used (omega arith), ap ones z, ones-ones texts_limit))) (λ n. omega arith) in
+    let t = bit_at-trailing_ones w32 used some in
+    (t.0, ne_eqb (used / 2 ^ trailing_ones w32 used % 2) 1 (λ z. omega (arith, t.1)))

@@ -1,5 +1,5 @@
 -- What a pass over the requests tells of the session. Assumes nothing.
-use Prim.Native.Nat.{ℕ, zero, suc, ◌+◌, ◌-◌, ◌*◌, ◌^◌, ◌≤◌, ◌<◌}
+use Prim.Native.Nat.{ℕ, zero, suc, ◌+◌, ◌-◌, ◌*◌, ◌≤◌, ◌<◌}
 use mathlib.Core.Path.{◌≡◌, refl, sym, ap, ap₂, subst, ◌∙◌}
 use mathlib.Core.Bool.{Bool, true, false, cond, false≢true}
 use mathlib.Core.List.{List, [], ◌∷◌, ◌++◌}
@@ -90,12 +90,11 @@ module _ (c w : List ℕ) (r : List Float) where
     pub most : live.count ≤ pending_limit * k
     pub marked : (i j : ℕ) → i < k → j < (core_at c i).pending → pending_slots i j < texts_limit → bit (pending_slots i j) live.used ≡ true
     pub few : length (bits_of live.used) ≤ live.count
-    pub below : live.used < 2 ^ texts_limit
 
   pub passed_none : Passed 0 (record { count = 0; used = 0 })
   unfolding tab devices_texts
   passed_none =
-      record { count = λ ts. refl; most = omega arith; marked = λ i j l. absurd (omega arith); few = rw bits_none (omega arith); below = omega arith }
+      record { count = λ ts. refl; most = omega arith; marked = λ i j l. absurd (omega arith); few = rw bits_none (omega arith) }
 
   device-texts : (ts : List ℕ) (k : ℕ) → pending_texts (device_in c (row_at w r) ts k).pending ≡ texts_among (core_at c k).pending (pending_slots k)
   unfolding device_in
@@ -120,7 +119,6 @@ module _ (c w : List ℕ) (r : List Float) where
             (λ a b. q.marked j (omega (arith, a)) b) m s)
             (λ ne. q.kept (pending_slots i j) (p.marked i j (omega arith) m s));
         few = omega (arith, p.few, q.few);
-        below = q.below;
       }
 
   -- the queue's two runs of rows: from the head to the ring's end, and from its start
@@ -161,5 +159,4 @@ module _ (c w : List ℕ) (r : List Float) where
                   (subst (λ (h : ℕ). queue_slots h j < texts_limit → bit (queue_slots h j) later.used ≡ true) eh (λ b. q.marked j (omega arith) b) (omega arith)) z e;
             };
         few = omega (arith, p.few, q.few);
-        below = q.below;
       }

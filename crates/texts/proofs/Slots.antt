@@ -1,18 +1,16 @@
 -- The texts in their slots: one that is put there is read there, and leaves the others. Assumes nothing.
 use Prim.Native.Nat.{ℕ, ◌+◌, ◌*◌, ◌%◌, ◌≤◌, ◌<◌}
-use mathlib.Core.Path.{◌≡◌, refl, sym, ap, ap₂, ◌∙◌}
+use mathlib.Core.Path.{◌≡◌, refl, sym, ap, ◌∙◌}
 use mathlib.Core.Bool.{true}
 use mathlib.Core.List.{List, [], ◌∷◌, map}
 use mathlib.Core.Logic.{dite}
 use native.Mathlib.Decide.{dec_lt}
 use native.Mathlib.Nat.{mod-eq_of_lt}
-use native.Mathlib.Numerals.{add-one}
 use native.Mathlib.Omega.{arith}
 use borrow.Author.Tests.{le-leb, leb-true}
 use lib.Dec.{leb}
 use lib.Ieee.{Float}
-use lib.ListN.{length, get_or, take, drop, set, length-drop, get_or-map, get_or-eq_default}
-use lib.Seq.{take_all, take-suc, length-take-le, get_or-take, get_or-drop}
+use lib.ListN.{length, get_or, take, drop, set, get_or-map, get_or-eq_default}
 use Rattle.eiproto.specs.Bits.{every}
 use Rattle.eiproto.proofs.Bits.{every_at}
 use Rattle.requests.specs.declared.cell.Cell.{Cell}
@@ -28,46 +26,7 @@ use Rattle.session.specs.Enact.{Enacted}
 use Rattle.session.proofs.Views.{device_ext, queue_ext, session_ext}
 use Rattle.texts.specs.Texts.{text_length_limit}
 use Rattle.wire.specs.Bits.{splice}
-use Rattle.wire.proofs.Splices.{splice-none, length-splice, splice_front, splice-splice, splice_here, splice-before, splice-behind}
-
--- ---- a text byte by byte
-
--- one byte more behind those that are put
-pub put_step : {mid : List ℕ} (out xs : List ℕ) (at i : ℕ) → mid ≡ splice out at (take i xs) → i < length xs → at + length xs ≤ length out
-    → set mid (at + i) (get_or xs i 0) ≡ splice out at (take (i + 1) xs)
-put_step {mid} out xs at i e h fits =
-    let b = get_or xs i 0 in
-    let n : length (take i xs) ≡ i = length-take-le i xs (omega arith) in
-    let long : length mid ≡ length out = ap length e ∙ length-splice out at (take i xs) (omega arith) in
-    ap (λ (l : List ℕ). set l (at + i) b) (sym (splice-none mid (at + i + 1)))
-    ∙ splice_front mid (at + i) (at + i + 1) b [] refl (omega arith)
-    ∙ ap₂ (λ (l : List ℕ) (k : ℕ). splice l (at + k) (b ∷ [])) e (sym n)
-    ∙ splice-splice out at (take i xs) (b ∷ []) (omega arith)
-    ∙ ap (splice out at) (rw add-one (sym (take-suc xs i 0 h)))
-
--- n bytes from a place on
-unfoldable pub part : List ℕ → (at n : ℕ) → List ℕ
-part l at n = take n (drop at l)
-
-part_length : (l : List ℕ) (at n : ℕ) → at + n ≤ length l → length (part l at n) ≡ n
-unfolding part
-part_length l at n h = length-take-le n (drop at l) (let e = length-drop at l in omega arith)
-
-part-byte : (l : List ℕ) (at n i : ℕ) → i < n → get_or (part l at n) i 0 ≡ get_or l (at + i) 0
-unfolding part
-part-byte l at n i h = get_or-take n (drop at l) i 0 h ∙ get_or-drop at l i 0
-
--- the same of a part that is copied to the front
-module _ {mid : List ℕ} (out from : List ℕ) (at n i : ℕ) (e : mid ≡ splice out 0 (take i (part from at n))) (source : at + n ≤ length from) where
-  pub copy_step : n ≤ length out → i < n → set mid i (get_or from (at + i) 0) ≡ splice out 0 (take (i + 1) (part from at n))
-  copy_step room h =
-      let long = part_length from at n source in
-      let place : i ≡ 0 + i = omega arith in
-      ap₂ (set mid) place (sym (part-byte from at n i h)) ∙ put_step out (part from at n) 0 i e (omega arith) (omega arith)
-
-  pub copy_end : n ≤ i → mid ≡ splice out 0 (take n (drop at from))
-  unfolding part
-  copy_end h = e ∙ ap (splice out 0) (take_all i (take n (drop at from)) (let long = part_length from at n source in omega arith))
+use Rattle.wire.proofs.Splices.{splice-none, splice_front, splice_here, splice-before, splice-behind}
 
 -- ---- the texts of the rows
 

@@ -1,5 +1,5 @@
 -- Which slots of the texts are in use. There is no mark for it: a slot is in use while a pending or queued request has its text there. Assumes nothing.
-use Rattle.std.specs.Prelude.{ℕ, zero, suc, ◌+◌, ◌*◌, ◌^◌, ◌≤◌, ◌<◌, ◌≡◌, true, false, cond, List, [], ◌∷◌, ltb, Float, length}
+use Rattle.std.specs.Prelude.{ℕ, zero, suc, ◌+◌, ◌*◌, ◌≤◌, ◌<◌, ◌≡◌, true, false, cond, List, [], ◌∷◌, ltb, Float, length}
 use Rattle.eiproto.specs.Bits.{bit, bits_of}
 use Rattle.requests.specs.Row.{texts_limit, row_at}
 use Rattle.wire.specs.Bits.{splice}
@@ -23,7 +23,6 @@ pub record Scannable (words : List ℕ) (reals : List Float) (row n : ℕ) (live
   pub reals_long : length reals ≡ reals_length
   pub rows : row + n ≤ row_count
   pub count : live.count + n ≤ row_count
-  pub below : live.used < 2 ^ texts_limit
 
 -- the pass over n requests more, whose texts lie in these slots: what was told before, and what is told after
 pub record Counted (live later : LiveTexts) (n : ℕ) (slots : ℕ → ℕ) : Type 0 where
@@ -33,7 +32,6 @@ pub record Counted (live later : LiveTexts) (n : ℕ) (slots : ℕ → ℕ) : Ty
   pub kept : (slot : ℕ) → bit slot live.used ≡ true → bit slot later.used ≡ true
   -- no more slots are marked than texts are counted
   pub few : length (bits_of later.used) + live.count ≤ length (bits_of live.used) + later.count
-  pub below : later.used < 2 ^ texts_limit
 
 -- the first n of the queue stand in rows that follow each other, and all do unless these are the ring's last
 pub record FirstRun (head queued n : ℕ) : Type 0 where
@@ -48,7 +46,6 @@ pub record Live (c w : List ℕ) (r : List Float) (live : LiveTexts) : Type 0 wh
   pub free : (slot : ℕ) → slot < texts_limit → bit slot live.used ≡ false → Free c (row_at w r) slot
   -- no more slots are in use than there are texts
   pub few : length (bits_of live.used) ≤ live.count
-  pub below : live.used < 2 ^ texts_limit
 
 -- the most bytes of a text: "above 254" is refused
 abbrev pub text_length_limit : ℕ

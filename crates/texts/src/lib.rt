@@ -17,49 +17,39 @@ use session::{QUEUE_START, SLOT_LENGTH};
 // The most bytes of a text, a name or an explanation: "above 254" is refused.
 pub const TEXT_LENGTH_LIMIT: usize = 254;
 
-// A bit for each slot.
-const ALL_SLOTS: u64 = 4294967295;
-
-// How many texts pending and queued requests have, and the slots that they lie in, as a mask.
-#[derive(Clone, Copy)]
+// How many texts pending and queued requests have, and the slots that they lie in, as a mask with a bit for each slot.
+#[derive(Clone, Copy, Debug, PartialEq, Eq)]
 pub struct LiveTexts {
     pub count: usize,
-    pub used: u64,
+    pub used: u32,
 }
 
-// One request more, with its text's slot, or `NO_SLOT`. Texts are counted, not slots: only damage makes two of them share one.
-fn counted(live: LiveTexts, slot: usize) -> LiveTexts
-    requires { (live.count < row_count) × (live.used < 2 ^ texts_limit) }
-    ensures { Counted live result 1 (λ j. slot) }
-{
-    if TEXTS_LIMIT <= slot {
-        return live;
+impl LiveTexts {
+    // One request more, with its text's slot, or `NO_SLOT`. Texts are counted, not slots: only damage makes two of them share one.
+    fn with_request(self, slot: usize) -> LiveTexts
+        requires { self.count < row_count }
+        ensures { Counted self result 1 (λ j. slot) }
+    {
+        if TEXTS_LIMIT <= slot {
+            return self;
+        }
+        LiveTexts {
+            count: self.count + 1,
+            used: self.used | (1 << slot),
+        }
     }
-    let place = slot as u32;
-    if control::has_bit(live.used, place) {
-        return LiveTexts {
-            count: live.count + 1,
-            used: live.used,
-        };
-    }
-    LiveTexts {
-        count: live.count + 1,
-        used: live.used + (1u64 << place),
-    }
-}
 
-// With the requests of n rows from `row` on.
-fn texts_in(words: &[u64], reals: &[f32], row: usize, n: usize, start: LiveTexts) -> LiveTexts
-    requires { Scannable words.now reals.now row n start }
-    ensures { Counted start result n (λ j. (row_at words.now reals.now (row + j)).slot) }
-{
-    let mut live = start;
-    let mut j: usize = 0;
-    while j < n {
-        live = counted(live, row::load_slot(words, reals, row + j));
-        j += 1;
+    // With the requests of n rows from `row` on.
+    fn with_rows(self, words: &[u64], reals: &[f32], row: usize, n: usize) -> LiveTexts
+        requires { Scannable words.now reals.now row n self }
+        ensures { Counted self result n (λ j. (row_at words.now reals.now (row + j)).slot) }
+    {
+        let mut live = self;
+        for j in 0..n {
+            live = live.with_request(row::load_slot(words, reals, row + j));
+        }
+        live
     }
-    live
 }
 
 // How many of the queued requests stand from the head of the ring to its end; the others stand at its start.
@@ -67,8 +57,7 @@ fn to_the_end(head: usize, queued: usize) -> usize
     requires { head < queue_limit }
     ensures { FirstRun head queued result }
 {
-    let rows = QUEUE_LIMIT - head;
-    if queued < rows { queued } else { rows }
+    queued.min(QUEUE_LIMIT - head)
 }
 
 // The texts that are live, by one pass over the pending and queued requests.
@@ -76,13 +65,10 @@ pub fn live_texts(control: &[u64], words: &[u64], reals: &[f32]) -> LiveTexts
     requires { Lent control.now words.now reals.now }
     ensures { Live control.now words.now reals.now result }
 {
-    let devices = control::device_count(control);
     let mut live = LiveTexts { count: 0, used: 0 };
-    let mut k: usize = 0;
-    while k < devices {
+    for k in 0..control::device_count(control) {
         let n = control::pending_count(control, k);
-        live = texts_in(words, reals, PENDING_LIMIT * k, n, live);
-        k += 1;
+        live = live.with_rows(words, reals, PENDING_LIMIT * k, n);
     }
     let queued = control::queue_length(control);
     if queued == 0 {
@@ -90,17 +76,16 @@ pub fn live_texts(control: &[u64], words: &[u64], reals: &[f32]) -> LiveTexts
     }
     let head = control::queue_head(control);
     let n = to_the_end(head, queued);
-    live = texts_in(words, reals, QUEUE_START + head, n, live);
-    texts_in(words, reals, QUEUE_START, queued - n, live)
+    live.with_rows(words, reals, QUEUE_START + head, n)
+        .with_rows(words, reals, QUEUE_START, queued - n)
 }
 
 // The lowest slot that is not in use: with fewer bits set than there are slots there is one.
-pub fn free_slot(used: u64) -> usize
-    requires { (used < 2 ^ texts_limit) × (length (bits_of used) < texts_limit) }
+pub fn free_slot(used: u32) -> usize
+    requires { length (bits_of used) < texts_limit }
     ensures { (result < texts_limit) × (bit result used ≡ false) }
 {
-    let unused = ALL_SLOTS - used;
-    u64::trailing_zeros(unused) as usize
+    used.trailing_ones() as usize
 }
 
 // Puts a text in a slot.
@@ -109,11 +94,7 @@ fn put_text(texts: &mut [u8], slot: usize, text: &[u8])
     ensures { texts.new ≡ splice texts.old (slot_length * slot) text.now }
 {
     let at = SLOT_LENGTH * slot;
-    let mut i: usize = 0;
-    while i < text.len() {
-        texts[at + i] = text[i];
-        i += 1;
-    }
+    texts[at..at + text.len()].copy_from_slice(text);
 }
 
 // A text more in the pending list of the device in slot k, in a slot that is free. No other byte of the texts is written.
@@ -141,9 +122,5 @@ pub fn copy_text(texts: &[u8], slot: usize, n: usize, buffer: &mut [u8])
     ensures { buffer.new ≡ splice buffer.old 0 (take n (drop (slot_length * slot) texts.now)) }
 {
     let at = SLOT_LENGTH * slot;
-    let mut i: usize = 0;
-    while i < n {
-        buffer[i] = texts[at + i];
-        i += 1;
-    }
+    buffer[..n].copy_from_slice(&texts[at..at + n]);
 }

@@ -1,5 +1,4 @@
 -- Five writers, each where the one before it ended. Assumes nothing.
-use Rattle.std.proofs.Common.{rules}
 use Rattle.events.proofs.NewDevice.{device-room, name-room, type-room, interfaces-room, done-room, device-sends}
 use Rattle.events.proofs.announce_device.Goals as goal
 

@@ -1,5 +1,4 @@
 -- Four writers, each where the one before it ended. Assumes nothing.
-use Rattle.std.proofs.Common.{rules}
 use Rattle.events.proofs.NewSeat.{seat-room, name-room, capabilities-room, done-room, seat-sends}
 use Rattle.events.proofs.announce_seat.Goals as goal
 

@@ -1,5 +1,5 @@
 -- The devices, then the seat. Assumes nothing.
-use Rattle.std.proofs.Common.{arith, rules}
+use Rattle.std.proofs.Common.{arith}
 use Rattle.events.specs.Events.{bare_devices}
 use Rattle.events.proofs.Writes.{destroys_join}
 use Rattle.events.proofs.Objects.{seat_is, seat-more}
@@ -14,9 +14,6 @@ pub destroy-requires : goal.destroy-requires
 destroy-requires c =
     let a = c.args in
     omega (arith, c.requires.1, c.destroy_devices-after_devices.auto.out, c.destroy_devices-after_devices.ensures.at, seat-more a.seat (bare_devices a.control.now))
-
-pub shape_of-out : goal.shape_of-out
-shape_of-out c = search rules
 
 pub returns : goal.returns
 returns c =

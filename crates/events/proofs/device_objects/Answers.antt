@@ -1,5 +1,5 @@
 -- One for each interface that is listed, and the device. Assumes nothing.
-use Rattle.std.proofs.Common.{arith, rules}
+use Rattle.std.proofs.Common.{arith}
 use Rattle.control.proofs.Interfaces.{listed_small}
 use Rattle.events.proofs.Objects.{objects-length, bits_most}
 use Rattle.events.proofs.device_objects.Goals as goal

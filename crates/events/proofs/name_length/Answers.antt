@@ -1,12 +1,13 @@
 -- A name event is ten bytes and the name. Assumes nothing.
-use Rattle.std.proofs.Common.{sym, ◌∙◌, arith, rules}
-use Rattle.events.proofs.Named.{none-length, given-length, name_length_lem}
+use Rattle.std.proofs.Common.{sym, ap, ◌∙◌, arith}
+use Rattle.session.specs.Slices.{given}
+use Rattle.events.proofs.Named.{none-length, given-length}
 use Rattle.events.proofs.name_length.Goals as goal
 
-pub returns-then-given : goal.returns-then-given
-returns-then-given c =
-    (λ object. c.record_length.ensures ∙ sym (given-length c.args.given c.args.name.now object c.if-given.true), omega (arith, c.record_length.ensures, name_length_lem c.args.name.now))
+pub returns-in-Some : goal.returns-in-Some
+returns-in-Some c =
+    (λ object. c.named_length.ensures.0 ∙ sym (given-length object c.in-Some.name.now (ap given c.in-Some.is)), c.named_length.ensures.1)
 
-pub returns-else-given : goal.returns-else-given
-returns-else-given c =
-    (λ object. sym (none-length c.args.given c.args.name.now object c.if-given.false), omega arith)
+pub returns-in-None : goal.returns-in-None
+returns-in-None c =
+    (λ object. sym (none-length object (ap given c.in-None.is)), omega arith)

@@ -1,5 +1,5 @@
 -- One record, where there is room for it. Assumes nothing.
-use Rattle.std.proofs.Common.{arith, rules}
+use Rattle.std.proofs.Common.{arith}
 use Rattle.events.proofs.Writes.{one_length, sends_one}
 use Rattle.events.proofs.send.Goals as goal
 

@@ -7,7 +7,6 @@ use Rattle.model.specs.Edit.{Edit}
 use Rattle.session.specs.View.{store}
 use Rattle.session.specs.Enact.{Enacted}
 use Rattle.texts.proofs.Slots.{text-pended}
-use borrow.Author.Rules.{rules}
 use Rattle.texts.proofs.pend_text.Goals as goal
 
 pub returns : goal.returns
