@@ -1,9 +1,10 @@
 -- What a call answers, as numbers. Assumes nothing.
-use Rattle.std.specs.Prelude.{ℕ, cond}
+use Rattle.std.specs.Prelude.{ℕ, cond, Option, Some, None, Result, Ok, Err}
 use Rattle.model.specs.Plan as plan
 use Rattle.answers.specs.Answer.{number_of}
+use Rattle.answers.specs.declared.Error.{Error}
 use Rattle.answers.specs.declared.Outcome.{Outcome}
-use Rattle.reads.specs.declared.First.{First}
+use Rattle.answers.specs.declared.Answer.{Answer}
 use Rattle.answer_numbers.specs.declared.RefusedVersion.{RefusedVersion}
 
 -- no refusal: nothing is queued, or the interface was not negotiated
@@ -32,30 +33,37 @@ invalid_id_number = 25
 abbrev pub unsendable_number : ℕ
 unsendable_number = 26
 
--- what a function answers: the number of the refusal, 0 where there is none
-abbrev pub status_of : Outcome → ℕ
-status_of Outcome.Accepted = 0
-status_of (Outcome.Refused e) = number_of e
-status_of (Outcome.Seat id) = 0
-status_of (Outcome.Device id) = 0
-status_of (Outcome.Value n) = 0
-status_of (Outcome.Truth b) = 0
-status_of Outcome.None = none_number
+-- what a function answers where it is not refused
+abbrev pub ending_status : Outcome → ℕ
+ending_status Outcome.Accepted = 0
+ending_status (Outcome.Seat id) = 0
+ending_status (Outcome.Device id) = 0
+ending_status (Outcome.Value n) = 0
+ending_status (Outcome.Truth b) = 0
+ending_status Outcome.None = none_number
 
--- the id, the number or the truth that a call answers; 0 where there is none
-abbrev pub value_of : Outcome → ℕ
-value_of Outcome.Accepted = 0
-value_of (Outcome.Refused e) = 0
-value_of (Outcome.Seat id) = id
-value_of (Outcome.Device id) = id
-value_of (Outcome.Value n) = n
-value_of (Outcome.Truth b) = cond b 1 0
-value_of Outcome.None = 0
+-- what a function answers: the number of the refusal, 0 where there is none
+abbrev pub status_of : Result Answer Error → ℕ
+status_of (Ok a) = ending_status a.outcome
+status_of (Err e) = number_of e
+
+-- the id, the number or the truth that is answered; 0 where there is none
+abbrev pub ending_value : Outcome → ℕ
+ending_value Outcome.Accepted = 0
+ending_value (Outcome.Seat id) = id
+ending_value (Outcome.Device id) = id
+ending_value (Outcome.Value n) = n
+ending_value (Outcome.Truth b) = cond b 1 0
+ending_value Outcome.None = 0
+
+abbrev pub value_of : Result Answer Error → ℕ
+value_of (Ok a) = ending_value a.outcome
+value_of (Err e) = 0
 
 -- a read is answered as a call is, by its first refusal
-abbrev pub first_outcome : First → Outcome
-first_outcome First.None = Outcome.Accepted
-first_outcome (First.Refused e) = Outcome.Refused e
+abbrev pub first_outcome : Option Error → Result Answer Error
+first_outcome None = Ok (record { outcome = Outcome.Accepted; count = 0 })
+first_outcome (Some e) = Err e
 
 abbrev pub no_version : RefusedVersion
 no_version = record { interface = 0; version = 0 }

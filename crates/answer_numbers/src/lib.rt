@@ -2,11 +2,10 @@
 #![tactic(auto)]
 
 ghost use Rattle.std.specs.Prelude.{◌≡◌};
-ghost use Rattle.answers.specs.Answer.{error_of, outcome_of};
-ghost use Rattle.answer_numbers.specs.Numbers.{status_of, value_of, first_outcome, no_version, version_in};
+ghost use Rattle.answers.specs.Answer.{error_of, outcome_of, count_of};
+ghost use Rattle.answer_numbers.specs.Numbers.{ending_status, status_of, ending_value, value_of, first_outcome, no_version, version_in};
 
-use answers::{Error, Outcome};
-use reads::First;
+use answers::{Answer, Error, Outcome};
 
 // Not a refusal: nothing is queued, or the interface was not negotiated.
 pub const NONE: u32 = 64;
@@ -27,47 +26,69 @@ pub const INVALID_ID: u32 = 25;
 // The refusal that a record to be sent alone meets.
 pub const UNSENDABLE: u32 = 26;
 
-pub fn status(outcome: Outcome) -> u32
-    ensures { result ≡ status_of outcome }
+pub fn status(answer: Result<Answer, Error>) -> u32
+    ensures { result ≡ status_of answer }
+{
+    match answer {
+        Ok(answer) => ending_status(answer.outcome),
+        Err(error) => error.number(),
+    }
+}
+
+fn ending_status(outcome: Outcome) -> u32
+    ensures { result ≡ ending_status outcome }
 {
     match outcome {
-        Outcome::Accepted => 0,
-        Outcome::Refused(error) => error.number(),
-        Outcome::Seat(_) => 0,
-        Outcome::Device(_) => 0,
-        Outcome::Value(_) => 0,
-        Outcome::Truth(_) => 0,
         Outcome::None => NONE,
+        _ => 0,
+    }
+}
+
+// How many bytes of events were written: none by a call that is refused.
+pub fn count(answer: Result<Answer, Error>) -> usize
+    ensures { result ≡ count_of answer }
+{
+    match answer {
+        Ok(answer) => answer.count,
+        Err(_) => 0,
     }
 }
 
 // The id, the number or the truth that is answered; 0 where there is none.
-pub fn value(outcome: Outcome) -> u64
-    ensures { result ≡ value_of outcome }
+pub fn value(answer: Result<Answer, Error>) -> u64
+    ensures { result ≡ value_of answer }
+{
+    match answer {
+        Ok(answer) => ending_value(answer.outcome),
+        Err(_) => 0,
+    }
+}
+
+fn ending_value(outcome: Outcome) -> u64
+    ensures { result ≡ ending_value outcome }
 {
     match outcome {
         Outcome::Accepted => 0,
-        Outcome::Refused(_) => 0,
         Outcome::Seat(id) => id,
         Outcome::Device(id) => id,
-        Outcome::Value(n) => n as u64,
-        Outcome::Truth(b) => b as u64,
+        Outcome::Value(n) => u64::from(n),
+        Outcome::Truth(b) => u64::from(b),
         Outcome::None => 0,
     }
 }
 
-// The first refusal of a read as the outcome of one call.
-pub fn first_outcome(first: First) -> Outcome
-    ensures { result ≡ first_outcome first }
+// A read by its first refusal, as the answer of one call.
+pub fn first_outcome(refusal: Option<Error>) -> Result<Answer, Error>
+    ensures { result ≡ first_outcome refusal }
 {
-    match first {
-        First::None => Outcome::Accepted,
-        First::Refused(error) => Outcome::Refused(error),
+    match refusal {
+        None => Ok(Answer::accepted()),
+        Some(error) => Err(error),
     }
 }
 
 // What refusal 2 tells besides its number; 0 at any other outcome.
-#[derive(Clone, Copy)]
+#[derive(Clone, Copy, Debug, PartialEq, Eq)]
 pub struct RefusedVersion {
     pub interface: u32,
     pub version: u32,
@@ -85,43 +106,21 @@ fn no_version() -> RefusedVersion
 fn version_in(error: Error) -> RefusedVersion
     ensures { result ≡ version_in (error_of error) }
 {
-    match error {
-        Error::InvalidInterfaceVersion { interface, version } => RefusedVersion {
-            interface: interface as u32,
+    if let Error::InvalidInterfaceVersion { interface, version } = error {
+        RefusedVersion {
+            interface: u32::from(interface),
             version,
-        },
-        Error::UnexpectedHandshakeEvent => no_version(),
-        Error::InvalidCapabilities => no_version(),
-        Error::TooManyTouches => no_version(),
-        Error::DuplicatedTouchDown => no_version(),
-        Error::InvalidTextLength => no_version(),
-        Error::BadUtf8 => no_version(),
-        Error::NameLong => no_version(),
-        Error::UnknownHandle => no_version(),
-        Error::BadCapabilities => no_version(),
-        Error::FullSeats => no_version(),
-        Error::FullDevices => no_version(),
-        Error::FullPending => no_version(),
-        Error::FullQueue => no_version(),
-        Error::FullTexts => no_version(),
-        Error::ShortOut => no_version(),
-        Error::IdsSpent => no_version(),
-        Error::BadState => no_version(),
-        Error::BadPart => no_version(),
-        Error::InvalidId => no_version(),
+        }
+    } else {
+        no_version()
     }
 }
 
-pub fn refused_version(outcome: Outcome) -> RefusedVersion
-    ensures { result ≡ version_in (outcome_of outcome) }
+pub fn refused_version(answer: Result<Answer, Error>) -> RefusedVersion
+    ensures { result ≡ version_in (outcome_of answer) }
 {
-    match outcome {
-        Outcome::Refused(error) => version_in(error),
-        Outcome::Accepted => no_version(),
-        Outcome::Seat(_) => no_version(),
-        Outcome::Device(_) => no_version(),
-        Outcome::Value(_) => no_version(),
-        Outcome::Truth(_) => no_version(),
-        Outcome::None => no_version(),
+    match answer {
+        Ok(_) => no_version(),
+        Err(error) => version_in(error),
     }
 }

@@ -20,7 +20,8 @@ use Rattle.control.specs.Sound.{Sound, is_sound}
 use Rattle.session.specs.View.{Store, store, session, is_lent, is_whole, Whole, Lending, is_intact}
 use Rattle.session.specs.Enact.{Enacted}
 use Rattle.session.proofs.Views.{whole_parts, whole_intact}
-use Rattle.answers.specs.Answer.{error_of, outcome_of}
+use Rattle.std.specs.Prelude.{Result, Ok, Err}
+use Rattle.answers.specs.Answer.{error_of, ending_of, outcome_of, count_of, Tells}
 use Rattle.answers.specs.declared.Error.{Error}
 use Rattle.answers.specs.declared.Outcome.{Outcome}
 use Rattle.answers.specs.declared.Answer.{Answer}
@@ -28,8 +29,8 @@ use Rattle.answers.specs.Texts.{TextsAfter}
 use Rattle.answers.specs.Meets.{Meets, turn, Handled, HandledRows, HandledControl, Answered}
 
 -- nothing changed, nothing written
-pub meets-unchanged : (s : Store) (out : List ℕ) {call : Call Input} (to : Step Load) (o : plan.Result) (r : Answer) → Whole s → to ≡ unchanged (session s) o
-    → outcome_of r.outcome ≡ o → r.count ≡ 0 → Meets s s out out (TextsAfter s s call) to r
+pub meets-unchanged : (s : Store) (out : List ℕ) {call : Call Input} (to : Step Load) (o : plan.Result) (r : Result Answer Error) → Whole s → to ≡ unchanged (session s) o
+    → outcome_of r ≡ o → count_of r ≡ 0 → Meets s s out out (TextsAfter s s call) to r
 unfolding unchanged records
 meets-unchanged s out to o r w e told none =
     record {
@@ -43,8 +44,8 @@ meets-unchanged s out to o r w e told none =
     }
 
 -- a plan that was carried out
-pub meets-done : (s e : Store) (out later : List ℕ) {T : Type 0} (to : Step Load) (p : Plan) (load : Load) (r : Answer) → Whole e → to ≡ carried_out p load (session s)
-    → Enacted s e p.edits load → refuses p.outcome ≡ false → outcome_of r.outcome ≡ p.outcome → r.count ≡ length (records p.events)
+pub meets-done : (s e : Store) (out later : List ℕ) {T : Type 0} (to : Step Load) (p : Plan) (load : Load) (r : Result Answer Error) → Whole e → to ≡ carried_out p load (session s)
+    → Enacted s e p.edits load → refuses p.outcome ≡ false → outcome_of r ≡ p.outcome → count_of r ≡ length (records p.events)
     → later ≡ splice out 0 (records p.events) → T → Meets s e out later T to r
 unfolding carried_out
 meets-done s e out later to p load r w is done fine told count bytes texts =
@@ -65,58 +66,66 @@ failed {b} e h = sym e ∙ not-true b h
 pub passed : {b x : Bool} → b ≡ x → not b ≡ false → x ≡ true
 passed {b} e h = sym e ∙ not-false b h
 
+-- an answer that a call gives where it is not refused
+pub ends : {a : Answer} {o : Outcome} {n : ℕ} → (a.outcome ≡ o) × (a.count ≡ n) → Tells (Ok a) (ending_of o) n
+ends told = (ap ending_of told.0, told.1)
+
+-- a refusal
+pub refused_is : {r : Result Answer Error} {e : Error} → r ≡ Err e → Tells r (error_of e) 0
+refused_is is = (ap outcome_of is, ap count_of is)
+
 -- 21, and what follows where it does not apply
-pub damaged-answered : {l : Lending} {s : Store} {out : List ℕ} {call : Call Input} {clock : ℕ} {r : Answer} → is_intact l s ≡ false
-    → (r.outcome ≡ Outcome.Refused Error.BadState) × (r.count ≡ 0) → Answered l s s out out call clock r
+pub damaged-answered : {l : Lending} {s : Store} {out : List ℕ} {call : Call Input} {clock : ℕ} {r : Result Answer Error} → is_intact l s ≡ false
+    → r ≡ Err Error.BadState → Answered l s s out out call clock r
 damaged-answered d e = record { damaged = λ _. (e, (refl, refl)); handled = λ w. absurd (false≢true (sym d ∙ w)) }
 
-pub intact_answered : {l : Lending} {s e : Store} {out later : List ℕ} {call : Call Input} {clock : ℕ} {r : Answer} → is_intact l s ≡ true
+pub intact_answered : {l : Lending} {s e : Store} {out later : List ℕ} {call : Call Input} {clock : ℕ} {r : Result Answer Error} → is_intact l s ≡ true
     → (Whole s → Handled s e out later call clock r) → Answered l s e out later call clock r
 intact_answered w h = record { damaged = λ d. absurd (false≢true (sym d ∙ w)); handled = λ _. h }
 
 -- the same by what a call is lent: the control words, or the rows of requests too
-pub unsound_answered : {c out : List ℕ} {call : Call Input} {clock : ℕ} {r : Answer} → is_sound c ≡ false
-    → (r.outcome ≡ Outcome.Refused Error.BadState) × (r.count ≡ 0)
+pub unsound_answered : {c out : List ℕ} {call : Call Input} {clock : ℕ} {r : Result Answer Error} → is_sound c ≡ false
+    → r ≡ Err Error.BadState
     → (w : List ℕ) (q : List Float) (t : List ℕ) → Answered Lending.control (store c w q t) (store c w q t) out out call clock r
 unfolding is_intact
 unsound_answered d e w q t = damaged-answered d e
 
-pub sound-answered : {c d out later : List ℕ} {call : Call Input} {clock : ℕ} {r : Answer} → is_sound c ≡ true → HandledControl c d out later call clock r
+pub sound-answered : {c d out later : List ℕ} {call : Call Input} {clock : ℕ} {r : Result Answer Error} → is_sound c ≡ true → HandledControl c d out later call clock r
     → (w : List ℕ) (q : List Float) (t : List ℕ) → Answered Lending.control (store c w q t) (store d w q t) out later call clock r
 unfolding is_intact
 sound-answered i h w q t = intact_answered i (h w q t)
 
-pub unlent_answered : {c w : List ℕ} {q : List Float} {out : List ℕ} {call : Call Input} {clock : ℕ} {r : Answer} → is_lent c w q ≡ false
-    → (r.outcome ≡ Outcome.Refused Error.BadState) × (r.count ≡ 0)
+pub unlent_answered : {c w : List ℕ} {q : List Float} {out : List ℕ} {call : Call Input} {clock : ℕ} {r : Result Answer Error} → is_lent c w q ≡ false
+    → r ≡ Err Error.BadState
     → (t : List ℕ) → Answered Lending.rows (store c w q t) (store c w q t) out out call clock r
 unfolding is_intact
 unlent_answered d e t = damaged-answered d e
 
-pub lent-answered : {c w d v : List ℕ} {q p : List Float} {out later : List ℕ} {call : Call Input} {clock : ℕ} {r : Answer} → is_lent c w q ≡ true
+pub lent-answered : {c w d v : List ℕ} {q p : List Float} {out later : List ℕ} {call : Call Input} {clock : ℕ} {r : Result Answer Error} → is_lent c w q ≡ true
     → HandledRows c w q d v p out later call clock r
     → (t : List ℕ) → Answered Lending.rows (store c w q t) (store d v p t) out later call clock r
 unfolding is_intact
 lent-answered i h t = intact_answered i (h t)
 
 -- on a session that is whole a call is the model's, whatever it is lent
-pub answered-handled : {l : Lending} (s : Store) {e : Store} {out later : List ℕ} {call : Call Input} {clock : ℕ} {r : Answer}
+pub answered-handled : {l : Lending} (s : Store) {e : Store} {out later : List ℕ} {call : Call Input} {clock : ℕ} {r : Result Answer Error}
     → Answered l s e out later call clock r → is_whole s ≡ true → Handled s e out later call clock r
 answered-handled {l} s a h = let w = whole_parts s h in a.handled (whole_intact l s w) w
 
 -- refused by a limit
-pub over-handled : (s : Store) (out : List ℕ) (call : Call Input) (clock : ℕ) (o : Outcome) (r : Answer) → Whole s
-    → step (split (turn call clock out)) (session s) ≡ unchanged (session s) (outcome_of o) → (r.outcome ≡ o) × (r.count ≡ 0)
+pub over-handled : (s : Store) (out : List ℕ) (call : Call Input) (clock : ℕ) (o : plan.Result) (r : Result Answer Error) → Whole s
+    → step (split (turn call clock out)) (session s) ≡ unchanged (session s) o → Tells r o 0
     → Handled s s out out call clock r
 over-handled s out call clock o r w e told =
-    meets-unchanged s out (step (split (turn call clock out)) (session s)) (outcome_of o) r w e (ap outcome_of told.0) told.1
+    meets-unchanged s out (step (split (turn call clock out)) (session s)) o r w e told.0 told.1
 
 -- refused by a test of the call, or only answered
-pub told-handled : (s : Store) (out : List ℕ) (call : Plain) (clock : ℕ) (o : Outcome) (r : Answer) → Whole s
-    → decide_plain (view (session s)) clock call ≡ answer (outcome_of o) → (r.outcome ≡ o) × (r.count ≡ 0)
+pub told-handled : (s : Store) (out : List ℕ) (call : Plain) (clock : ℕ) (o : plan.Result) (r : Result Answer Error) → Whole s
+    → decide_plain (view (session s)) clock call ≡ answer o → Tells r o 0
     → Handled s s out out (Call.plain call) clock r
 unfolding split map_call decide
 told-handled s out call clock o r w e told =
-    over-handled s out (Call.plain call) clock o r w (step-answer (split (turn (Call.plain call) clock out)) (session s) (outcome_of o) e) told
+    over-handled s out (Call.plain call) clock o r w (step-answer (split (turn (Call.plain call) clock out)) (session s) o e) told
 
 -- the slices behind a call, whose lengths have not changed
 pub whole-after : {c v : List ℕ} {q : List Float} (s : Store) → Whole s → Sound c → length v ≡ length s.words → length q ≡ length s.reals
@@ -147,3 +156,13 @@ error_refuses Error.IdsSpent = refl
 error_refuses Error.BadState = refl
 error_refuses Error.BadPart = refl
 error_refuses Error.InvalidId = refl
+
+-- and an answer does not
+pub ending_goes_on : (o : Outcome) → refuses (ending_of o) ≡ false
+unfolding refuses refusal
+ending_goes_on Outcome.Accepted = refl
+ending_goes_on (Outcome.Seat id) = refl
+ending_goes_on (Outcome.Device id) = refl
+ending_goes_on (Outcome.Value n) = refl
+ending_goes_on (Outcome.Truth b) = refl
+ending_goes_on Outcome.None = refl

@@ -16,6 +16,8 @@ use Rattle.session.proofs.Views.{whole_parts}
 use Rattle.answers.specs.Texts.{Stored, TextsAfter}
 use Rattle.answers.specs.Meets.{Answered}
 use Rattle.answers.specs.Kept.{NoText, OthersKeepTexts, UntakenKeepsTexts, UsedSlotsStay}
+use Rattle.std.specs.Prelude.{Result}
+use Rattle.answers.specs.declared.Error.{Error}
 use Rattle.answers.specs.declared.Answer.{Answer}
 
 is_timed : Call Input → Bool
@@ -31,7 +33,7 @@ no_text other (TextsAfter.kept same) = same
 no_text other (TextsAfter.stored interface version text p x) = absurd (other interface version text p)
 
 -- of slices that are not whole nothing is written
-answered : {s e : Store} {out later : List ℕ} {call : Call Input} {clock : ℕ} {r : Answer} → Answered Lending.all s e out later call clock r
+answered : {s e : Store} {out later : List ℕ} {call : Call Input} {clock : ℕ} {r : Result Answer Error} → Answered Lending.all s e out later call clock r
     → (e.texts ≡ s.texts) ⊎ (Whole s × TextsAfter s e call)
 unfolding is_intact
 answered {s} {e} {call = call} a = by (is_whole s) refl

@@ -1,7 +1,8 @@
 -- "For an answer that is an enum, a definition gives this paper's number and values for each case." Assumes nothing.
-use Rattle.std.specs.Prelude.{ℕ}
+use Rattle.std.specs.Prelude.{ℕ, ◌≡◌, Result, Ok, Err}
 use Rattle.answers.specs.declared.Error.{Error}
 use Rattle.answers.specs.declared.Outcome.{Outcome}
+use Rattle.answers.specs.declared.Answer.{Answer}
 use Rattle.model.specs.Plan.{refusal}
 use Rattle.model.specs.Plan as plan
 
@@ -32,11 +33,25 @@ unfoldable pub number_of : Error → ℕ
 unfolding refusal
 number_of e = refusal (error_of e)
 
-abbrev pub outcome_of : Outcome → plan.Result
-outcome_of Outcome.Accepted = plan.Result.accepted
-outcome_of (Outcome.Refused e) = error_of e
-outcome_of (Outcome.Seat id) = plan.Result.seat id
-outcome_of (Outcome.Device id) = plan.Result.device id
-outcome_of (Outcome.Value n) = plan.Result.value n
-outcome_of (Outcome.Truth b) = plan.Result.truth b
-outcome_of Outcome.None = plan.Result.none
+-- how a call ends that is not refused
+abbrev pub ending_of : Outcome → plan.Result
+ending_of Outcome.Accepted = plan.Result.accepted
+ending_of (Outcome.Seat id) = plan.Result.seat id
+ending_of (Outcome.Device id) = plan.Result.device id
+ending_of (Outcome.Value n) = plan.Result.value n
+ending_of (Outcome.Truth b) = plan.Result.truth b
+ending_of Outcome.None = plan.Result.none
+
+-- how a call ends
+abbrev pub outcome_of : Result Answer Error → plan.Result
+outcome_of (Ok a) = ending_of a.outcome
+outcome_of (Err e) = error_of e
+
+-- how many bytes of events it wrote: one that is refused writes none
+abbrev pub count_of : Result Answer Error → ℕ
+count_of (Ok a) = a.count
+count_of (Err e) = 0
+
+-- both
+abbrev pub Tells : Result Answer Error → plan.Result → (count : ℕ) → Type 0
+Tells r o n = (outcome_of r ≡ o) × (count_of r ≡ n)

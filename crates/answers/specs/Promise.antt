@@ -1,56 +1,57 @@
 -- What is promised of a call, said of the parameters that it is lent: each has its value at entry and at exit. Assumes nothing.
-use Rattle.std.specs.Prelude.{ℕ, List, Float}
+use Rattle.std.specs.Prelude.{ℕ, List, Float, Result}
 use Rattle.model.specs.Call.{Input, Plain, Call}
 use Rattle.session.specs.View.{store, Lending}
 use Rattle.session.specs.Slices.{Numbers, SharedNumbers, Reals, before, after, rows_before, rows_after}
+use Rattle.answers.specs.declared.Error.{Error}
 use Rattle.answers.specs.declared.Answer.{Answer}
 use Rattle.answers.specs.Meets.{Handled, HandledRows, HandledControl, Answered}
 
 -- ---- entry points: the model's answer, or 21
 
 -- A CALL OF THE STATION, at any clock and whatever the requests and the texts are
-abbrev pub Promise : (control out : Numbers) → Plain → Answer → Type 0
+abbrev pub Promise : (control out : Numbers) → Plain → Result Answer Error → Type 0
 Promise c out call a =
     (clock : ℕ) (w : List ℕ) (r : List Float) (t : List ℕ)
     → Answered Lending.control (store c.entry.now w r t) (store c.exit.now w r t) out.entry.now out.exit.now (Call.plain call) clock a
 
 -- one that only asks is lent no `out`, and the control words to be read
-abbrev pub Reply : (control : SharedNumbers) → Plain → Answer → Type 0
+abbrev pub Reply : (control : SharedNumbers) → Plain → Result Answer Error → Type 0
 Reply c call a =
     (clock : ℕ) (out w : List ℕ) (r : List Float) (t : List ℕ)
     → Answered Lending.control (store c.entry.now w r t) (store c.entry.now w r t) out out (Call.plain call) clock a
 
 -- one that writes events and leaves the control words, which it is lent to read
-abbrev pub PromiseUnchanged : (control : SharedNumbers) (out : Numbers) → Plain → Answer → Type 0
+abbrev pub PromiseUnchanged : (control : SharedNumbers) (out : Numbers) → Plain → Result Answer Error → Type 0
 PromiseUnchanged c out call a =
     (clock : ℕ) (w : List ℕ) (r : List Float) (t : List ℕ)
     → Answered Lending.control (store c.entry.now w r t) (store c.entry.now w r t) out.entry.now out.exit.now (Call.plain call) clock a
 
 -- one that takes devices out is lent the rows of requests too
-abbrev pub PromiseRows : (control words : Numbers) (reals : Reals) (out : Numbers) → Plain → Answer → Type 0
+abbrev pub PromiseRows : (control words : Numbers) (reals : Reals) (out : Numbers) → Plain → Result Answer Error → Type 0
 PromiseRows c w r out call a =
     (clock : ℕ) (t : List ℕ) → Answered Lending.rows (rows_before c w r t) (rows_after c w r t) out.entry.now out.exit.now (Call.plain call) clock a
 
 -- A CLIENT'S REQUEST, at the clock that the call is given
-abbrev pub PromiseAt : (control words : Numbers) (reals : Reals) (texts out : Numbers) → Call Input → (clock : ℕ) → Answer → Type 0
+abbrev pub PromiseAt : (control words : Numbers) (reals : Reals) (texts out : Numbers) → Call Input → (clock : ℕ) → Result Answer Error → Type 0
 PromiseAt c w r t out call clock a = Answered Lending.all (before c w r t) (after c w r t) out.entry.now out.exit.now call clock a
 
 -- ---- the functions behind 21's test: the model's answer
 
-abbrev pub Handles : (control words : Numbers) (reals : Reals) (texts out : Numbers) → Call Input → (clock : ℕ) → Answer → Type 0
+abbrev pub Handles : (control words : Numbers) (reals : Reals) (texts out : Numbers) → Call Input → (clock : ℕ) → Result Answer Error → Type 0
 Handles c w r t out call clock a = Handled (before c w r t) (after c w r t) out.entry.now out.exit.now call clock a
 
-abbrev pub HandlesRows : (control words : Numbers) (reals : Reals) (out : Numbers) → Call Input → (clock : ℕ) → Answer → Type 0
+abbrev pub HandlesRows : (control words : Numbers) (reals : Reals) (out : Numbers) → Call Input → (clock : ℕ) → Result Answer Error → Type 0
 HandlesRows c w r out call clock a =
     HandledRows c.entry.now w.entry.now r.entry.now c.exit.now w.exit.now r.exit.now out.entry.now out.exit.now call clock a
 
-abbrev pub HandlesControl : (control out : Numbers) → Call Input → (clock : ℕ) → Answer → Type 0
+abbrev pub HandlesControl : (control out : Numbers) → Call Input → (clock : ℕ) → Result Answer Error → Type 0
 HandlesControl c out call clock a = HandledControl c.entry.now c.exit.now out.entry.now out.exit.now call clock a
 
 -- those that write no event, whatever `out` is
-abbrev pub Silent : (control words : Numbers) (reals : Reals) (texts : Numbers) → Call Input → (clock : ℕ) → Answer → Type 0
+abbrev pub Silent : (control words : Numbers) (reals : Reals) (texts : Numbers) → Call Input → (clock : ℕ) → Result Answer Error → Type 0
 Silent c w r t call clock a = (out : List ℕ) → Handled (before c w r t) (after c w r t) out out call clock a
 
-abbrev pub SilentRows : (control words : Numbers) (reals : Reals) → Call Input → (clock : ℕ) → Answer → Type 0
+abbrev pub SilentRows : (control words : Numbers) (reals : Reals) → Call Input → (clock : ℕ) → Result Answer Error → Type 0
 SilentRows c w r call clock a =
     (out : List ℕ) → HandledRows c.entry.now w.entry.now r.entry.now c.exit.now w.exit.now r.exit.now out out call clock a

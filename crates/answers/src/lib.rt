@@ -2,7 +2,7 @@
 #![tactic(auto)]
 
 ghost use Rattle.std.specs.Prelude.{◌≡◌};
-ghost use Rattle.session.specs.Slices.{optional};
+ghost use Rattle.session.specs.Slices.{given, optional};
 ghost use Rattle.answers.specs.Answer.{number_of};
 ghost use Rattle.answers.specs.Check.{Checks};
 
@@ -10,7 +10,7 @@ ghost use Rattle.answers.specs.Check.{Checks};
 pub const NAME_LENGTH_LIMIT: usize = 254;
 
 // Why a call is refused: `Error` and `RequestError` of the source, then what the port adds.
-#[derive(Clone, Copy)]
+#[derive(Clone, Copy, Debug, PartialEq, Eq)]
 pub enum Error {
     UnexpectedHandshakeEvent,
     InvalidInterfaceVersion { interface: u8, version: u32 },
@@ -34,12 +34,11 @@ pub enum Error {
     InvalidId,
 }
 
-// How a call ends.
-#[derive(Clone, Copy)]
+// How a call ends that is not refused.
+#[derive(Clone, Copy, Debug, PartialEq, Eq)]
 pub enum Outcome {
     // A call that answers nothing else; an ignored request too.
     Accepted,
-    Refused(Error),
     // The id that `add_seat` gives, and `add_device`.
     Seat(u64),
     Device(u64),
@@ -51,8 +50,8 @@ pub enum Outcome {
     None,
 }
 
-// The outcome, and how many bytes of events were written to `out`.
-#[derive(Clone, Copy)]
+// The outcome, and how many bytes of events were written to `out`. A call that is refused answers an `Error` in its place, and writes none.
+#[derive(Clone, Copy, Debug, PartialEq, Eq)]
 pub struct Answer {
     pub outcome: Outcome,
     pub count: usize,
@@ -98,15 +97,6 @@ impl Answer {
         }
     }
 
-    pub fn refused(e: Error) -> Answer
-        ensures { (result.outcome ≡ Outcome.Refused e) × (result.count ≡ 0) }
-    {
-        Answer {
-            outcome: Outcome::Refused(e),
-            count: 0,
-        }
-    }
-
     // A call that wrote nothing.
     pub fn told(outcome: Outcome) -> Answer
         ensures { (result.outcome ≡ outcome) × (result.count ≡ 0) }
@@ -126,23 +116,24 @@ impl Answer {
 }
 
 // What a name or an explanation may meet: 10, then 11. One that is not given meets neither.
-#[derive(Clone, Copy)]
-pub enum Checked {
-    Fine,
-    Refused(Error),
-}
-
-pub fn check_optional(given: bool, text: &[u8]) -> Checked
-    ensures { Checks (optional given text.now) result }
+pub fn check_optional(text: Option<&[u8]>) -> Result<(), Error>
+    ensures { Checks (given text.entry) result }
 {
-    if !given {
-        return Checked::Fine;
-    }
+    let Some(text) = text else {
+        return Ok(());
+    };
     if !utf8::valid(text) {
-        return Checked::Refused(Error::BadUtf8);
+        return Err(Error::BadUtf8);
     }
     if NAME_LENGTH_LIMIT < text.len() {
-        return Checked::Refused(Error::NameLong);
+        return Err(Error::NameLong);
     }
-    Checked::Fine
+    Ok(())
+}
+
+// A text that counts where a flag says so, as callers have it that lend no option.
+pub fn if_given(counts: bool, text: &[u8]) -> Option<&[u8]>
+    ensures { given result ≡ optional counts text.now }
+{
+    if counts { Some(text) } else { None }
 }

@@ -28,11 +28,11 @@ pub fn queue_for_interface(
     capability: DeviceCapability,
     interface: u64,
     request: Cell,
-) -> Answer
+) -> Result<Answer, Error>
     ensures { (version : ℕ) (i : Input) → OnlyQueued capability i → Waits i request → AsksRows control words reals (Call.timed interface version i) result }
 {
     if !session::lent(control, words, reals) {
-        return Answer::refused(Error::BadState);
+        return Err(Error::BadState);
     }
     timed::queue_for_interface(control, words, reals, capability, interface, request)
 }
@@ -45,11 +45,11 @@ pub fn handle_touchscreen_request(
     touchscreen: u64,
     version: u32,
     request: TouchscreenRequest,
-) -> Answer
+) -> Result<Answer, Error>
     ensures { AsksRows control words reals (touchscreen_call request touchscreen version) result }
 {
     if !session::lent(control, words, reals) {
-        return Answer::refused(Error::BadState);
+        return Err(Error::BadState);
     }
     let mut out = [0u8; 0];
     handlers::handle_touchscreen_request(
@@ -70,11 +70,11 @@ pub fn handle_utf8_request(
     texts: &mut [u8],
     interface: u64,
     text: &[u8],
-) -> Answer
+) -> Result<Answer, Error>
     ensures { (version : ℕ) → AsksAll control words reals texts (Call.timed interface version (Input.Utf8 text.now)) result }
 {
     if !session::whole(control, words, reals, texts) {
-        return Answer::refused(Error::BadState);
+        return Err(Error::BadState);
     }
     let mut out = [0u8; 0];
     handlers::handle_text_request(
@@ -96,11 +96,11 @@ pub fn handle_device_request(
     device: u64,
     request: DeviceRequest,
     clock: u64,
-) -> Answer
+) -> Result<Answer, Error>
     ensures { AsksRowsAt control words reals (device_call request device) clock result }
 {
     if !session::lent(control, words, reals) {
-        return Answer::refused(Error::BadState);
+        return Err(Error::BadState);
     }
     handlers::handle_device_request(control, words, reals, device, request, clock)
 }
@@ -113,11 +113,11 @@ pub fn queue_frame(
     device: u64,
     serial: u32,
     time: u64,
-) -> Answer
+) -> Result<Answer, Error>
     ensures { AsksRows control words reals (Call.plain (Plain.device_frame device serial time)) result }
 {
     if !session::lent(control, words, reals) {
-        return Answer::refused(Error::BadState);
+        return Err(Error::BadState);
     }
     untimed::queue_frame(control, words, reals, device, serial, time)
 }
@@ -129,21 +129,25 @@ pub fn handle_seat_request(
     reals: &mut [f32],
     seat: u64,
     request: SeatRequest,
-) -> Answer
+) -> Result<Answer, Error>
     ensures { AsksRows control words reals (seat_call request seat) result }
 {
     if !session::lent(control, words, reals) {
-        return Answer::refused(Error::BadState);
+        return Err(Error::BadState);
     }
     let mut out = [0u8; 0];
     handlers::handle_seat_request(control, words, reals, seat, request, &mut out)
 }
 
-pub fn disconnect(control: &mut [u64], words: &mut [u64], reals: &mut [f32]) -> Answer
+pub fn disconnect(
+    control: &mut [u64],
+    words: &mut [u64],
+    reals: &mut [f32],
+) -> Result<Answer, Error>
     ensures { AsksRows control words reals (Call.plain Plain.disconnect) result }
 {
     if !session::lent(control, words, reals) {
-        return Answer::refused(Error::BadState);
+        return Err(Error::BadState);
     }
     let mut out = [0u8; 0];
     handlers::handle_connection_request(
@@ -161,11 +165,11 @@ pub fn release_seat(
     reals: &mut [f32],
     seat: u64,
     out: &mut [u8],
-) -> Answer
+) -> Result<Answer, Error>
     ensures { PromiseRows control words reals out (Plain.seat_release seat) result }
 {
     if !session::lent(control, words, reals) {
-        return Answer::refused(Error::BadState);
+        return Err(Error::BadState);
     }
     untimed::release_seat(control, words, reals, seat, out)
 }
@@ -176,38 +180,42 @@ pub fn release_interface(
     capability: DeviceCapability,
     interface: u64,
     out: &mut [u8],
-) -> Answer
+) -> Result<Answer, Error>
     ensures { Promise control out (Plain.interface_release capability interface) result }
 {
     if !control::sound(control) {
-        return Answer::refused(Error::BadState);
+        return Err(Error::BadState);
     }
     untimed::release_interface(control, capability, interface, out)
 }
 
-pub fn sync(control: &[u64], callback: u64, version: u32, out: &mut [u8]) -> Answer
+pub fn sync(control: &[u64], callback: u64, version: u32, out: &mut [u8]) -> Result<Answer, Error>
     ensures { PromiseUnchanged control out (Plain.sync callback version) result }
 {
     if !control::sound(control) {
-        return Answer::refused(Error::BadState);
+        return Err(Error::BadState);
     }
     untimed::sync(callback, version, out)
 }
 
-pub fn pingpong_done(control: &[u64]) -> Answer
+pub fn pingpong_done(control: &[u64]) -> Result<Answer, Error>
     ensures { Reply control Plain.pingpong_done result }
 {
     if !control::sound(control) {
-        return Answer::refused(Error::BadState);
+        return Err(Error::BadState);
     }
-    Answer::accepted()
+    Ok(Answer::accepted())
 }
 
-pub fn handle_handshake_request(control: &[u64], request: HandshakeRequest, text: &[u8]) -> Answer
+pub fn handle_handshake_request(
+    control: &[u64],
+    request: HandshakeRequest,
+    text: &[u8],
+) -> Result<Answer, Error>
     ensures { AsksControl control (handshake_call request text.now) result }
 {
     if !control::sound(control) {
-        return Answer::refused(Error::BadState);
+        return Err(Error::BadState);
     }
     handlers::handle_handshake_request(request, text)
 }

@@ -1,10 +1,12 @@
 -- What becomes of a timed request, by the device that was found and by what was asked of it. Assumes nothing.
 use Prim.Native.Nat.{ℕ, ◌≤◌, ◌<◌}
-use mathlib.Core.Path.{◌≡◌, refl, sym, ap, ◌∙◌}
+use mathlib.Core.Path.{◌≡◌, refl, sym, ap, subst, ◌∙◌}
 use mathlib.Core.Logic.{◌⊎◌, inl}
 use mathlib.Core.Bool.{Bool, true, false, cond, false≢true}
 use mathlib.Core.List.{List}
-use mathlib.Core.Option.{Option, none, some}
+use mathlib.Core.Option.{none, some}
+use mathlib.Core.Option as model
+use Rattle.std.specs.Prelude.{Some, None, Ok, Err}
 use native.Mathlib.Omega.{arith}
 use borrow.Author.Tests.{leb-true, leb-false, le-leb, lt-leb, lt-ltb, le-ltb}
 use lib.Dec.{leb}
@@ -29,27 +31,20 @@ use Rattle.session.specs.View.{Store, session}
 use Rattle.session.proofs.Views.{device_seen, devices-length, device-touches, pending-count, found-interface, interface_bound, no_interface}
 use Rattle.answers.specs.Answer.{error_of}
 use Rattle.answers.specs.declared.Error.{Error}
-use Rattle.client_requests.specs.Decision.{amends_of, goes_down, CanChange, queue_on, Decided, OnlyQueued, OnlyHeld}
+use Rattle.client_requests.specs.Decision.{amends_of, goes_down, CanChange, Decision, queue_on, CanQueue, Decided, OnlyQueued, OnlyHeld}
 use Rattle.client_requests.specs.declared.timed.TouchChange.{TouchChange}
-use Rattle.client_requests.specs.declared.timed.Decision.{Decision}
+use Rattle.client_requests.specs.declared.timed.Queued.{Queued}
 
 -- ---- decisions are told apart
 
-ignored-not : {k : ℕ} {change : TouchChange} {request : Cell} → Decision.Ignored ≡ Decision.Queued k change request → ⊥
-ignored-not q = let z : ◌≡◌ {A = ℕ} 0 1 = cc in omega arith
+ignored-not : {q : Queued} → ◌≡◌ {A = Decision} (Ok None) (Ok (Some q)) → ⊥
+ignored-not e = let z : ◌≡◌ {A = ℕ} 0 1 = cc in omega arith
 
-refused-not : {e : Error} {k : ℕ} {change : TouchChange} {request : Cell} → Decision.Refused e ≡ Decision.Queued k change request → ⊥
-refused-not q = let z : ◌≡◌ {A = ℕ} 0 1 = cc in omega arith
+refused-not : {e : Error} {q : Queued} → ◌≡◌ {A = Decision} (Err e) (Ok (Some q)) → ⊥
+refused-not e = let z : ◌≡◌ {A = ℕ} 0 1 = cc in omega arith
 
-module _ {j k : ℕ} {x y : TouchChange} {a b : Cell} (q : Decision.Queued j x a ≡ Decision.Queued k y b) where
-  same_slot : j ≡ k
-  same_slot = cc
-
-  same_change : x ≡ y
-  same_change = cc
-
-  same_request : a ≡ b
-  same_request = cc
+same_queued : {p q : Queued} → ◌≡◌ {A = Decision} (Ok (Some p)) (Ok (Some q)) → p ≡ q
+same_queued e = cc
 
 not_down : {change : TouchChange} (held : List ℕ) → goes_down change ≡ false → CanChange change held
 not_down held h id e = absurd (false≢true (sym h ∙ ap goes_down e))
@@ -57,11 +52,11 @@ not_down held h id e = absurd (false≢true (sym h ∙ ap goes_down e))
 -- ---- the pending list's test, and the bit of a capability
 
 module _ (c : List ℕ) (k : ℕ) (change : TouchChange) (request : Cell) where
-  pub queue_full : 64 ≤ (core_at c k).pending → Decision.Refused Error.FullPending ≡ queue_on c k change request
+  pub queue_full : 64 ≤ (core_at c k).pending → Err Error.FullPending ≡ queue_on c k change request
   unfolding queue_on
   queue_full h = rw (le-leb 64 _ h)
 
-  pub queue-room : (core_at c k).pending < 64 → Decision.Queued k change request ≡ queue_on c k change request
+  pub queue-room : (core_at c k).pending < 64 → Ok (Some (record { slot = k; change = change; request = request })) ≡ queue_on c k change request
   unfolding queue_on
   queue-room h = rw (lt-leb 64 _ h)
 
@@ -78,7 +73,7 @@ bit_is DeviceCapability.Text = refl
 -- ---- the step, by what was found
 
 -- the slot of the device of which the interface is
-abbrev pub interface_slot : DeviceCapability → (interface : ℕ) → List ℕ → Option ℕ
+abbrev pub interface_slot : DeviceCapability → (interface : ℕ) → List ℕ → model.Option ℕ
 interface_slot cap interface c = first (λ d. lists_as (capability_index cap) interface d.interfaces) (cores_of c)
 
 pub interface-within : (cap : DeviceCapability) (interface : ℕ) (c : List ℕ) {k : ℕ} → interface_slot cap interface c ≡ some k → k < device_count c
@@ -101,7 +96,7 @@ module _ (cap : DeviceCapability) (interface version : ℕ) (i : Sight) (valid :
     pub step_unknown : interface_slot cap interface s.control ≡ none → step t (session s) ≡ unchanged (session s) Result.accepted
     unfolding on_found ignore
     step_unknown e =
-        step-answer t (session s) Result.accepted (plan_is ∙ ap (λ (o : Option Found). on_found o ignore handled) (no_interface s (capability_index cap) interface e))
+        step-answer t (session s) Result.accepted (plan_is ∙ ap (λ (o : model.Option Found). on_found o ignore handled) (no_interface s (capability_index cap) interface e))
 
     module _ {k : ℕ} (e : interface_slot cap interface s.control ≡ some k) where
       abbrev seen : Found
@@ -109,7 +104,7 @@ module _ (cap : DeviceCapability) (interface version : ℕ) (i : Sight) (valid :
 
       plan-found : decide (view (session s)) t.now t.call ≡ handled seen
       unfolding on_found
-      plan-found = plan_is ∙ ap (λ (o : Option Found). on_found o ignore handled) (found-interface s (capability_index cap) interface e)
+      plan-found = plan_is ∙ ap (λ (o : model.Option Found). on_found o ignore handled) (found-interface s (capability_index cap) interface e)
 
       pub step-told : (o : Result) → handled seen ≡ answer o → step t (session s) ≡ unchanged (session s) o
       step-told o h = step-answer t (session s) o (plan-found ∙ h)
@@ -134,12 +129,12 @@ module _ (cap : DeviceCapability) (interface version : ℕ) (i : Sight) (valid :
   -- ---- the decision
 
   module _ (c : List ℕ) (request : Cell) where
-    pub unknown : interface_slot cap interface c ≡ none → Decided c interface version i request Decision.Ignored
+    pub unknown : interface_slot cap interface c ≡ none → Decided c interface version i request (Ok None)
     unknown e =
         record {
           step_is = λ s t same call. step_unknown s t call (ap (interface_slot cap interface) same ∙ e);
-          fits = λ k x y q. absurd (ignored-not q);
-          same = λ k x y q. absurd (ignored-not q);
+          fits = λ q e. absurd (ignored-not e);
+          same = λ q e. absurd (ignored-not e);
         }
 
     module _ {k : ℕ} (e : interface_slot cap interface c ≡ some k) where
@@ -153,22 +148,22 @@ module _ (cap : DeviceCapability) (interface version : ℕ) (i : Sight) (valid :
       waiting : (s : Store) → s.control ≡ c → (core_at s.control k).pending ≡ (core_at c k).pending
       waiting s same = ap (λ (x : List ℕ). (core_at x k).pending) same
 
-      pub ignored : ((f : Found) → f.device.down_touch_ids ≡ (core_at c k).down_touch_ids → handled f ≡ ignore) → Decided c interface version i request Decision.Ignored
+      pub ignored : ((f : Found) → f.device.down_touch_ids ≡ (core_at c k).down_touch_ids → handled f ≡ ignore) → Decided c interface version i request (Ok None)
       unfolding ignore
       ignored h =
           record {
             step_is = λ s t same call. step-told s t call (found s same) Result.accepted (h _ (touches s same));
-            fits = λ j x y q. absurd (ignored-not q);
-            same = λ j x y q. absurd (ignored-not q);
+            fits = λ q e. absurd (ignored-not e);
+            same = λ q e. absurd (ignored-not e);
           }
 
       pub refused : (error : Error) → ((f : Found) → f.device.down_touch_ids ≡ (core_at c k).down_touch_ids → handled f ≡ answer (error_of error))
-          → Decided c interface version i request (Decision.Refused error)
+          → Decided c interface version i request (Err error)
       refused error h =
           record {
             step_is = λ s t same call. step-told s t call (found s same) (error_of error) (h _ (touches s same));
-            fits = λ j x y q. absurd (refused-not q);
-            same = λ j x y q. absurd (refused-not q);
+            fits = λ q e. absurd (refused-not e);
+            same = λ q e. absurd (refused-not e);
           }
 
       pub queued : {d : Decision} (change : TouchChange) → CanChange change (core_at c k).down_touch_ids → d ≡ queue_on c k change request → texts i.kind ≡ 0
@@ -177,26 +172,25 @@ module _ (cap : DeviceCapability) (interface version : ℕ) (i : Sight) (valid :
       queued change touch is textless h = rw is (go (leb 64 (core_at c k).pending) refl)
         where
           go : (b : Bool) → leb 64 (core_at c k).pending ≡ b
-              → Decided c interface version i request (cond b (Decision.Refused Error.FullPending) (Decision.Queued k change request))
+              → Decided c interface version i request (cond b (Err Error.FullPending) (Ok (Some (record { slot = k; change = change; request = request }))))
           go true full =
               record {
                 step_is = λ s t same call. step_full s t call (found s same) (amends_of change) (h _ (touches s same)) (rw (waiting s same) (leb-true 64 _ full));
-                fits = λ j x y q. absurd (refused-not q);
-                same = λ j x y q. absurd (refused-not q);
+                fits = λ q e. absurd (refused-not e);
+                same = λ q e. absurd (refused-not e);
               }
           go false room =
               record {
                 step_is = λ s t same call.
                     step-queued s t call (found s same) (amends_of change) (h _ (touches s same)) (rw (waiting s same) (leb-false 64 _ room)) (inl textless);
-                fits = λ j x y q.
-                    rw (← same_slot q, ← same_change q) (record { known = interface-within cap interface c e; room = leb-false 64 _ room; touch = touch });
-                same = λ j x y q. sym (same_request q);
+                fits = λ q is. subst (λ (x : Queued). CanQueue c x.slot x.change) (same_queued is) (record { known = interface-within cap interface c e; room = leb-false 64 _ room; touch = touch });
+                same = λ q is. ap (λ (x : Queued). x.request) (sym (same_queued is));
               }
 
 -- ---- a request of which nothing is asked
 
 module _ (c : List ℕ) {cap : DeviceCapability} (interface version : ℕ) {input : Input} (only : OnlyQueued cap input) (request : Cell) where
-  pub plain_unknown : interface_slot cap interface c ≡ none → Decided c interface version (sight input) request Decision.Ignored
+  pub plain_unknown : interface_slot cap interface c ≡ none → Decided c interface version (sight input) request (Ok None)
   plain_unknown e = unknown cap interface version (sight input) only.valid (ap (λ (x : Handler). x.capability) only.by) c request e
 
   pub plain-queued : {k : ℕ} {d : Decision} → interface_slot cap interface c ≡ some k → d ≡ queue_on c k TouchChange.Nothing request → Decided c interface version (sight input) request d
@@ -228,7 +222,7 @@ touch-texts Kind.TextUtf8 e = absurd (text_not e)
     text_not e = let z : ◌≡◌ {A = ℕ} 6 3 = ap capability_index e in omega arith
 
 module _ (c : List ℕ) (touchscreen touch : ℕ) (kind : Kind) (version : ℕ) (by : (handler kind).capability ≡ DeviceCapability.Touch) (request : Cell) where
-  pub touch_unknown : interface_slot DeviceCapability.Touch touchscreen c ≡ none → Decided c touchscreen version (touching kind touch) request Decision.Ignored
+  pub touch_unknown : interface_slot DeviceCapability.Touch touchscreen c ≡ none → Decided c touchscreen version (touching kind touch) request (Ok None)
   touch_unknown e = unknown DeviceCapability.Touch touchscreen version (touching kind touch) refl by c request e
 
 -- the touch must be held
@@ -239,7 +233,7 @@ module _ (c : List ℕ) (touchscreen touch : ℕ) {kind : Kind} {version : ℕ} 
   unfolding if_held
   asked m f same = only.asks f ∙ ap (λ (b : Bool). cond b (pend_after (amends_of change) f (touching kind touch)) ignore) (ap (member touch) same ∙ m)
 
-  pub touch-not-held : member touch (core_at c k).down_touch_ids ≡ false → Decided c touchscreen version (touching kind touch) request Decision.Ignored
+  pub touch-not-held : member touch (core_at c k).down_touch_ids ≡ false → Decided c touchscreen version (touching kind touch) request (Ok None)
   touch-not-held m = ignored DeviceCapability.Touch touchscreen version (touching kind touch) refl only.by c request e (asked m)
 
   pub touch-held : {d : Decision} → goes_down change ≡ false → member touch (core_at c k).down_touch_ids ≡ true → d ≡ queue_on c k change request
@@ -254,7 +248,7 @@ module _ (c : List ℕ) (touchscreen touch : ℕ) (request : Cell) {k : ℕ} (e 
   abbrev Downs : Decision → Type 0
   Downs d = (version : ℕ) → Decided c touchscreen version (touching Kind.TouchDown touch) request d
 
-  pub down_many : 16 ≤ length (core_at c k).down_touch_ids → Downs (Decision.Refused Error.TooManyTouches)
+  pub down_many : 16 ≤ length (core_at c k).down_touch_ids → Downs (Err Error.TooManyTouches)
   unfolding handler handle refuse
   down_many m version =
       refused DeviceCapability.Touch touchscreen version (touching Kind.TouchDown touch) refl refl c request e Error.TooManyTouches
@@ -264,7 +258,7 @@ module _ (c : List ℕ) (touchscreen touch : ℕ) (request : Cell) {k : ℕ} (e 
     few : (f : Found) → f.device.down_touch_ids ≡ (core_at c k).down_touch_ids → leb 16 (length f.device.down_touch_ids) ≡ false
     few f same = ap (λ (x : List ℕ). leb 16 (length x)) same ∙ lt-leb 16 _ m
 
-    pub down_twice : member touch (core_at c k).down_touch_ids ≡ true → Downs (Decision.Refused Error.DuplicatedTouchDown)
+    pub down_twice : member touch (core_at c k).down_touch_ids ≡ true → Downs (Err Error.DuplicatedTouchDown)
     unfolding handler handle refuse
     down_twice h version =
         refused DeviceCapability.Touch touchscreen version (touching Kind.TouchDown touch) refl refl c request e Error.DuplicatedTouchDown
@@ -288,7 +282,7 @@ module _ (c : List ℕ) (touchscreen touch version : ℕ) where
   cancel-held h = record { by = refl; asks = λ f. rw (le-ltb version 2 h) }
 
   pub cancel-old : (request : Cell) {k : ℕ} → interface_slot DeviceCapability.Touch touchscreen c ≡ some k → version < 2
-      → Decided c touchscreen version (touching Kind.TouchCancel touch) request (Decision.Refused (Error.InvalidInterfaceVersion ei_touchscreen version))
+      → Decided c touchscreen version (touching Kind.TouchCancel touch) request (Err (Error.InvalidInterfaceVersion ei_touchscreen version))
   unfolding handler handle
   cancel-old request e h =
       refused DeviceCapability.Touch touchscreen version (touching Kind.TouchCancel touch) refl refl c request e (Error.InvalidInterfaceVersion ei_touchscreen version)

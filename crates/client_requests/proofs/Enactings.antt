@@ -1,4 +1,5 @@
 -- A decision carried out: what its answer meets, and what holds between a change of the held touches and the pending list. Assumes nothing.
+use Rattle.std.specs.Prelude.{Some, None, Result, Ok, Err}
 use Prim.Native.Nat.{ℕ, ◌*◌, ◌≤◌, ◌<◌}
 use mathlib.Core.Path.{◌≡◌, refl, sym, ap, ◌∙◌}
 use mathlib.Core.Logic.{◌⊎◌, inl, inr}
@@ -28,21 +29,20 @@ use Rattle.control.specs.Sound.{Sound}
 use Rattle.session.specs.View.{Store, store, session, Free, Whole, Lent}
 use Rattle.session.specs.Enact.{Enacted, EnactedControl}
 use Rattle.session.proofs.Views.{lent-after, enacted-none, devices-length, pending-count, device_seen}
-use Rattle.answers.specs.Answer.{outcome_of}
+use Rattle.answers.specs.Answer.{error_of, Tells}
 use Rattle.answers.specs.Texts.{Stored, TextsAfter}
 use Rattle.answers.specs.Meets.{turn, Handled}
 use Rattle.answers.specs.declared.Error.{Error}
-use Rattle.answers.specs.declared.Outcome.{Outcome}
 use Rattle.answers.specs.declared.Answer.{Answer}
 use Rattle.answers.proofs.Meetings.{meets-unchanged, meets-done}
-use Rattle.client_requests.specs.Decision.{amends_of, decided_step, CanQueue, Decided}
+use Rattle.client_requests.specs.Decision.{Decision, amends_of, decided_step, CanQueue, Decided}
 use Rattle.client_requests.specs.declared.timed.TouchChange.{TouchChange}
-use Rattle.client_requests.specs.declared.timed.Decision.{Decision}
+use Rattle.client_requests.specs.declared.timed.Queued.{Queued}
 use Rattle.client_requests.proofs.Decisions.{interface_slot, interface-within, step_unknown, step-told, step_full, step-texts, step-queued}
 
 -- ---- what was decided
 
-module _ (s : Store) (out : List ℕ) (interface version clock : ℕ) (input : Input) (request : Cell) {d : Decision} (r : Answer) (whole : Whole s)
+module _ (s : Store) (out : List ℕ) (interface version clock : ℕ) (input : Input) (request : Cell) {d : Decision} (r : Result Answer Error) (whole : Whole s)
     (dec : Decided s.control interface version (sight input) request d) where
   abbrev asked : Call Input
   asked = Call.timed interface version input
@@ -51,20 +51,20 @@ module _ (s : Store) (out : List ℕ) (interface version clock : ℕ) (input : I
   unfolding split map_call load_of
   stepped is = dec.step_is s (split (turn asked clock out)) refl refl ∙ ap (λ (x : Decision). decided_step x (sight input) (load input) (session s)) is
 
-  pub met_ignored : d ≡ Decision.Ignored → (r.outcome ≡ Outcome.Accepted) × (r.count ≡ 0) → Handled s s out out asked clock r
-  met_ignored is told = meets-unchanged s out _ plan.Result.accepted r whole (stepped is) (ap outcome_of told.0) told.1
+  pub met_ignored : d ≡ Ok None → Tells r plan.Result.accepted 0 → Handled s s out out asked clock r
+  met_ignored is told = meets-unchanged s out _ plan.Result.accepted r whole (stepped is) told.0 told.1
 
-  pub met_refused : {error : Error} → d ≡ Decision.Refused error → (r.outcome ≡ Outcome.Refused error) × (r.count ≡ 0) → Handled s s out out asked clock r
-  met_refused is told = meets-unchanged s out _ _ r whole (stepped is) (ap outcome_of told.0) told.1
+  pub met_refused : {error : Error} → d ≡ Err error → Tells r (error_of error) 0 → Handled s s out out asked clock r
+  met_refused is told = meets-unchanged s out _ _ r whole (stepped is) told.0 told.1
 
-  pub met_queued : (e : Store) {k : ℕ} {change : TouchChange} {x : Cell} → d ≡ Decision.Queued k change x → length e.words ≡ length s.words → length e.reals ≡ length s.reals
-      → e.texts ≡ s.texts → Enacted s e (map (λ a. Edit.amend k a) (amends_of change) ++ (Edit.pend k (sight input) ∷ [])) (load input)
-      → (r.outcome ≡ Outcome.Accepted) × (r.count ≡ 0) → Handled s e out out asked clock r
+  pub met_queued : (e : Store) {q : Queued} → d ≡ Ok (Some q) → length e.words ≡ length s.words → length e.reals ≡ length s.reals
+      → e.texts ≡ s.texts → Enacted s e (map (λ a. Edit.amend q.slot a) (amends_of q.change) ++ (Edit.pend q.slot (sight input) ∷ [])) (load input)
+      → Tells r plan.Result.accepted 0 → Handled s e out out asked clock r
   unfolding edit refuses refusal records
-  met_queued e {k} {change} is words reals texts done told =
-      meets-done s e out out _ (edit (map (λ a. Edit.amend k a) (amends_of change) ++ (Edit.pend k (sight input) ∷ []))) (load input) r
+  met_queued e {q} is words reals texts done told =
+      meets-done s e out out _ (edit (map (λ a. Edit.amend q.slot a) (amends_of q.change) ++ (Edit.pend q.slot (sight input) ∷ []))) (load input) r
       (record { sound = done.sound; words_long = words ∙ whole.words_long; reals_long = reals ∙ whole.reals_long; texts_long = ap length texts ∙ whole.texts_long })
-      (stepped is) done refl (ap outcome_of told.0) told.1 (sym (splice-none out 0)) (TextsAfter.kept texts)
+      (stepped is) done refl told.0 told.1 (sym (splice-none out 0)) (TextsAfter.kept texts)
 
 -- ---- the held touches
 
@@ -115,26 +115,26 @@ pub either : {A B C D : Type 0} → (A → C) → (B → D) → A ⊎ B → C �
 either f g (inl x) = inl (f x)
 either f g (inr y) = inr (g y)
 
-module _ (s : Store) (out : List ℕ) (interface version clock : ℕ) (text : List ℕ) (r : Answer) (whole : Whole s) (valid : is_utf8 text ≡ true) where
+module _ (s : Store) (out : List ℕ) (interface version clock : ℕ) (text : List ℕ) (r : Result Answer Error) (whole : Whole s) (valid : is_utf8 text ≡ true) where
   abbrev call : Call Input
   call = Call.timed interface version (Input.Utf8 text)
 
   pub text_unknown : interface_slot DeviceCapability.Text interface s.control ≡ none
-      → (r.outcome ≡ Outcome.Accepted) × (r.count ≡ 0) → Handled s s out out call clock r
+      → Tells r plan.Result.accepted 0 → Handled s s out out call clock r
   unfolding split map_call sight handler
   text_unknown e told =
       meets-unchanged s out _ plan.Result.accepted r whole
       (step_unknown DeviceCapability.Text interface version (sight (Input.Utf8 text)) valid refl s (split (turn call clock out)) refl e)
-      (ap outcome_of told.0) told.1
+      told.0 told.1
 
   module _ {k : ℕ} (e : interface_slot DeviceCapability.Text interface s.control ≡ some k) where
     -- "0 bytes or above 254"
-    pub text_length_lem : (length text ≡ 0) ⊎ (254 < length text) → (r.outcome ≡ Outcome.Refused Error.InvalidTextLength) × (r.count ≡ 0) → Handled s s out out call clock r
+    pub text_length_lem : (length text ≡ 0) ⊎ (254 < length text) → Tells r (error_of Error.InvalidTextLength) 0 → Handled s s out out call clock r
     unfolding split map_call sight handler handle refuse
     text_length_lem h told =
         meets-unchanged s out _ (plan.Result.refused 6) r whole
         (step-told DeviceCapability.Text interface version (sight (Input.Utf8 text)) valid refl s (split (turn call clock out)) refl e (plan.Result.refused 6) (wrong h))
-        (ap outcome_of told.0) told.1
+        told.0 told.1
       where
         wrong : (length text ≡ 0) ⊎ (254 < length text) → handle (handler Kind.TextUtf8).rule version (record { slot = k; device = device_seen s k }) (sight (Input.Utf8 text)) ≡ answer (plan.Result.refused 6)
         wrong (inl z) = rw (eq-eqb (length text) 0 z)
@@ -145,25 +145,25 @@ module _ (s : Store) (out : List ℕ) (interface version clock : ℕ) (text : Li
       unfolding sight handler handle
       text-plan = rw (ne_eqb (length text) 0 (λ z. omega arith), le-ltb 254 (length text) few_bytes)
 
-      pub text_full : 64 ≤ (core_at s.control k).pending → (r.outcome ≡ Outcome.Refused Error.FullPending) × (r.count ≡ 0) → Handled s s out out call clock r
+      pub text_full : 64 ≤ (core_at s.control k).pending → Tells r (error_of Error.FullPending) 0 → Handled s s out out call clock r
       unfolding split map_call sight handler
       text_full h told =
           meets-unchanged s out _ (plan.Result.refused 16) r whole
           (step_full DeviceCapability.Text interface version (sight (Input.Utf8 text)) valid refl s (split (turn call clock out)) refl e [] text-plan h)
-          (ap outcome_of told.0) told.1
+          told.0 told.1
 
       module _ (room : (core_at s.control k).pending < 64) where
-        pub text-many : 32 ≤ (counts (session s)).texts → (r.outcome ≡ Outcome.Refused Error.FullTexts) × (r.count ≡ 0) → Handled s s out out call clock r
+        pub text-many : 32 ≤ (counts (session s)).texts → Tells r (error_of Error.FullTexts) 0 → Handled s s out out call clock r
         unfolding split map_call sight handler texts texts_by
         text-many h told =
             meets-unchanged s out _ (plan.Result.refused 18) r whole
             (step-texts DeviceCapability.Text interface version (sight (Input.Utf8 text)) valid refl s (split (turn call clock out)) refl e [] text-plan room refl h)
-            (ap outcome_of told.0) told.1
+            told.0 told.1
 
         pub text-queued : (later : Store) {slot : ℕ} → (counts (session s)).texts < 32 → length later.words ≡ length s.words → length later.reals ≡ length s.reals → length later.texts ≡ length s.texts
             → slot < 32 → Free s.control (row_at s.words s.reals) slot
             → Enacted s later (Edit.pend k (sight (Input.Utf8 text)) ∷ []) (Load.Text text) × (later.texts ≡ splice s.texts (256 * slot) text)
-            → (r.outcome ≡ Outcome.Accepted) × (r.count ≡ 0) → Handled s later out out call clock r
+            → Tells r plan.Result.accepted 0 → Handled s later out out call clock r
         unfolding split map_call sight load load_of handler pend_after edit refuses refusal records enact_all counts after_pend texts texts_by
         text-queued later h words reals long low free (done, bytes) told =
             let within = interface-within DeviceCapability.Text interface s.control e in
@@ -179,4 +179,4 @@ module _ (s : Store) (out : List ℕ) (interface version clock : ℕ) (text : Li
             meets-done s later out out _ (edit (Edit.pend k (sight (Input.Utf8 text)) ∷ [])) (Load.Text text) r
             (record { sound = done.sound; words_long = words ∙ whole.words_long; reals_long = reals ∙ whole.reals_long; texts_long = long ∙ whole.texts_long })
             (step-queued DeviceCapability.Text interface version (sight (Input.Utf8 text)) valid refl s (split (turn call clock out)) refl e [] text-plan room (inr h))
-            done refl (ap outcome_of told.0) told.1 (sym (splice-none out 0)) (TextsAfter.stored interface version text refl stored)
+            done refl told.0 told.1 (sym (splice-none out 0)) (TextsAfter.stored interface version text refl stored)

@@ -1,4 +1,5 @@
 -- How a request that is not timed meets the step of the model, by what was found and what was tested. Assumes nothing.
+use Rattle.std.specs.Prelude.{Result}
 use Prim.Native.Nat.{ℕ, zero, suc, ◌+◌, ◌≤◌, ◌<◌}
 use mathlib.Core.Path.{◌≡◌, refl, sym, ap, ◌∙◌}
 use mathlib.Core.Bool.{true, false}
@@ -36,17 +37,12 @@ use Rattle.queue.specs.Queue.{frame_entries, has_room}
 use Rattle.events.specs.Events.{Sends, Destroys}
 use Rattle.events.specs.declared.Mark.{Mark}
 use Rattle.events.proofs.Writes.{one_length, destroyed-length}
-use Rattle.answers.specs.Answer.{outcome_of}
+use Rattle.answers.specs.Answer.{error_of, Tells}
 use Rattle.answers.specs.Texts.{TextsAfter}
 use Rattle.answers.specs.Meets.{turn, Handled}
 use Rattle.answers.specs.declared.Error.{Error}
-use Rattle.answers.specs.declared.Outcome.{Outcome}
 use Rattle.answers.specs.declared.Answer.{Answer}
 use Rattle.answers.proofs.Meetings.{meets-unchanged, meets-done, whole-after}
-
--- what a call tells, and how much it wrote
-abbrev pub Tells : Answer → Outcome → ℕ → Type 0
-Tells r o n = (r.outcome ≡ o) × (r.count ≡ n)
 
 entries_are : (n : ℕ) → framed_length n ≡ frame_entries n
 unfolding framed_length frame_entries
@@ -99,29 +95,29 @@ whole-rows {c = c} {w = w} {texts = texts} {r = r} whole o x y = whole-after (st
 
 -- ---- what is queued
 
-module _ (s : Store) (out : List ℕ) (call : Call Input) (clock : ℕ) (r : Answer) where
+module _ (s : Store) (out : List ℕ) (call : Call Input) (clock : ℕ) (r : Result Answer Error) where
   -- an answer and nothing else
-  pub handled-answer : {o : Outcome} → Whole s → decide (view (session s)) clock (map_call sight call) ≡ answer (outcome_of o) → Tells r o 0
+  pub handled-answer : {o : plan.Result} → Whole s → decide (view (session s)) clock (map_call sight call) ≡ answer o → Tells r o 0
       → Handled s s out out call clock r
   unfolding split
   handled-answer {o} w e a =
-      meets-unchanged s out _ (outcome_of o) r w (step-answer (split (turn call clock out)) (session s) (outcome_of o) e) (ap outcome_of a.0) a.1
+      meets-unchanged s out _ o r w (step-answer (split (turn call clock out)) (session s) o e) a.0 a.1
 
   module _ (u : Untimed) (p : decide (view (session s)) clock (map_call sight call) ≡ edit (Edit.queue u ∷ [])) where
-    pub queue_full : Whole s → has_room s.control 1 ≡ false → Tells r (Outcome.Refused Error.FullQueue) 0 → Handled s s out out call clock r
+    pub queue_full : Whole s → has_room s.control 1 ≡ false → Tells r (error_of Error.FullQueue) 0 → Handled s s out out call clock r
     unfolding split has_room
     queue_full w full a =
-        meets-unchanged s out _ (outcome_of (Outcome.Refused Error.FullQueue)) r w
+        meets-unchanged s out _ (error_of Error.FullQueue) r w
         (step_queue_full (split (turn call clock out)) (session s) u p (omega (arith, leb-false (queue_length s.control + 1) 256 full, requests-length s)))
-        (ap outcome_of a.0) a.1
+        a.0 a.1
 
     pub queue-done : {d v : List ℕ} {q : List Float} → has_room s.control 1 ≡ true → Whole (store d v q s.texts)
-        → Enacted s (store d v q s.texts) (Edit.queue u ∷ []) (load_of call) → Tells r Outcome.Accepted 0 → Handled s (store d v q s.texts) out out call clock r
+        → Enacted s (store d v q s.texts) (Edit.queue u ∷ []) (load_of call) → Tells r plan.Result.accepted 0 → Handled s (store d v q s.texts) out out call clock r
     unfolding split has_room edit records refuses refusal
     queue-done fits w done a =
         meets-done s _ out out _ (edit (Edit.queue u ∷ [])) (load_of call) r w
         (step-queue (split (turn call clock out)) (session s) u p (omega (arith, leb-true (queue_length s.control + 1) 256 fits, requests-length s)))
-        done refl (ap outcome_of a.0) a.1 (sym (splice-none out 0)) (TextsAfter.kept refl)
+        done refl a.0 a.1 (sym (splice-none out 0)) (TextsAfter.kept refl)
 
   -- behind the frame of the device in slot k
   module _ (k serial time : ℕ) (l : k < device_count s.control) where
@@ -132,45 +128,45 @@ module _ (s : Store) (out : List ℕ) (call : Call Input) (clock : ℕ) (r : Ans
     needs_are = ap framed_length (pending-count s k l) ∙ entries_are waits
 
     module _ (u : Untimed) (p : decide (view (session s)) clock (map_call sight call) ≡ edit (Edit.frame k serial time ∷ Edit.queue u ∷ [])) where
-      pub flush_full : {n : ℕ} → n ≡ frame_entries waits → Whole s → has_room s.control (n + 1) ≡ false → Tells r (Outcome.Refused Error.FullQueue) 0 → Handled s s out out call clock r
+      pub flush_full : {n : ℕ} → n ≡ frame_entries waits → Whole s → has_room s.control (n + 1) ≡ false → Tells r (error_of Error.FullQueue) 0 → Handled s s out out call clock r
       unfolding split has_room
       flush_full {n} m w full a =
-          meets-unchanged s out _ (outcome_of (Outcome.Refused Error.FullQueue)) r w
+          meets-unchanged s out _ (error_of Error.FullQueue) r w
           (step_flush_full (split (turn call clock out)) (session s) k serial time u p
           (omega (arith, leb-false (queue_length s.control + (n + 1)) 256 full, m, requests-length s, needs_are)))
-          (ap outcome_of a.0) a.1
+          a.0 a.1
 
       pub flush_done : {d v : List ℕ} {q : List Float} {n : ℕ} → n ≡ frame_entries waits → has_room s.control (n + 1) ≡ true → Whole (store d v q s.texts)
-          → Enacted s (store d v q s.texts) (Edit.frame k serial time ∷ Edit.queue u ∷ []) (load_of call) → Tells r Outcome.Accepted 0
+          → Enacted s (store d v q s.texts) (Edit.frame k serial time ∷ Edit.queue u ∷ []) (load_of call) → Tells r plan.Result.accepted 0
           → Handled s (store d v q s.texts) out out call clock r
       unfolding split has_room edit records refuses refusal
       flush_done {n = n} m fits w done a =
           meets-done s _ out out _ (edit (Edit.frame k serial time ∷ Edit.queue u ∷ [])) (load_of call) r w
           (step_flush (split (turn call clock out)) (session s) k serial time u p
           (omega (arith, leb-true (queue_length s.control + (n + 1)) 256 fits, m, requests-length s, needs_are)))
-          done refl (ap outcome_of a.0) a.1 (sym (splice-none out 0)) (TextsAfter.kept refl)
+          done refl a.0 a.1 (sym (splice-none out 0)) (TextsAfter.kept refl)
 
     module _ (p : decide (view (session s)) clock (map_call sight call) ≡ edit (Edit.frame k serial time ∷ [])) where
       -- a queue that is sound has room for nothing
-      pub frame_full : {n : ℕ} → n ≡ frame_entries waits → Whole s → has_room s.control n ≡ false → Tells r (Outcome.Refused Error.FullQueue) 0 → Handled s s out out call clock r
+      pub frame_full : {n : ℕ} → n ≡ frame_entries waits → Whole s → has_room s.control n ≡ false → Tells r (error_of Error.FullQueue) 0 → Handled s s out out call clock r
       unfolding split has_room
       frame_full {n} m w full a =
           let q = leb-false (queue_length s.control + n) 256 full in
           let some = entries-some waits (omega (arith, q, m, w.sound.queued)) in
-          meets-unchanged s out _ (outcome_of (Outcome.Refused Error.FullQueue)) r w
+          meets-unchanged s out _ (error_of Error.FullQueue) r w
           (step_frame_full (split (turn call clock out)) (session s) k serial time p (omega (arith, some.0, pending-count s k l))
           (omega (arith, q, m, some.1, requests-length s, pending-count s k l)))
-          (ap outcome_of a.0) a.1
+          a.0 a.1
 
       pub frame-done : {d v : List ℕ} {q : List Float} {n : ℕ} → n ≡ frame_entries waits → has_room s.control n ≡ true → Whole (store d v q s.texts)
-          → Enacted s (store d v q s.texts) (Edit.frame k serial time ∷ []) (load_of call) → Tells r Outcome.Accepted 0
+          → Enacted s (store d v q s.texts) (Edit.frame k serial time ∷ []) (load_of call) → Tells r plan.Result.accepted 0
           → Handled s (store d v q s.texts) out out call clock r
       unfolding split has_room edit records refuses refusal
       frame-done {n = n} m fits w done a =
           meets-done s _ out out _ (edit (Edit.frame k serial time ∷ [])) (load_of call) r w
           (step-frame (split (turn call clock out)) (session s) k serial time p
           (omega (arith, leb-true (queue_length s.control + n) 256 fits, m, requests-length s, needs_are)))
-          done refl (ap outcome_of a.0) a.1 (sym (splice-none out 0)) (TextsAfter.kept refl)
+          done refl a.0 a.1 (sym (splice-none out 0)) (TextsAfter.kept refl)
 
 -- ---- what is found
 
@@ -224,7 +220,7 @@ pub done-room : {n m : ℕ} → n ≡ fixed_length (Event.CallbackDone 0) → n 
 unfolding record_length text_of layout
 done-room e l = omega arith
 
-module _ (s : Store) (out : List ℕ) (callback version clock : ℕ) (r : Answer) (h : version ≡ 1) where
+module _ (s : Store) (out : List ℕ) (callback version clock : ℕ) (r : Result Answer Error) (h : version ≡ 1) where
   abbrev done : List Sent
   done = on callback (Event.CallbackDone 0) ∷ []
 
@@ -236,21 +232,21 @@ module _ (s : Store) (out : List ℕ) (callback version clock : ℕ) (r : Answer
   unfolding record_length text_of layout
   done-length q = omega (arith, one_length callback (Event.CallbackDone 0) [])
 
-  pub sync-short : {n : ℕ} → n ≡ fixed_length (Event.CallbackDone 0) → Whole s → length out < n → Tells r (Outcome.Refused Error.ShortOut) 0
+  pub sync-short : {n : ℕ} → n ≡ fixed_length (Event.CallbackDone 0) → Whole s → length out < n → Tells r (error_of Error.ShortOut) 0
       → Handled s s out out (Call.plain (Plain.sync callback version)) clock r
   unfolding split map_call decide decide_plain
   sync-short q w l a =
-      meets-unchanged s out _ (outcome_of (Outcome.Refused Error.ShortOut)) r w
+      meets-unchanged s out _ (error_of Error.ShortOut) r w
       (step-sent-short (split (turn (Call.plain (Plain.sync callback version)) clock out)) (session s) done [] sync-plan quiet_none (omega (arith, done-length q)))
-      (ap outcome_of a.0) a.1
+      a.0 a.1
 
-  pub sync-done : {n m : ℕ} {later : List ℕ} → n ≡ fixed_length (Event.CallbackDone 0) → Whole s → n ≤ length out → Sends out later 0 done m → Tells r Outcome.Accepted m
+  pub sync-done : {n m : ℕ} {later : List ℕ} → n ≡ fixed_length (Event.CallbackDone 0) → Whole s → n ≤ length out → Sends out later 0 done m → Tells r plan.Result.accepted m
       → Handled s s out later (Call.plain (Plain.sync callback version)) clock r
   unfolding split map_call decide decide_plain send refuses refusal
   sync-done q w l d a =
       meets-done s s out _ _ (send done []) (load_of (Call.plain (Plain.sync callback version))) r w
       (step-sent (split (turn (Call.plain (Plain.sync callback version)) clock out)) (session s) done [] sync-plan quiet_none (omega (arith, done-length q)))
-      (enacted-none s _ w.sound) refl (ap outcome_of a.0) (a.1 ∙ d.next ∙ zero-add (length (records done))) d.bytes (TextsAfter.kept refl)
+      (enacted-none s _ w.sound) refl a.0 (a.1 ∙ d.next ∙ zero-add (length (records done))) d.bytes (TextsAfter.kept refl)
 
 -- ---- destroyed
 
@@ -270,27 +266,27 @@ sent-next s object edits =
     ap (λ (n : Connection). send (on object (Event.Destroyed (next_serial n.last_serial)) ∷ []) (Edit.raise 1 ∷ edits)) (view-connection s)
 
 module _ (s : Store) (out : List ℕ) (call : Call Input) (clock object : ℕ) (edits : List Edit) (quiet : quiet_all (Edit.raise 1 ∷ edits) ≡ true)
-    (p : decide (view (session s)) clock (map_call sight call) ≡ send_next (view (session s)) object (λ n. Event.Destroyed n) edits) (r : Answer) where
+    (p : decide (view (session s)) clock (map_call sight call) ≡ send_next (view (session s)) object (λ n. Event.Destroyed n) edits) (r : Result Answer Error) where
   abbrev last : ℕ
   last = (connection_of s.control).last_serial
 
-  pub destroyed-short : Whole s → length out < 14 → Tells r (Outcome.Refused Error.ShortOut) 0 → Handled s s out out call clock r
+  pub destroyed-short : Whole s → length out < 14 → Tells r (error_of Error.ShortOut) 0 → Handled s s out out call clock r
   unfolding split
   destroyed-short w l a =
-      meets-unchanged s out _ (outcome_of (Outcome.Refused Error.ShortOut)) r w
+      meets-unchanged s out _ (error_of Error.ShortOut) r w
       (step-sent-short (split (turn call clock out)) (session s) (destroyed last (object ∷ [])) (Edit.raise 1 ∷ edits) (p ∙ sent-next s object edits) quiet
       (omega (arith, destroyed-length last (object ∷ []))))
-      (ap outcome_of a.0) a.1
+      a.0 a.1
 
   pub destroyed-done : {d v later : List ℕ} {f : List Float} {serial : ℕ} {m : Mark} → Whole (store d v f s.texts) → 14 ≤ length out → serial ≡ last
       → Destroys out later (record { at = 0; serial = serial }) (object ∷ []) m → Enacted s (store d v f s.texts) (Edit.raise 1 ∷ edits) (load_of call)
-      → Tells r Outcome.Accepted m.at → Handled s (store d v f s.texts) out later call clock r
+      → Tells r plan.Result.accepted m.at → Handled s (store d v f s.texts) out later call clock r
   unfolding split send refuses refusal
   destroyed-done {later = later} w l q d done a =
       meets-done s _ out later _ (send (destroyed last (object ∷ [])) (Edit.raise 1 ∷ edits)) (load_of call) r w
       (step-sent (split (turn call clock out)) (session s) (destroyed last (object ∷ [])) (Edit.raise 1 ∷ edits) (p ∙ sent-next s object edits) quiet
       (omega (arith, destroyed-length last (object ∷ []))))
-      done refl (ap outcome_of a.0) (a.1 ∙ omega (arith, d.at, destroyed-length last (object ∷ [])))
+      done refl a.0 (a.1 ∙ omega (arith, d.at, destroyed-length last (object ∷ [])))
       (d.bytes ∙ ap (λ (n : ℕ). splice out 0 (records (destroyed n (object ∷ [])))) q) (TextsAfter.kept refl)
 
 -- ---- Release of a seat

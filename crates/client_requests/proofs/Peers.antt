@@ -1,13 +1,10 @@
 -- Sync as a message is Sync; where it is accepted, the callback's id is kept. Assumes nothing.
+use Rattle.std.specs.Prelude.{Result}
 use Prim.Native.Nat.{ℕ, ◌≤◌, ◌<◌}
-use mathlib.Core.Path.{◌≡◌, refl, sym, ap, subst, ◌∙◌}
+use mathlib.Core.Path.{◌≡◌, refl, sym, ap, ◌∙◌}
 use mathlib.Core.Bool.{Bool, true, false, ◌&&◌, cond, false≢true}
 use mathlib.Core.List.{List, [], ◌∷◌}
-use mathlib.Core.Logic.{◌⊎◌, inl, inr}
-use native.Mathlib.Omega.{arith}
 use borrow.Author.Tests.{leb-true, leb-false, lt-ltb, le-ltb}
-use types.Run.{OneOf}
-use denote.Enum.Declared.{tag_of}
 use lib.Dec.{eqb, leb, ltb}
 use lib.ListN.{length}
 use Rattle.eiproto.specs.Interface.{ei_callback}
@@ -24,16 +21,13 @@ use Rattle.model_steps.proofs.Steps.{step-answer, step-sent, step-sent-short}
 use Rattle.control.specs.Control.{connection_of}
 use Rattle.session.specs.View.{Store, store, session, Whole}
 use Rattle.session.proofs.Views.{view-connection}
-use Rattle.requests.proofs.Arms.{among}
 use Rattle.session.specs.Enact.{Enacted}
-use Rattle.answers.specs.Answer.{outcome_of}
+use Rattle.answers.specs.Answer.{outcome_of, error_of, Tells}
 use Rattle.answers.specs.Texts.{TextsAfter}
 use Rattle.answers.specs.Meets.{Handled}
 use Rattle.answers.specs.declared.Error.{Error}
-use Rattle.answers.specs.declared.Outcome.{Outcome}
-use Rattle.answers.specs.contracts.Outcome as outcome
 use Rattle.answers.specs.declared.Answer.{Answer}
-use Rattle.answers.proofs.Meetings.{whole-after, over-handled, error_refuses}
+use Rattle.answers.proofs.Meetings.{whole-after, over-handled}
 
 -- an accepted call with the client's object besides
 unfoldable pub peered : ℕ → Step Load → Step Load
@@ -57,17 +51,16 @@ module _ (s : Session Load) (callback version clock room : ℕ) where
   not_mine h = step-answer message s (plan.Result.refused 25) (rw h)
 
   -- what becomes of the one and of the other
-  pub record Both : Type 0 where
-    pub is : step message s ≡ peered callback (step plainly s)
-    pub ends : (refuses (step plainly s).outcome ≡ true) ⊎ ((step plainly s).outcome ≡ plan.Result.accepted)
+  abbrev pub Both : Type 0
+  Both = step message s ≡ peered callback (step plainly s)
 
   both-refused : (o : plan.Result) → refuses o ≡ true → step plainly s ≡ unchanged s o → step message s ≡ unchanged s o → Both
   unfolding peered unchanged
-  both-refused o h p m = record { is = m ∙ sym (ap (peered callback) p ∙ rw h); ends = inl (ap (λ (x : Step Load). refuses x.outcome) p ∙ h) }
+  both-refused o h p m = m ∙ sym (ap (peered callback) p ∙ rw h)
 
   both-done : step plainly s ≡ carried_out (send done []) Load.None s → step message s ≡ carried_out (send done (Edit.peer_object callback ∷ [])) Load.None s → Both
   unfolding peered carried_out send refuses refusal enact_all gave_all gave
-  both-done p m = record { is = m ∙ sym (ap (peered callback) p); ends = inr (ap (λ (x : Step Load). x.outcome) p) }
+  both-done p m = m ∙ sym (ap (peered callback) p)
 
   pub both : is_peer_id (view s) callback ≡ true → Both
   unfolding split map_call decide decide_plain handle_sync handle_sync_message quiet_all quiet_one refuses refusal
@@ -109,45 +102,17 @@ module _ (s : Store) (id : ℕ) where
 
 -- ---- the call
 
--- the tags of the arm that has no accepted outcome
-pub not-accepted : (o : Outcome) → OneOf (1 ∷ 2 ∷ 3 ∷ 4 ∷ 5 ∷ 6 ∷ []) (tag_of outcome.the_type o) → o ≡ Outcome.Accepted → ⊥
-not-accepted o k e = go (subst (λ (x : Outcome). OneOf (1 ∷ 2 ∷ 3 ∷ 4 ∷ 5 ∷ 6 ∷ []) (tag_of outcome.the_type x)) e k)
-  where
-    go : OneOf (1 ∷ 2 ∷ 3 ∷ 4 ∷ 5 ∷ 6 ∷ []) 0 → ⊥
-    go o = let b = among 1 6 0 o in omega (arith, b.0)
-
 pub whole-made : {s : Store} {c : List ℕ} {edits : List Edit} {load : Load} → Whole s → Enacted s (store c s.words s.reals s.texts) edits load
     → Whole (store c s.words s.reals s.texts)
 whole-made {s} w made = whole-after s w made.sound refl refl
 
-unfoldable is_accepted : plan.Result → Bool
-is_accepted plan.Result.accepted = true
-is_accepted (plan.Result.refused n) = false
-is_accepted (plan.Result.refused_version i v) = false
-is_accepted (plan.Result.seat id) = false
-is_accepted (plan.Result.device id) = false
-is_accepted (plan.Result.value n) = false
-is_accepted (plan.Result.truth b) = false
-is_accepted plan.Result.none = false
-is_accepted plan.Result.given = false
-
-accepted_is : (o : Outcome) → outcome_of o ≡ plan.Result.accepted → o ≡ Outcome.Accepted
-unfolding is_accepted refuses refusal
-accepted_is Outcome.Accepted e = refl
-accepted_is (Outcome.Refused x) e = absurd (false≢true (sym (ap refuses e) ∙ error_refuses x))
-accepted_is (Outcome.Seat id) e = absurd (false≢true (ap is_accepted e))
-accepted_is (Outcome.Device id) e = absurd (false≢true (ap is_accepted e))
-accepted_is (Outcome.Value n) e = absurd (false≢true (ap is_accepted e))
-accepted_is (Outcome.Truth b) e = absurd (false≢true (ap is_accepted e))
-accepted_is Outcome.None e = absurd (false≢true (ap is_accepted e))
-
-module _ (s : Store) (out : List ℕ) (callback version clock : ℕ) (r : Answer) where
+module _ (s : Store) (out : List ℕ) (callback version clock : ℕ) (r : Result Answer Error) where
   abbrev asked : Call Input
   asked = Call.plain (Plain.sync_message callback version)
 
   -- 25
-  pub not_peer : Whole s → is_peer_id (view (session s)) callback ≡ false → (r.outcome ≡ Outcome.Refused Error.InvalidId) × (r.count ≡ 0) → Handled s s out out asked clock r
-  not_peer w h told = over-handled s out asked clock (Outcome.Refused Error.InvalidId) r w (not_mine (session s) callback version clock (length out) h) told
+  pub not_peer : Whole s → is_peer_id (view (session s)) callback ≡ false → Tells r (error_of Error.InvalidId) 0 → Handled s s out out asked clock r
+  not_peer w h told = over-handled s out asked clock (error_of Error.InvalidId) r w (not_mine (session s) callback version clock (length out) h) told
 
   module _ (mine : is_peer_id (view (session s)) callback ≡ true) {later : List ℕ} (h : Handled s s out later (Call.plain (Plain.sync callback version)) clock r) where
     abbrev sync : Step Load
@@ -158,29 +123,25 @@ module _ (s : Store) (out : List ℕ) (callback version clock : ℕ) (r : Answer
 
     is_refused_lem : refuses sync.outcome ≡ true → step (message (session s) callback version clock (length out)) (session s) ≡ sync
     unfolding peered
-    is_refused_lem e = pair.is ∙ rw e
+    is_refused_lem e = pair ∙ rw e
 
     is_made : refuses sync.outcome ≡ false
         → step (message (session s) callback version clock (length out)) (session s)
         ≡ record { session = enact (Edit.peer_object callback) Load.None sync.session; outcome = sync.outcome; events = sync.events; gave = sync.gave }
     unfolding peered
-    is_made e = pair.is ∙ rw e
+    is_made e = pair ∙ rw e
 
-    pub peer_refused : (r.outcome ≡ Outcome.Accepted → ⊥) → Handled s s out later asked clock r
-    peer_refused other = go pair.ends
-      where
-        go : (refuses sync.outcome ≡ true) ⊎ (sync.outcome ≡ plan.Result.accepted) → Handled s s out later asked clock r
-        go (inl e) =
-            rw (is_refused_lem e)
-            (record { whole = h.whole; view = h.view; outcome = h.outcome; count = h.count; bytes = h.bytes; kept = h.kept; texts = TextsAfter.kept refl })
-        go (inr e) = absurd (other (accepted_is r.outcome (h.outcome ∙ e)))
+    pub peer_refused : refuses (outcome_of r) ≡ true → Handled s s out later asked clock r
+    peer_refused e =
+        rw (is_refused_lem (ap refuses (sym h.outcome) ∙ e))
+        (record { whole = h.whole; view = h.view; outcome = h.outcome; count = h.count; bytes = h.bytes; kept = h.kept; texts = TextsAfter.kept refl })
 
-    pub peer_made : r.outcome ≡ Outcome.Accepted → {d : List ℕ} → Whole (store d s.words s.reals s.texts)
+    pub peer_made : refuses (outcome_of r) ≡ false → {d : List ℕ} → Whole (store d s.words s.reals s.texts)
         → Enacted s (store d s.words s.reals s.texts) (Edit.peer_object callback ∷ []) Load.None
         → Handled s (store d s.words s.reals s.texts) out later asked clock r
     unfolding enact_all refuses refusal
-    peer_made told w made =
-        let fine : refuses sync.outcome ≡ false = ap refuses (sym h.outcome ∙ ap outcome_of told) in
+    peer_made goes w made =
+        let fine : refuses sync.outcome ≡ false = ap refuses (sym h.outcome) ∙ goes in
         rw (is_made fine)
         (record {
           whole = w;

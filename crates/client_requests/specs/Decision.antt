@@ -1,5 +1,5 @@
 -- What a decision on a timed request says of the step: nothing of the payload has a part in it. Assumes nothing.
-use Rattle.std.specs.Prelude.{ℕ, ◌<◌, ◌≡◌, Bool, true, false, cond, List, [], ◌∷◌, ◌++◌, map, leb, length}
+use Rattle.std.specs.Prelude.{ℕ, ◌<◌, ◌≡◌, Bool, true, false, cond, List, [], ◌∷◌, ◌++◌, map, leb, length, Option, Some, None, Result, Ok, Err}
 use Rattle.eiproto.specs.declared.event.DeviceCapability.{DeviceCapability}
 use Rattle.touches.specs.Touches.{touches_limit, member}
 use Rattle.requests.specs.Row.{row_of}
@@ -18,7 +18,7 @@ use Rattle.answers.specs.Promise.{SilentRows}
 use Rattle.answers.specs.declared.Error.{Error}
 use Rattle.answers.specs.declared.Answer.{Answer}
 use Rattle.client_requests.specs.declared.timed.TouchChange.{TouchChange}
-use Rattle.client_requests.specs.declared.timed.Decision.{Decision}
+use Rattle.client_requests.specs.declared.timed.Queued.{Queued}
 
 -- ---- the held touches
 
@@ -38,16 +38,21 @@ CanChange change held = (id : ℕ) → change ≡ TouchChange.Down id → (lengt
 
 -- ---- a decision
 
+-- a request is refused, ignored, or waits
+abbrev pub Decision : Type 0
+Decision = Result (Option Queued) Error
+
 -- "16 FULL_PENDING: the device has 64 pending", where nothing else is asked
 unfoldable pub queue_on : List ℕ → ℕ → TouchChange → Cell → Decision
 unfolding core_at
-queue_on c k change request = cond (leb pending_limit (core_at c k).pending) (Decision.Refused Error.FullPending) (Decision.Queued k change request)
+queue_on c k change request = cond (leb pending_limit (core_at c k).pending) (Err Error.FullPending) (Ok (Some (record { slot = k; change = change; request = request })))
 
 -- the step that a decision stands for: the held touches change before the request waits
 abbrev pub decided_step : Decision → (sight : Sight) (load : Load) → Session Load → Step Load
-decided_step Decision.Ignored i load s = unchanged s plan.Result.accepted
-decided_step (Decision.Refused e) i load s = unchanged s (error_of e)
-decided_step (Decision.Queued k change request) i load s = carried_out (plan.edit (map (λ a. Edit.amend k a) (amends_of change) ++ (Edit.pend k i ∷ []))) load s
+decided_step (Ok None) i load s = unchanged s plan.Result.accepted
+decided_step (Err e) i load s = unchanged s (error_of e)
+decided_step (Ok (Some q)) i load s =
+    carried_out (plan.edit (map (λ a. Edit.amend q.slot a) (amends_of q.change) ++ (Edit.pend q.slot i ∷ []))) load s
 
 -- the device in slot k has room for a request that waits
 pub record CanQueue (c : List ℕ) (k : ℕ) (change : TouchChange) : Type 0 where
@@ -56,14 +61,14 @@ pub record CanQueue (c : List ℕ) (k : ℕ) (change : TouchChange) : Type 0 whe
   pub touch : CanChange change (core_at c k).down_touch_ids
 
 abbrev pub Fits : List ℕ → Decision → Type 0
-Fits c d = (k : ℕ) (change : TouchChange) (request : Cell) → d ≡ Decision.Queued k change request → CanQueue c k change
+Fits c d = (q : Queued) → d ≡ Ok (Some q) → CanQueue c q.slot q.change
 
 -- c are the control words, which are all that a decision reads
 pub record Decided (c : List ℕ) (interface version : ℕ) (sight : Sight) (request : Cell) (d : Decision) : Type 0 where
   pub step_is : (s : Store) (t : Split Load) → s.control ≡ c → t.call ≡ Call.timed interface version sight
       → step t (session s) ≡ decided_step d sight t.load (session s)
   pub fits : Fits c d
-  pub same : (k : ℕ) (change : TouchChange) (x : Cell) → d ≡ Decision.Queued k change x → x ≡ request
+  pub same : (q : Queued) → d ≡ Ok (Some q) → q.request ≡ request
 
 -- ---- what is asked of a request
 
@@ -84,7 +89,7 @@ abbrev pub Waits : Input → Cell → Type 0
 Waits input request = (texts : List ℕ) → item (sight input) (load input) ≡ item_at texts (row_of request)
 
 -- a request met what was decided on it
-abbrev pub CarriesOut : (control words : Numbers) (reals : Reals) → Decision → Answer → Type 0
+abbrev pub CarriesOut : (control words : Numbers) (reals : Reals) → Decision → Result Answer Error → Type 0
 CarriesOut c w r d a =
     (interface version clock : ℕ) (input : Input) (request : Cell) → Decided c.entry.now interface version (sight input) request d → Waits input request
     → SilentRows c w r (Call.timed interface version input) clock a

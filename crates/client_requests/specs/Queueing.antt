@@ -1,5 +1,6 @@
 -- What is asked of a request that is not timed, and is queued at once. Assumes nothing.
-use Rattle.std.specs.Prelude.{ℕ, ◌≡◌, List, [], ◌∷◌}
+use Rattle.answers.specs.declared.Error.{Error}
+use Rattle.std.specs.Prelude.{ℕ, ◌≡◌, List, [], ◌∷◌, Result}
 use Rattle.requests.specs.declared.request.EisRequest.{EisRequest}
 use Rattle.model.specs.Call.{Input, sight, Call, map_call}
 use Rattle.model.specs.Session.{Untimed, Queued, View, view}
@@ -24,7 +25,7 @@ pub record Queues (request : EisRequest) (call : Call Input) (clock : ℕ) (s : 
   pub plan : decide (view (session s)) clock (map_call sight call) ≡ edit (Edit.queue untimed ∷ [])
 
 -- the request is queued, or the queue is full
-abbrev pub QueuesRows : (control words : Numbers) (reals : Reals) → EisRequest → Answer → Type 0
+abbrev pub QueuesRows : (control words : Numbers) (reals : Reals) → EisRequest → Result Answer Error → Type 0
 QueuesRows c w r request a =
     (call : Call Input) (clock : ℕ) (texts out : List ℕ) → Queues request call clock (rows_before c w r texts) → Whole (rows_before c w r texts)
     → Handled (rows_before c w r texts) (rows_after c w r texts) out out call clock a

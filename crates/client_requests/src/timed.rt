@@ -8,14 +8,14 @@ ghost use Rattle.model.specs.Decide.{lists_as};
 ghost use Rattle.control.specs.Table.{first};
 ghost use Rattle.control.specs.Control.{device_count, core_at, cores_of};
 ghost use Rattle.control.specs.Sound.{Sound};
-ghost use Rattle.control.specs.Answer.{slot_told};
+ghost use Rattle.eiproto.specs.Told.{told};
 ghost use Rattle.session.specs.View.{store, Lent, Whole};
 ghost use Rattle.session.specs.Enact.{EnactsControl};
 ghost use Rattle.answers.specs.Promise.{Silent, SilentRows};
 ghost use Rattle.client_requests.specs.Decision.{amends_of, goes_down, CanChange, queue_on, Fits, Decided, OnlyQueued, OnlyHeld, Waits, CarriesOut};
 
 use answers::{Answer, Error};
-use control::{PENDING_LIMIT, Slot};
+use control::PENDING_LIMIT;
 use eiproto::event::DeviceCapability;
 use requests::cell::Cell;
 use requests::row::TEXTS_LIMIT;
@@ -23,47 +23,51 @@ use texts::TEXT_LENGTH_LIMIT;
 use touches::EIS_MAX_TOUCHES;
 
 // What a request changes of the held touches of its device.
-#[derive(Clone, Copy)]
+#[derive(Clone, Copy, Debug, PartialEq, Eq)]
 pub enum TouchChange {
     Nothing,
     Down(u32),
     Up(u32),
 }
 
-// What becomes of a timed request.
+// A timed request that waits for its frame, on the device in the slot, whose held touches change before. It has no device and no time yet: they
+// come with its frame. What is decided on a request is a refusal, or one that waits, or none: it is on no known interface, or for a touch that is
+// not down, and is ignored.
 #[derive(Clone, Copy)]
-pub enum Decision {
-    // It is on no known interface, or for a touch that is not down.
-    Ignored,
-    Refused(Error),
-    // It waits for its frame, on the device in the slot, whose held touches change before. It has no device and no time yet: they come with
-    // its frame.
-    Queued {
-        slot: usize,
-        change: TouchChange,
-        request: Cell,
-    },
+pub struct Queued {
+    pub slot: usize,
+    pub change: TouchChange,
+    pub request: Cell,
 }
 
 // Where nothing else is asked: 16 where the pending list is full.
-fn queue_on(control: &[u64], k: usize, change: TouchChange, request: Cell) -> Decision
+fn queue_on(
+    control: &[u64],
+    k: usize,
+    change: TouchChange,
+    request: Cell,
+) -> Result<Option<Queued>, Error>
     requires { Sound control.now × (k < device_count control.now) }
     ensures { result ≡ queue_on control.now k change request }
 {
     if PENDING_LIMIT <= control::pending_count(control, k) {
-        return Decision::Refused(Error::FullPending);
+        return Err(Error::FullPending);
     }
-    Decision::Queued {
+    Ok(Some(Queued {
         slot: k,
         change,
         request,
-    }
+    }))
 }
 
 // The slot of the device of which a request's interface is, for the capability.
-pub fn device_for_interface(control: &[u64], capability: DeviceCapability, interface: u64) -> Slot
+pub fn device_for_interface(
+    control: &[u64],
+    capability: DeviceCapability,
+    interface: u64,
+) -> Option<usize>
     requires { Sound control.now }
-    ensures { slot_told result ≡ first (λ d. lists_as (capability_index capability) interface d.interfaces) (cores_of control.now) }
+    ensures { told result ≡ first (λ d. lists_as (capability_index capability) interface d.interfaces) (cores_of control.now) }
 {
     control::find_interface(
         control,
@@ -73,22 +77,25 @@ pub fn device_for_interface(control: &[u64], capability: DeviceCapability, inter
 }
 
 // "TOO_MANY_TOUCHES: Down while 16 ids are held, even for a held id. DUPLICATED_TOUCH_DOWN: Down for a held id, fewer than 16 held."
-pub fn decide_down(control: &[u64], touchscreen: u64, touch: u32, request: Cell) -> Decision
+pub fn decide_down(
+    control: &[u64],
+    touchscreen: u64,
+    touch: u32,
+    request: Cell,
+) -> Result<Option<Queued>, Error>
     requires { Sound control.now }
     ensures { (version : ℕ) → Decided control.now touchscreen version (touching Kind.TouchDown touch) request result }
 {
-    match device_for_interface(control, DeviceCapability::Touch, touchscreen) {
-        Slot::At(k) => {
-            if EIS_MAX_TOUCHES <= control::touch_count(control, k) {
-                return Decision::Refused(Error::TooManyTouches);
-            }
-            if control::is_down(control, k, touch) {
-                return Decision::Refused(Error::DuplicatedTouchDown);
-            }
-            queue_on(control, k, TouchChange::Down(touch), request)
-        }
-        Slot::Unknown => Decision::Ignored,
+    let Some(k) = device_for_interface(control, DeviceCapability::Touch, touchscreen) else {
+        return Ok(None);
+    };
+    if EIS_MAX_TOUCHES <= control::touch_count(control, k) {
+        return Err(Error::TooManyTouches);
     }
+    if control::is_down(control, k, touch) {
+        return Err(Error::DuplicatedTouchDown);
+    }
+    queue_on(control, k, TouchChange::Down(touch), request)
 }
 
 // "Touch Motion, Up and Cancel for an id not held: accepted, nothing."
@@ -98,19 +105,17 @@ pub fn decide_held(
     touch: u32,
     change: TouchChange,
     request: Cell,
-) -> Decision
+) -> Result<Option<Queued>, Error>
     requires { Sound control.now × (goes_down change ≡ false) }
     ensures { (kind : Kind) (version : ℕ) → OnlyHeld kind version touch change → Decided control.now touchscreen version (touching kind touch) request result }
 {
-    match device_for_interface(control, DeviceCapability::Touch, touchscreen) {
-        Slot::At(k) => {
-            if !control::is_down(control, k, touch) {
-                return Decision::Ignored;
-            }
-            queue_on(control, k, change, request)
-        }
-        Slot::Unknown => Decision::Ignored,
+    let Some(k) = device_for_interface(control, DeviceCapability::Touch, touchscreen) else {
+        return Ok(None);
+    };
+    if !control::is_down(control, k, touch) {
+        return Ok(None);
     }
+    queue_on(control, k, change, request)
 }
 
 // "touch Cancel on a known touchscreen, the request's version below 2, even for an id not held"
@@ -120,17 +125,17 @@ pub fn decide_cancel(
     version: u32,
     touch: u32,
     request: Cell,
-) -> Decision
+) -> Result<Option<Queued>, Error>
     requires { Sound control.now }
     ensures { Decided control.now touchscreen version (touching Kind.TouchCancel touch) request result }
 {
     if version < 2 {
         return match device_for_interface(control, DeviceCapability::Touch, touchscreen) {
-            Slot::At(_) => Decision::Refused(Error::InvalidInterfaceVersion {
+            Some(_) => Err(Error::InvalidInterfaceVersion {
                 interface: DeviceCapability::TOUCH_INTERFACE,
                 version,
             }),
-            Slot::Unknown => Decision::Ignored,
+            None => Ok(None),
         };
     }
     decide_held(control, touchscreen, touch, TouchChange::Up(touch), request)
@@ -152,24 +157,17 @@ pub fn queue_request(
     control: &mut [u64],
     words: &mut [u64],
     reals: &mut [f32],
-    decision: Decision,
-) -> Answer
+    decision: Result<Option<Queued>, Error>,
+) -> Result<Answer, Error>
     requires { Lent control.old words.old reals.old × Fits control.old decision }
     ensures { CarriesOut control words reals decision result }
 {
-    match decision {
-        Decision::Ignored => Answer::accepted(),
-        Decision::Refused(e) => Answer::refused(e),
-        Decision::Queued {
-            slot,
-            change,
-            request,
-        } => {
-            change_touches(control, slot, change);
-            queue::pend(control, words, reals, slot, request);
-            Answer::accepted()
-        }
-    }
+    let Some(queued) = decision? else {
+        return Ok(Answer::accepted());
+    };
+    change_touches(control, queued.slot, queued.change);
+    queue::pend(control, words, reals, queued.slot, queued.request);
+    Ok(Answer::accepted())
 }
 
 // A request of which nothing is asked but a known interface.
@@ -180,20 +178,18 @@ pub fn queue_for_interface(
     capability: DeviceCapability,
     interface: u64,
     request: Cell,
-) -> Answer
+) -> Result<Answer, Error>
     requires { Lent control.old words.old reals.old }
     ensures { (version clock : ℕ) (i : Input) → OnlyQueued capability i → Waits i request → SilentRows control words reals (Call.timed interface version i) clock result }
 {
-    match device_for_interface(control, capability, interface) {
-        Slot::At(k) => {
-            if PENDING_LIMIT <= control::pending_count(control, k) {
-                return Answer::refused(Error::FullPending);
-            }
-            queue::pend(control, words, reals, k, request);
-            Answer::accepted()
-        }
-        Slot::Unknown => Answer::accepted(),
+    let Some(k) = device_for_interface(control, capability, interface) else {
+        return Ok(Answer::accepted());
+    };
+    if PENDING_LIMIT <= control::pending_count(control, k) {
+        return Err(Error::FullPending);
     }
+    queue::pend(control, words, reals, k, request);
+    Ok(Answer::accepted())
 }
 
 // Utf8, whose text is UTF-8: "0 bytes or above 254" is 6, then the pending list and the texts must have room.
@@ -204,33 +200,24 @@ pub fn queue_utf8(
     texts: &mut [u8],
     interface: u64,
     text: &[u8],
-) -> Answer
+) -> Result<Answer, Error>
     requires { Whole (store control.old words.old reals.old texts.old) × (is_utf8 text.now ≡ true) }
     ensures { (version clock : ℕ) → Silent control words reals texts (Call.timed interface version (Input.Utf8 text.now)) clock result }
 {
-    match device_for_interface(control, DeviceCapability::Text, interface) {
-        Slot::At(k) => {
-            if text.len() == 0 || TEXT_LENGTH_LIMIT < text.len() {
-                return Answer::refused(Error::InvalidTextLength);
-            }
-            if PENDING_LIMIT <= control::pending_count(control, k) {
-                return Answer::refused(Error::FullPending);
-            }
-            let live = texts::live_texts(control, words, reals);
-            if TEXTS_LIMIT <= live.count {
-                return Answer::refused(Error::FullTexts);
-            }
-            texts::pend_text(
-                control,
-                words,
-                reals,
-                texts,
-                k,
-                texts::free_slot(live.used),
-                text,
-            );
-            Answer::accepted()
-        }
-        Slot::Unknown => Answer::accepted(),
+    let Some(k) = device_for_interface(control, DeviceCapability::Text, interface) else {
+        return Ok(Answer::accepted());
+    };
+    if text.len() == 0 || TEXT_LENGTH_LIMIT < text.len() {
+        return Err(Error::InvalidTextLength);
     }
+    if PENDING_LIMIT <= control::pending_count(control, k) {
+        return Err(Error::FullPending);
+    }
+    let live = texts::live_texts(control, words, reals);
+    if TEXTS_LIMIT <= live.count {
+        return Err(Error::FullTexts);
+    }
+    let slot = texts::free_slot(live.used);
+    texts::pend_text(control, words, reals, texts, k, slot, text);
+    Ok(Answer::accepted())
 }

@@ -8,8 +8,7 @@ ghost use Rattle.answers.specs.Meets.{HandledControl};
 ghost use Rattle.answers.specs.Promise.{HandlesControl, HandlesRows, SilentRows};
 ghost use Rattle.client_requests.specs.Queueing.{Planned, QueuesRows};
 
-use answers::{Answer, Error, Outcome};
-use control::Slot;
+use answers::{Answer, Error};
 use eiproto::eiproto_eis::CALLBACK;
 use eiproto::event::DeviceCapability;
 use events::Mark;
@@ -24,50 +23,52 @@ pub fn queue_untimed(
     words: &mut [u64],
     reals: &mut [f32],
     request: EisRequest,
-) -> Answer
+) -> Result<Answer, Error>
     requires { Lent control.old words.old reals.old }
     ensures { QueuesRows control words reals request result }
 {
     if !queue::has_room(control, 1) {
-        return Answer::refused(Error::FullQueue);
+        return Err(Error::FullQueue);
     }
     queue::push(control, words, reals, request);
-    Answer::accepted()
+    Ok(Answer::accepted())
 }
 
-pub fn sync(callback: u64, version: u32, out: &mut [u8]) -> Answer
+pub fn sync(callback: u64, version: u32, out: &mut [u8]) -> Result<Answer, Error>
     ensures { (c : List ℕ) (clock : ℕ) → HandledControl c c out.old out.new (Call.plain (Plain.sync callback version)) clock result }
 {
     if version != 1 {
-        return Answer::refused(Error::InvalidInterfaceVersion {
+        return Err(Error::InvalidInterfaceVersion {
             interface: CALLBACK,
             version,
         });
     }
     let done = Event::CallbackDone { value: 0 };
     if out.len() < event::fixed_length(done) {
-        return Answer::refused(Error::ShortOut);
+        return Err(Error::ShortOut);
     }
-    Answer::sent(events::send(out, 0, callback, done, b""))
+    Ok(Answer::sent(events::send(out, 0, callback, done, b"")))
 }
 
 // Sync as a message: its callback is an object of the client's own, whose id is above the last that it gave and none of the server's.
-pub fn sync_message(control: &mut [u64], callback: u64, version: u32, out: &mut [u8]) -> Answer
+pub fn sync_message(
+    control: &mut [u64],
+    callback: u64,
+    version: u32,
+    out: &mut [u8],
+) -> Result<Answer, Error>
     requires { Sound control.old }
     ensures { (clock : ℕ) → HandlesControl control out (Call.plain (Plain.sync_message callback version)) clock result }
 {
     if callback <= control::last_peer_id(control) {
-        return Answer::refused(Error::InvalidId);
+        return Err(Error::InvalidId);
     }
     if FIRST_SERVER_ID <= callback {
-        return Answer::refused(Error::InvalidId);
+        return Err(Error::InvalidId);
     }
-    let answer = sync(callback, version, out);
-    let outcome = answer.outcome;
-    if let Outcome::Accepted = outcome {
-        session::new_peer_object(control, callback);
-    }
-    answer
+    let answer = sync(callback, version, out)?;
+    session::new_peer_object(control, callback);
+    Ok(answer)
 }
 
 // "A released seat takes its devices with it .. Seat Release for an unknown seat sends nothing."
@@ -77,14 +78,14 @@ pub fn release_seat(
     reals: &mut [f32],
     seat: u64,
     out: &mut [u8],
-) -> Answer
+) -> Result<Answer, Error>
     requires { Lent control.old words.old reals.old }
     ensures { (clock : ℕ) → HandlesRows control words reals out (Call.plain (Plain.seat_release seat)) clock result }
 {
-    match control::find_seat(control, seat) {
-        Slot::At(_) => removal::remove_seat(control, words, reals, seat, out),
-        Slot::Unknown => Answer::accepted(),
-    }
+    let Some(_) = control::find_seat(control, seat) else {
+        return Ok(Answer::accepted());
+    };
+    removal::remove_seat(control, words, reals, seat, out)
 }
 
 // Bind and RequestDevice: "on a known seat with a bit above bit 6, or a bit not in the seat's set" is 3.
@@ -95,22 +96,20 @@ pub fn queue_for_seat(
     seat: u64,
     capabilities: u64,
     request: EisRequest,
-) -> Answer
+) -> Result<Answer, Error>
     requires { Lent control.old words.old reals.old }
     ensures { (call : Call Input) (clock : ℕ) → Planned request call clock (λ v u. handle_seat v seat capabilities u) → SilentRows control words reals call clock result }
 {
-    match control::find_seat(control, seat) {
-        Slot::At(k) => {
-            if DeviceCapability::has_unknown(capabilities) {
-                return Answer::refused(Error::InvalidCapabilities);
-            }
-            if !DeviceCapability::contains(control::seat_capabilities(control, k), capabilities) {
-                return Answer::refused(Error::InvalidCapabilities);
-            }
-            queue_untimed(control, words, reals, request)
-        }
-        Slot::Unknown => Answer::accepted(),
+    let Some(k) = control::find_seat(control, seat) else {
+        return Ok(Answer::accepted());
+    };
+    if DeviceCapability::has_unknown(capabilities) {
+        return Err(Error::InvalidCapabilities);
     }
+    if !DeviceCapability::contains(control::seat_capabilities(control, k), capabilities) {
+        return Err(Error::InvalidCapabilities);
+    }
+    queue_untimed(control, words, reals, request)
 }
 
 // "If the device has pending requests, a Frame with time `now` and the session's last serial goes first .. ; then the request."
@@ -121,25 +120,24 @@ pub fn queue_for_device(
     device: u64,
     clock: u64,
     request: EisRequest,
-) -> Answer
+) -> Result<Answer, Error>
     requires { Lent control.old words.old reals.old }
     ensures { (call : Call Input) → Planned request call clock (λ v u. handle_device v clock device u) → SilentRows control words reals call clock result }
 {
-    match control::find_device(control, device) {
-        Slot::At(k) => {
-            if !queue::has_room(control, queue::frame_entries(control, k) + 1) {
-                return Answer::refused(Error::FullQueue);
-            }
-            let serial = control::last_serial(control);
-            queue::frame(control, words, reals, k, serial, clock);
-            queue::push(control, words, reals, request);
-            Answer::accepted()
-        }
-        Slot::Unknown => Answer::accepted(),
+    let Some(k) = control::find_device(control, device) else {
+        return Ok(Answer::accepted());
+    };
+    if !queue::has_room(control, queue::frame_entries(control, k) + 1) {
+        return Err(Error::FullQueue);
     }
+    let serial = control::last_serial(control);
+    queue::frame(control, words, reals, k, serial, clock);
+    queue::push(control, words, reals, request);
+    Ok(Answer::accepted())
 }
 
-// A client's Frame.
+// A client's Frame. It comes most often, so that a caller has it in place: its answer is then not written to memory and read again.
+#[inline]
 pub fn queue_frame(
     control: &mut [u64],
     words: &mut [u64],
@@ -147,20 +145,18 @@ pub fn queue_frame(
     device: u64,
     serial: u32,
     time: u64,
-) -> Answer
+) -> Result<Answer, Error>
     requires { Lent control.old words.old reals.old }
     ensures { (clock : ℕ) → SilentRows control words reals (Call.plain (Plain.device_frame device serial time)) clock result }
 {
-    match control::find_device(control, device) {
-        Slot::At(k) => {
-            if !queue::frame_fits(control, k) {
-                return Answer::refused(Error::FullQueue);
-            }
-            queue::frame(control, words, reals, k, serial, time);
-            Answer::accepted()
-        }
-        Slot::Unknown => Answer::accepted(),
+    let Some(k) = control::find_device(control, device) else {
+        return Ok(Answer::accepted());
+    };
+    if !queue::frame_fits(control, k) {
+        return Err(Error::FullQueue);
     }
+    queue::frame(control, words, reals, k, serial, time);
+    Ok(Answer::accepted())
 }
 
 // "A released interface now leaves its device's list."
@@ -169,22 +165,20 @@ pub fn release_interface(
     capability: DeviceCapability,
     interface: u64,
     out: &mut [u8],
-) -> Answer
+) -> Result<Answer, Error>
     requires { Sound control.old }
     ensures { (clock : ℕ) → HandlesControl control out (Call.plain (Plain.interface_release capability interface)) clock result }
 {
     let bit = DeviceCapability::lowest(DeviceCapability::mask(capability));
-    match control::find_interface(control, bit, interface) {
-        Slot::At(k) => {
-            if out.len() < events::DESTROYED_LENGTH {
-                return Answer::refused(Error::ShortOut);
-            }
-            let serial = control::last_serial(control);
-            let mark = events::destroy(out, Mark { at: 0, serial }, interface);
-            session::unlist(control, k, bit);
-            session::raise(control, mark.serial);
-            Answer::sent(mark.at)
-        }
-        Slot::Unknown => Answer::accepted(),
+    let Some(k) = control::find_interface(control, bit, interface) else {
+        return Ok(Answer::accepted());
+    };
+    if out.len() < events::DESTROYED_LENGTH {
+        return Err(Error::ShortOut);
     }
+    let serial = control::last_serial(control);
+    let mark = events::destroy(out, Mark { at: 0, serial }, interface);
+    session::unlist(control, k, bit);
+    session::raise(control, mark.serial);
+    Ok(Answer::sent(mark.at))
 }

@@ -1,4 +1,6 @@
 -- The call that takes every seat out and tells the client. Assumes nothing.
+use Rattle.std.specs.Prelude.{Result, Ok, Err}
+use Rattle.model.specs.Plan as plan
 use Prim.Native.Nat.{ℕ, ◌+◌, ◌*◌, ◌≤◌, ◌<◌}
 use mathlib.Core.Path.{◌≡◌, refl, sym, ap, ap₂, ◌∙◌}
 use mathlib.Core.Bool.{Bool, true, false}
@@ -29,11 +31,9 @@ use Rattle.events.specs.declared.Mark.{Mark}
 use Rattle.events.specs.Events.{Sends, Destroys, bare_devices}
 use Rattle.events.proofs.Writes.{append-length, one_length, sends_join, destroyed-length, last_is, destroys-sends}
 use Rattle.events.proofs.Seen.{seats_objects-seen}
-use Rattle.answers.specs.declared.Checked.{Checked}
 use Rattle.answers.specs.declared.Error.{Error}
-use Rattle.answers.specs.declared.Outcome.{Outcome}
 use Rattle.answers.specs.declared.Answer.{Answer}
-use Rattle.answers.specs.Answer.{outcome_of}
+use Rattle.answers.specs.Answer.{error_of, Tells}
 use Rattle.answers.specs.Check.{Checks}
 use Rattle.answers.specs.Texts.{TextsAfter}
 use Rattle.answers.specs.Meets.{turn, Handled}
@@ -78,18 +78,18 @@ plan_of reason explanation c gone =
     ++ (record { object = c.id; event = Event.Disconnected (raised (length gone) c.last_serial) reason (explained explanation); text = explanation_text explanation } ∷ []))
     (Edit.raise (length gone) ∷ Edit.end_connection ∷ remove_seats c.seats)
 
+-- 10 or 11
+pub disconnected-refused : (s : Store) (w : Whole s) (out : List ℕ) (clock : ℕ) (reason : DisconnectReason) (explanation : Option (List ℕ)) (e : Error) {r : Result Answer Error}
+    → Checks explanation (Err e) → Tells r (error_of e) 0 → Handled s s out out (Call.plain (Plain.disconnected reason explanation)) clock r
+unfolding decide_plain disconnected
+disconnected-refused s w out clock reason explanation e {r} checked told =
+    told-handled s out (Plain.disconnected reason explanation) clock (error_of e) r w (checked _) told
+
 module _ (s : Store) (w : Whole s) (out : List ℕ) (clock : ℕ) (reason : DisconnectReason) (given : Bool) (text : List ℕ) where
   abbrev call : Call Input
   call = Call.plain (Plain.disconnected reason (optional given text))
 
-  -- 10 or 11
-  pub disconnected-refused : {e : Error} {r : Answer} → Checks (optional given text) (Checked.Refused e) → (r.outcome ≡ Outcome.Refused e) × (r.count ≡ 0)
-      → Handled s s out out call clock r
-  unfolding decide_plain disconnected
-  disconnected-refused {e} {r} checked told =
-      told-handled s out (Plain.disconnected reason (optional given text)) clock (Outcome.Refused e) r w (checked _) told
-
-  module _ (fine : Checks (optional given text) Checked.Fine) (number : ℕ) (numbered : number ≡ disconnect_reason_number reason) where
+  module _ (fine : Checks (optional given text) (Ok tt)) (number : ℕ) (numbered : number ≡ disconnect_reason_number reason) where
     abbrev connection : Connection
     connection = connection_of s.control
 
@@ -131,11 +131,11 @@ module _ (s : Store) (w : Whole s) (out : List ℕ) (clock : ℕ) (reason : Disc
         let d = ends-length in
         omega arith
 
-    pub disconnected-short : {r : Answer} → length out < 14 * length gone + record_length (Event.Disconnected 0 number given) text
-        → (r.outcome ≡ Outcome.Refused Error.ShortOut) × (r.count ≡ 0) → Handled s s out out call clock r
+    pub disconnected-short : {r : Result Answer Error} → length out < 14 * length gone + record_length (Event.Disconnected 0 number given) text
+        → Tells r (error_of Error.ShortOut) 0 → Handled s s out out call clock r
     unfolding split
     disconnected-short {r} h =
-        over-handled s out call clock (Outcome.Refused Error.ShortOut) r w
+        over-handled s out call clock (error_of Error.ShortOut) r w
         (step-remove-short t (session s) told edits planned (removes-seats _ _) (pending-few s w) (omega (arith, told-length)))
 
     module _ (room : 14 * length gone + record_length (Event.Disconnected 0 number given) text ≤ length out) {m : List ℕ} {mark v : Mark}
@@ -149,10 +149,10 @@ module _ (s : Store) (w : Whole s) (out : List ℕ) (clock : ℕ) (reason : Disc
           sends_join (omega (arith, p.at, ends-length)) first
           (record { bytes = q'.bytes ∙ ap (splice m v.at) e; next = q'.next ∙ ap (λ (x : List ℕ). v.at + length x) e })
 
-      pub disconnected-done : {later d c f : List ℕ} {g : List Float} {object n : ℕ} {r : Answer} → object ≡ connection.id
+      pub disconnected-done : {later d c f : List ℕ} {g : List Float} {object n : ℕ} {r : Result Answer Error} → object ≡ connection.id
           → Sends m later v.at (record { object = object; event = Event.Disconnected v.serial number given; text = text } ∷ []) n
           → EnactedControl s.control d (Edit.raise (length gone) ∷ Edit.end_connection ∷ []) → EnactedRows d s.words s.reals c f g (remove_seats (connection_of d).seats)
-          → length f ≡ length s.words → length g ≡ length s.reals → (r.outcome ≡ Outcome.Accepted) × (r.count ≡ n)
+          → length f ≡ length s.words → length g ≡ length s.reals → Tells r plan.Result.accepted n
           → Handled s (store c f g s.texts) out later call clock r
       unfolding split send refuses refusal
       disconnected-done {later} {d} {c} {f} {g} {object} {n} {r} o q raises removes words reals answers =
@@ -162,4 +162,4 @@ module _ (s : Store) (w : Whole s) (out : List ℕ) (clock : ℕ) (reason : Disc
           meets-done s e out later (step t (session s)) (send told edits) t.load r
           (whole-after s w both.sound words reals)
           (step-remove t (session s) told edits planned (removes-seats _ _) (pending-few s w) (omega (arith, told-length)))
-          both refl (ap outcome_of answers.0) (omega (arith, answers.1, written.next)) written.bytes (TextsAfter.kept refl)
+          both refl answers.0 (omega (arith, answers.1, written.next)) written.bytes (TextsAfter.kept refl)

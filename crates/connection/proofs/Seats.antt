@@ -1,4 +1,6 @@
 -- A new seat: the call by its tests and by its limits. Assumes nothing.
+use Rattle.answers.specs.Answer.{error_of, Tells}
+use Rattle.std.specs.Prelude.{Result, Ok, Err}
 use Prim.Native.Nat.{ℕ, ◌+◌, ◌≤◌, ◌<◌}
 use mathlib.Core.Path.{◌≡◌, refl, ap, ap₂, sym, ◌∙◌}
 use mathlib.Core.Bool.{true}
@@ -21,7 +23,6 @@ use Rattle.session.specs.View.{Store, store, session, Whole}
 use Rattle.session.specs.Enact.{EnactedControl}
 use Rattle.session.proofs.Views.{connection_is, view-connection, seats-length}
 use Rattle.events.specs.Events.{Sends}
-use Rattle.answers.specs.declared.Checked.{Checked}
 use Rattle.answers.specs.declared.Error.{Error}
 use Rattle.answers.specs.declared.Outcome.{Outcome}
 use Rattle.answers.specs.declared.Answer.{Answer}
@@ -31,7 +32,7 @@ use Rattle.answers.specs.Meets.{turn, Handled}
 use Rattle.answers.proofs.Meetings.{meets-done, whole-after, over-handled, told-handled}
 use Rattle.connection.specs.Seat.{Tested}
 
-seat_plan_lem : (v : View) (name : Option (List ℕ)) (caps : ℕ) → Checks name Checked.Fine → caps < 128
+seat_plan_lem : (v : View) (name : Option (List ℕ)) (caps : ℕ) → Checks name (Ok tt) → caps < 128
     → add_seat v name caps ≡ seat_added v name caps
 unfolding add_seat check_capabilities
 seat_plan_lem v name caps fine small = fine _ ∙ rw (lt-leb 128 caps small)
@@ -41,16 +42,16 @@ module _ (s : Store) (w : Whole s) (out : List ℕ) (clock : ℕ) (name : Option
   call = Call.plain (Plain.add_seat name caps)
 
   -- 10 or 11, then 13
-  pub seat-refused : {e : Error} {r : Answer} → Checks name (Checked.Refused e) → (r.outcome ≡ Outcome.Refused e) × (r.count ≡ 0)
+  pub seat-refused : (e : Error) {r : Result Answer Error} → Checks name (Err e) → Tells r (error_of e) 0
       → Handled s s out out call clock r
   unfolding decide_plain add_seat
-  seat-refused {e} {r} checked told = told-handled s out (Plain.add_seat name caps) clock (Outcome.Refused e) r w (checked _) told
+  seat-refused e {r} checked told = told-handled s out (Plain.add_seat name caps) clock (error_of e) r w (checked _) told
 
-  pub seat_unknown : {r : Answer} → Checks name Checked.Fine → unknown_bits caps ≡ true → (r.outcome ≡ Outcome.Refused Error.BadCapabilities) × (r.count ≡ 0)
+  pub seat_unknown : {r : Result Answer Error} → Checks name (Ok tt) → unknown_bits caps ≡ true → Tells r (error_of Error.BadCapabilities) 0
       → Handled s s out out call clock r
   unfolding decide_plain add_seat check_capabilities refuse
   seat_unknown {r} fine unknown told =
-      told-handled s out (Plain.add_seat name caps) clock (Outcome.Refused Error.BadCapabilities) r w (fine _ ∙ rw unknown) told
+      told-handled s out (Plain.add_seat name caps) clock (error_of Error.BadCapabilities) r w (fine _ ∙ rw unknown) told
 
   -- where both are fine, by the limits. The id, the version and the set are the code's
   module _ (tested : Tested s.control name caps) (id ver set : ℕ) (i : id ≡ (connection_of s.control).next_id)
@@ -76,27 +77,27 @@ module _ (s : Store) (w : Whole s) (out : List ℕ) (clock : ℕ) (name : Option
         seat_plan (connection_of s.control).next_id z
         (seat_events (connection_of s.control) (connection_of s.control).next_id (seat_version (connection_of s.control)) name z)) c)
 
-    pub seat_full : {r : Answer} → 4 ≤ seat_count s.control → (r.outcome ≡ Outcome.Refused Error.FullSeats) × (r.count ≡ 0) → Handled s s out out call clock r
-    seat_full {r} h = over-handled s out call clock (Outcome.Refused Error.FullSeats) r w (step_seat_full t (session s) planned (omega (arith, seats-length s)))
+    pub seat_full : {r : Result Answer Error} → 4 ≤ seat_count s.control → Tells r (error_of Error.FullSeats) 0 → Handled s s out out call clock r
+    seat_full {r} h = over-handled s out call clock (error_of Error.FullSeats) r w (step_seat_full t (session s) planned (omega (arith, seats-length s)))
 
     module _ (fewer : seat_count s.control < 4) where
-      pub seat_spent : {r : Answer} → 0xffff_ffff_ffff_ffff < id + 1 → (r.outcome ≡ Outcome.Refused Error.IdsSpent) × (r.count ≡ 0) → Handled s s out out call clock r
+      pub seat_spent : {r : Result Answer Error} → 0xffff_ffff_ffff_ffff < id + 1 → Tells r (error_of Error.IdsSpent) 0 → Handled s s out out call clock r
       seat_spent {r} h =
           let n = ap (λ (c : Connection). c.next_id) (connection_is s) in
-          over-handled s out call clock (Outcome.Refused Error.IdsSpent) r w
+          over-handled s out call clock (error_of Error.IdsSpent) r w
           (step_seat_spent t (session s) planned (omega (arith, seats-length s)) (omega arith))
 
       module _ (left : id + 1 ≤ 0xffff_ffff_ffff_ffff) where
-        pub seat-short : {r : Answer} → length out < length (records told) → (r.outcome ≡ Outcome.Refused Error.ShortOut) × (r.count ≡ 0)
+        pub seat-short : {r : Result Answer Error} → length out < length (records told) → Tells r (error_of Error.ShortOut) 0
             → Handled s s out out call clock r
         unfolding split
         seat-short {r} h =
             let n = ap (λ (c : Connection). c.next_id) (connection_is s) in
-            over-handled s out call clock (Outcome.Refused Error.ShortOut) r w
+            over-handled s out call clock (error_of Error.ShortOut) r w
             (step-seat-short t (session s) planned (omega (arith, seats-length s)) (omega arith) h)
 
         pub seat-done : {d later : List ℕ} {n : ℕ} → EnactedControl s.control d (Edit.add_seat set ∷ []) → length (records told) ≤ length out → Sends out later 0 told n
-            → Handled s (store d s.words s.reals s.texts) out later call clock (record { outcome = Outcome.Seat id; count = n })
+            → Handled s (store d s.words s.reals s.texts) out later call clock (Ok (record { outcome = Outcome.Seat id; count = n }))
         unfolding split refuses refusal
         seat-done {d} {later} {n} done room sends =
             let e : Store = store d s.words s.reals s.texts in

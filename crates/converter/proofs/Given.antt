@@ -30,8 +30,8 @@ use Rattle.session.proofs.Shapes.{carried, shape}
 use Rattle.session.proofs.Views.{requests_are}
 use Rattle.answers.specs.Meets.{turn}
 use Rattle.answers.specs.declared.Error.{Error}
-use Rattle.converter.specs.Next.{next_outcome, given_in, given_text, Gives, Delivered}
-use Rattle.converter.specs.declared.request.NextRequest.{NextRequest}
+use Rattle.converter.specs.Next.{NextRequest, next_outcome, given_in, given_text, Gives, Delivered}
+use Rattle.std.specs.Prelude.{Some, None, Ok, Err}
 
 -- ---- a request's text
 
@@ -105,10 +105,10 @@ module _ (s : Store) where
           texts = refl;
         }
 
-    pub given-none : Whole s → queue_length s.control ≡ 0 → Gives s s buffer buffer next_step NextRequest.None
+    pub given-none : Whole s → queue_length s.control ≡ 0 → Gives s s buffer buffer next_step (Ok None)
     unfolding split
     given-none w e =
-        gives-unchanged NextRequest.None w refl
+        gives-unchanged (Ok None) w refl
         (step-answer (split (turn (Call.plain Plain.next_request) clock buffer)) (session s) plan.Result.none (next-none clock (none-queued e)))
 
     module _ (l : 0 < queue_length s.control) {q : EisRequest} {n : ℕ} (is : q ≡ head.request) (size : n ≡ text_length q) where
@@ -116,10 +116,10 @@ module _ (s : Store) where
       unfolding request_at
       needed = (shape head.request).bytes (text_of s.texts head) ∙ sym (size ∙ ap text_length is)
 
-      pub given-short : Whole s → length buffer < n → Gives s s buffer buffer next_step (NextRequest.Refused Error.ShortOut)
+      pub given-short : Whole s → length buffer < n → Gives s s buffer buffer next_step (Err Error.ShortOut)
       unfolding split
       given-short w h =
-          gives-unchanged (NextRequest.Refused Error.ShortOut) w refl
+          gives-unchanged (Err Error.ShortOut) w refl
           (step-deliver-short (split (turn (Call.plain Plain.next_request) clock buffer)) (session s) (some-queued l) (next-some clock (some-queued l)) (rw needed h))
 
       module _ {slot : ℕ} {later : List ℕ} (at : slot ≡ head.slot) (room : slot_length * slot + n ≤ length s.texts) (fits : n ≤ length buffer)
@@ -158,7 +158,7 @@ module _ (s : Store) where
             ap (λ (x : Step Load). x.gave) taken ∙ deliver-gave (split (turn (Call.plain Plain.next_request) clock buffer)) (session s) (some-queued l)
 
         pub given-done : {d v : List ℕ} {f : List Float} → Whole (store d v f s.texts) → Enacted s (store d v f s.texts) (Edit.deliver ∷ []) Load.None
-            → Gives s (store d v f s.texts) buffer later next_step (NextRequest.Given q)
+            → Gives s (store d v f s.texts) buffer later next_step (Ok (Some q))
         unfolding carried_out refuses refusal
         given-done w done =
             record {
@@ -173,7 +173,7 @@ module _ (s : Store) where
 
 -- ---- 21 before all else
 
-pub delivered-bad : (s : Store) (buffer : List ℕ) → is_whole s ≡ false → Delivered s s buffer buffer (NextRequest.Refused Error.BadState)
+pub delivered-bad : (s : Store) (buffer : List ℕ) → is_whole s ≡ false → Delivered s s buffer buffer (Err Error.BadState)
 delivered-bad s buffer b = record { damaged = λ h. (refl, (refl, refl)); handled = λ clock h. absurd (false≢true (sym b ∙ h)) }
 
 pub delivered : {s e : Store} {buffer later : List ℕ} {r : NextRequest} → is_whole s ≡ true

@@ -1,4 +1,6 @@
 -- A request on a device is no Utf8; a byte written over is seen nowhere but in the texts themselves. Assumes nothing.
+use Rattle.answers.specs.declared.Error.{Error}
+use Rattle.std.specs.Prelude.{Result}
 use Prim.Native.Nat.{ℕ, ◌<◌}
 use mathlib.Core.Path.{◌≡◌, sym, ap, ◌∙◌}
 use mathlib.Core.Bool.{false≢true}
@@ -10,13 +12,13 @@ use Rattle.requests.specs.Row.{texts_limit}
 use Rattle.requests.specs.declared.eis.DeviceRequest.{DeviceRequest}
 use Rattle.requests.specs.declared.eis.Request.{Request}
 use Rattle.model.specs.Call.{Input, Call, split}
+use Rattle.model.specs.Plan as plan
 use Rattle.model.specs.Plan.{refusal}
 use Rattle.model.specs.Step.{refuses, step}
 use Rattle.session.specs.View.{Store, session}
 use Rattle.answers.specs.Answer.{outcome_of}
 use Rattle.answers.specs.Meets.{Meets, turn, Handled}
 use Rattle.answers.specs.Kept.{NoText}
-use Rattle.answers.specs.declared.Outcome.{Outcome}
 use Rattle.answers.specs.declared.Answer.{Answer}
 use Rattle.answers.proofs.Texts.{plain-no_text, no_text, others_keep_texts}
 use Rattle.texts.proofs.Slots.{last_byte_unseen}
@@ -34,8 +36,8 @@ pub frame_keeps_texts : FrameKeepsTexts
 frame_keeps_texts s e out later device version clock request text a h =
     others_keep_texts s e out later _ clock a h (device-no_text request device version text)
 
-module _ (s e : Store) (out later : List ℕ) (call : Call Input) (clock : ℕ) (a : Answer) (slot byte : ℕ) (h : Handled s e out later call clock a)
-    (told : a.outcome ≡ Outcome.Accepted) (low : slot < texts_limit) where
+module _ (s e : Store) (out later : List ℕ) (call : Call Input) (clock : ℕ) (a : Result Answer Error) (slot byte : ℕ) (h : Handled s e out later call clock a)
+    (told : outcome_of a ≡ plan.Result.accepted) (low : slot < texts_limit) where
   -- all but the texts, of which anything may be said
   pub but_texts : {T : Type 0} → T → Meets s (scribbled e slot byte) out later T (step (split (turn call clock out)) (session s)) a
   unfolding refuses refusal
@@ -47,7 +49,7 @@ module _ (s e : Store) (out later : List ℕ) (call : Call Input) (clock : ℕ) 
         outcome = h.outcome;
         count = h.count;
         bytes = h.bytes;
-        kept = λ z. absurd (false≢true (ap (λ (o : Outcome). refuses (outcome_of o)) (sym told) ∙ ap refuses h.outcome ∙ z));
+        kept = λ z. absurd (false≢true (ap refuses (sym told) ∙ ap refuses h.outcome ∙ z));
         texts = texts;
       }
 

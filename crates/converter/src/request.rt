@@ -26,18 +26,18 @@ pub fn handle_request(
     text: &[u8],
     clock: u64,
     out: &mut [u8],
-) -> Answer
+) -> Result<Answer, Error>
     ensures { PromiseAt control words reals texts out (call_of request object version text.now) clock result }
 {
     if !session::whole(control, words, reals, texts) {
-        return Answer::refused(Error::BadState);
+        return Err(Error::BadState);
     }
     match request {
         Request::Handshake(r) => handlers::handle_handshake_request(r, text),
         Request::Connection(r) => handlers::handle_connection_request(
             control, words, reals, r, out,
         ),
-        Request::PingpongDone => Answer::accepted(),
+        Request::PingpongDone => Ok(Answer::accepted()),
         Request::Seat(r) => handlers::handle_seat_request(control, words, reals, object, r, out),
         Request::Device(r) => handlers::handle_device_request(
             control, words, reals, object, r, clock,
@@ -59,7 +59,7 @@ fn handle_interface_request(
     request: InterfaceRequest,
     text: &[u8],
     out: &mut [u8],
-) -> Answer
+) -> Result<Answer, Error>
     requires { Whole (store control.old words.old reals.old texts.old) }
     ensures { (clock : ℕ) → Handles control words reals texts out (interface_call request interface version text.now) clock result }
 {
@@ -90,66 +90,47 @@ fn handle_interface_request(
 
 // A session as a Finish that succeeds leaves it: no seats, no devices, nothing queued. What is in the other slices does not count, so
 // that it is begun in the control words alone.
-pub fn new(control: &mut [u64], response: EisHandshakeResp) -> Answer
+pub fn new(control: &mut [u64], response: EisHandshakeResp) -> Result<Answer, Error>
     ensures { Begins control.old control.new response result }
 {
     if control.len() != CONTROL_LENGTH {
-        return Answer::refused(Error::BadState);
+        return Err(Error::BadState);
     }
     control::edits::new(control, response.connection, response.serial, response.next);
-    let mut place: usize = 0;
-    while place < 12 {
-        let row = response.interfaces[place];
-        let at = place;
-        place += 1;
-        if row.negotiated {
-            control::edits::set_version(control, at, row.version);
+    for (place, version) in response.interfaces.iter().enumerate() {
+        if let Some(version) = *version {
+            control::edits::set_version(control, place, version);
         }
     }
-    Answer::accepted()
+    Ok(Answer::accepted())
 }
 
-// What `next_request` gives: the oldest queued request, or that none is queued.
-#[derive(Clone, Copy)]
-pub enum NextRequest {
-    Given(EisRequest),
-    None,
-    Refused(Error),
-}
-
-// The same as numbers: a caller that reads them needs no way through the enum.
-#[derive(Clone, Copy)]
-pub enum NextCell {
-    Given(Cell),
-    None,
-    Refused(Error),
-}
-
-// The oldest queued request as its row has it, taken out of the queue. A text goes to the buffer: so many bytes as the request says.
+// The oldest queued request as its row has it, taken out of the queue, or none where none is queued. A text goes to the buffer: so many bytes as
+// the request says. It is given as numbers: a caller that reads them needs no way through the enum.
 pub fn next_cell(
     control: &mut [u64],
     words: &[u64],
     reals: &[f32],
     texts: &[u8],
     buffer: &mut [u8],
-) -> NextCell
+) -> Result<Option<Cell>, Error>
     ensures { Delivers control words reals texts buffer (next_of result) }
 {
     if !session::whole(control, words, reals, texts) {
-        return NextCell::Refused(Error::BadState);
+        return Err(Error::BadState);
     }
     if control::queue_length(control) == 0 {
-        return NextCell::None;
+        return Ok(None);
     }
     let oldest = queue::oldest(control, words, reals);
     let request = row::decode(oldest);
     let n = request.text_length() as usize;
     if buffer.len() < n {
-        return NextCell::Refused(Error::ShortOut);
+        return Err(Error::ShortOut);
     }
     texts::copy_text(texts, row::slot_of(oldest), n, buffer);
     queue::pop(control);
-    NextCell::Given(oldest)
+    Ok(Some(oldest))
 }
 
 // The oldest queued request, taken out of the queue.
@@ -159,12 +140,11 @@ pub fn next_request(
     reals: &[f32],
     texts: &[u8],
     buffer: &mut [u8],
-) -> NextRequest
+) -> Result<Option<EisRequest>, Error>
     ensures { Delivers control words reals texts buffer result }
 {
-    match next_cell(control, words, reals, texts, buffer) {
-        NextCell::Given(oldest) => NextRequest::Given(row::decode(oldest)),
-        NextCell::None => NextRequest::None,
-        NextCell::Refused(error) => NextRequest::Refused(error),
-    }
+    let Some(oldest) = next_cell(control, words, reals, texts, buffer)? else {
+        return Ok(None);
+    };
+    Ok(Some(row::decode(oldest)))
 }

@@ -1,4 +1,5 @@
 -- A notice to a device and the question for a capability, from what the functions that they call promise. Assumes nothing.
+use Rattle.std.specs.Prelude.{Result}
 use Prim.Native.Nat.{ℕ, ◌+◌, ◌≤◌, ◌<◌}
 use mathlib.Core.Path.{◌≡◌, refl, sym, ap, ◌∙◌}
 use mathlib.Core.Bool.{Bool}
@@ -28,9 +29,8 @@ use Rattle.session.specs.Enact.{EnactedControl}
 use Rattle.session.proofs.Views.{enacted-none, enacted_join}
 use Rattle.events.specs.Events.{Sends}
 use Rattle.events.proofs.Writes.{one_length}
-use Rattle.answers.specs.Answer.{outcome_of}
+use Rattle.answers.specs.Answer.{error_of, Tells}
 use Rattle.answers.specs.declared.Error.{Error}
-use Rattle.answers.specs.declared.Outcome.{Outcome}
 use Rattle.answers.specs.declared.Answer.{Answer}
 use Rattle.answers.specs.Texts.{TextsAfter}
 use Rattle.answers.specs.Meets.{turn, Handled}
@@ -84,16 +84,16 @@ module _ (s : Store) (whole : Whole s) (out : List ℕ) (device clock : ℕ) (n 
   events-length : length (records events) ≡ x
   events-length = one_length device told [] ∙ told-length n serial [] t f
 
-  pub notice_short : {r : Answer} → length out < x → (r.outcome ≡ Outcome.Refused Error.ShortOut) × (r.count ≡ 0)
+  pub notice_short : {r : Result Answer Error} → length out < x → Tells r (error_of Error.ShortOut) 0
       → Handled s s out out (Call.plain call) clock r
   unfolding split
   notice_short {r} h a =
-      over-handled s out (Call.plain call) clock (Outcome.Refused Error.ShortOut) r whole
+      over-handled s out (Call.plain call) clock (error_of Error.ShortOut) r whole
       (step-sent-short turned (session s) events edits planned (notice_quiet n k) (omega (arith, events-length))) a
 
-  pub notice_told : {c d later : List ℕ} {m : ℕ} {r : Answer} → x ≤ length out → Sends out later 0 events m
+  pub notice_told : {c d later : List ℕ} {m : ℕ} {r : Result Answer Error} → x ≤ length out → Sends out later 0 events m
       → ((i : ℕ) → serial ≡ raised i (connection_of s.control).last_serial → EnactedControl s.control c (Edit.raise i ∷ [])) → EnactedControl c d (notice_edits n k)
-      → (r.outcome ≡ Outcome.Accepted) × (r.count ≡ m) → Handled s (store d s.words s.reals s.texts) out later (Call.plain call) clock r
+      → Tells r plan.Result.accepted m → Handled s (store d s.words s.reals s.texts) out later (Call.plain call) clock r
   unfolding split send refuses
   notice_told {c} {d} {later} {r = r} h b raises more a =
       let both =
@@ -102,7 +102,7 @@ module _ (s : Store) (whole : Whole s) (out : List ℕ) (device clock : ℕ) (n 
       meets-done s (store d s.words s.reals s.texts) out later (step turned (session s)) (send events edits) turned.load r
       (whole-after s whole both.sound refl refl)
       (step-sent turned (session s) events edits planned (notice_quiet n k) (omega (arith, events-length)))
-      both refl (ap outcome_of a.0) (omega (arith, a.1, b.next)) b.bytes (TextsAfter.kept refl)
+      both refl a.0 (omega (arith, a.1, b.next)) b.bytes (TextsAfter.kept refl)
 
 -- ---- whether a device has a capability
 
@@ -117,11 +117,11 @@ mask_lowest DeviceCapability.Button = refl
 mask_lowest DeviceCapability.Text = refl
 
 module _ (s : Store) (whole : Whole s) (out : List ℕ) (device clock : ℕ) (capability : DeviceCapability) where
-  pub capability-told : {k mask bit : ℕ} {b : Bool} {r : Answer} → first (λ d. eqb d.id device) (cores_of s.control) ≡ some k
+  pub capability-told : {k mask bit : ℕ} {b : Bool} {r : Result Answer Error} → first (λ d. eqb d.id device) (cores_of s.control) ≡ some k
       → mask ≡ capability_mask capability → bit ≡ lowest_bit mask → b ≡ lists bit (core_at s.control k).interfaces
-      → (r.outcome ≡ Outcome.Truth b) × (r.count ≡ 0) → Handled s s out out (Call.plain (Plain.has_capability device capability)) clock r
+      → Tells r (plan.Result.truth b) 0 → Handled s s out out (Call.plain (Plain.has_capability device capability)) clock r
   capability-told {k} {b = b} {r} e m l h a =
       let i = l ∙ ap lowest_bit m ∙ mask_lowest capability in
-      told-handled s out (Plain.has_capability device capability) clock (Outcome.Truth b) r whole
+      told-handled s out (Plain.has_capability device capability) clock (plan.Result.truth b) r whole
       (capability-plan s device clock e capability
       ∙ ap (λ (v : Bool). answer (plan.Result.truth v)) (sym (h ∙ ap (λ (n : ℕ). lists n (core_at s.control k).interfaces) i))) a

@@ -10,7 +10,6 @@ ghost use Rattle.answers.specs.Promise.{Promise, Reply, PromiseRows};
 ghost use Rattle.device.specs.Notice.{notice_call, notice_event, notice_edits};
 
 use answers::{Answer, Error, Outcome};
-use control::Slot;
 use eiproto::event::DeviceCapability;
 use wire::event;
 use wire::event::Event;
@@ -22,25 +21,23 @@ pub fn remove_device(
     reals: &mut [f32],
     device: u64,
     out: &mut [u8],
-) -> Answer
+) -> Result<Answer, Error>
     ensures { PromiseRows control words reals out (Plain.remove_device device) result }
 {
     if !session::lent(control, words, reals) {
-        return Answer::refused(Error::BadState);
+        return Err(Error::BadState);
     }
-    match control::find_device(control, device) {
-        Slot::At(k) => {
-            if out.len() < events::DESTROYED_LENGTH * events::device_objects(control, k) {
-                return Answer::refused(Error::ShortOut);
-            }
-            Answer::sent(removal::retire_device(control, words, reals, k, out))
-        }
-        Slot::Unknown => Answer::refused(Error::UnknownHandle),
+    let Some(k) = control::find_device(control, device) else {
+        return Err(Error::UnknownHandle);
+    };
+    if out.len() < events::DESTROYED_LENGTH * events::device_objects(control, k) {
+        return Err(Error::ShortOut);
     }
+    Ok(Answer::sent(removal::retire_device(control, words, reals, k, out)))
 }
 
 // An event that a known device is told, with the next serial.
-#[derive(Clone, Copy)]
+#[derive(Clone, Copy, Debug, PartialEq, Eq)]
 pub enum Notice {
     Resumed,
     Paused,
@@ -75,71 +72,76 @@ fn enact(control: &mut [u64], k: usize, notice: Notice)
     }
 }
 
-fn notify(control: &mut [u64], device: u64, notice: Notice, out: &mut [u8]) -> Answer
+fn notify(control: &mut [u64], device: u64, notice: Notice, out: &mut [u8]) -> Result<Answer, Error>
     ensures { Promise control out (notice_call notice device) result }
 {
     if !control::sound(control) {
-        return Answer::refused(Error::BadState);
+        return Err(Error::BadState);
     }
-    match control::find_device(control, device) {
-        Slot::At(k) => {
-            let serial = events::next_serial(control::last_serial(control));
-            let told = event_of(notice, serial);
-            if out.len() < event::fixed_length(told) {
-                return Answer::refused(Error::ShortOut);
-            }
-            let count = events::send(out, 0, device, told, b"");
-            session::raise(control, serial);
-            enact(control, k, notice);
-            Answer::sent(count)
-        }
-        Slot::Unknown => Answer::refused(Error::UnknownHandle),
+    let Some(k) = control::find_device(control, device) else {
+        return Err(Error::UnknownHandle);
+    };
+    let serial = events::next_serial(control::last_serial(control));
+    let told = event_of(notice, serial);
+    if out.len() < event::fixed_length(told) {
+        return Err(Error::ShortOut);
     }
+    let count = events::send(out, 0, device, told, b"");
+    session::raise(control, serial);
+    enact(control, k, notice);
+    Ok(Answer::sent(count))
 }
 
-pub fn resumed(control: &mut [u64], device: u64, out: &mut [u8]) -> Answer
+pub fn resumed(control: &mut [u64], device: u64, out: &mut [u8]) -> Result<Answer, Error>
     ensures { Promise control out (Plain.resumed device) result }
 {
     notify(control, device, Notice::Resumed, out)
 }
 
-pub fn paused(control: &mut [u64], device: u64, out: &mut [u8]) -> Answer
+pub fn paused(control: &mut [u64], device: u64, out: &mut [u8]) -> Result<Answer, Error>
     ensures { Promise control out (Plain.paused device) result }
 {
     notify(control, device, Notice::Paused, out)
 }
 
-pub fn start_emulating(control: &mut [u64], device: u64, sequence: u32, out: &mut [u8]) -> Answer
+pub fn start_emulating(
+    control: &mut [u64],
+    device: u64,
+    sequence: u32,
+    out: &mut [u8],
+) -> Result<Answer, Error>
     ensures { Promise control out (Plain.start_emulating device sequence) result }
 {
     notify(control, device, Notice::StartEmulating { sequence }, out)
 }
 
-pub fn stop_emulating(control: &mut [u64], device: u64, out: &mut [u8]) -> Answer
+pub fn stop_emulating(control: &mut [u64], device: u64, out: &mut [u8]) -> Result<Answer, Error>
     ensures { Promise control out (Plain.stop_emulating device) result }
 {
     notify(control, device, Notice::StopEmulating, out)
 }
 
-pub fn frame(control: &mut [u64], device: u64, time: u64, out: &mut [u8]) -> Answer
+pub fn frame(control: &mut [u64], device: u64, time: u64, out: &mut [u8]) -> Result<Answer, Error>
     ensures { Promise control out (Plain.frame device time) result }
 {
     notify(control, device, Notice::Frame { time }, out)
 }
 
 // `Device::has_capability`: whether the device lists an interface for it.
-pub fn has_capability(control: &[u64], device: u64, capability: DeviceCapability) -> Answer
+pub fn has_capability(
+    control: &[u64],
+    device: u64,
+    capability: DeviceCapability,
+) -> Result<Answer, Error>
     ensures { Reply control (Plain.has_capability device capability) result }
 {
     if !control::sound(control) {
-        return Answer::refused(Error::BadState);
+        return Err(Error::BadState);
     }
-    match control::find_device(control, device) {
-        Slot::At(k) => Answer::told(Outcome::Truth(control::has_capability(
-            control,
-            k,
-            DeviceCapability::lowest(DeviceCapability::mask(capability)),
-        ))),
-        Slot::Unknown => Answer::refused(Error::UnknownHandle),
-    }
+    let Some(k) = control::find_device(control, device) else {
+        return Err(Error::UnknownHandle);
+    };
+    let bit = DeviceCapability::lowest(DeviceCapability::mask(capability));
+    let listed = control::has_capability(control, k, bit);
+    Ok(Answer::told(Outcome::Truth(listed)))
 }

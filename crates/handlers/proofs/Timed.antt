@@ -1,4 +1,6 @@
 -- A timed request as it waits: its kind, its touch and its payload are those of the model. Assumes nothing.
+use Rattle.answers.specs.Answer.{error_of, Tells}
+use Rattle.std.specs.Prelude.{Result}
 use Prim.Native.Nat.{ℕ}
 use mathlib.Core.Path.{◌≡◌, refl, sym, ap, ◌∙◌}
 use mathlib.Core.Bool.{Bool, true, false, not, cond}
@@ -15,9 +17,8 @@ use Rattle.model.specs.Decide.{Rule, handled_by, handler, handle_timed, decide}
 use Rattle.session.specs.View.{Store, request_in, item_in, request_at, item_at, Whole}
 use Rattle.answers.specs.Meets.{Handled}
 use Rattle.answers.specs.declared.Error.{Error}
-use Rattle.answers.specs.declared.Outcome.{Outcome}
 use Rattle.answers.specs.declared.Answer.{Answer}
-use Rattle.client_requests.proofs.Handling.{Tells, handled-answer}
+use Rattle.client_requests.proofs.Handling.{handled-answer}
 use Rattle.client_requests.specs.Decision.{OnlyQueued}
 
 -- a row that is a request's waits as the request does
@@ -49,7 +50,7 @@ stop-queued x y cancel = record { by = by (eqb cancel 0); valid = refl }
 
 -- ---- a text that is not UTF-8, for a text interface
 
-pub utf8-bad : (s : Store) (out : List ℕ) (clock : ℕ) (r : Answer) (w : Whole s) (text : List ℕ) (interface version : ℕ) → is_utf8 text ≡ false → Tells r (Outcome.Refused Error.BadUtf8) 0
+pub utf8-bad : (s : Store) (out : List ℕ) (clock : ℕ) (r : Result Answer Error) (w : Whole s) (text : List ℕ) (interface version : ℕ) → is_utf8 text ≡ false → Tells r (error_of Error.BadUtf8) 0
     → Handled s s out out (Call.timed interface version (Input.Utf8 text)) clock r
 unfolding map_call sight decide handle_timed refuse
 utf8-bad s out clock r w text interface version h a = handled-answer s out (Call.timed interface version (Input.Utf8 text)) clock r w (rw h) a

@@ -4,8 +4,7 @@ use Rattle.eiproto.specs.declared.event.DeviceCapability.{DeviceCapability}
 use Rattle.requests.specs.declared.cell.Cell.{Cell}
 use Rattle.requests.specs.declared.eis.TouchscreenRequest.{TouchscreenRequest}
 use Rattle.model.specs.Call.{Input, sight, Call}
-use Rattle.client_requests.specs.Decision.{Decided, Waits}
-use Rattle.client_requests.specs.declared.timed.Decision.{Decision}
+use Rattle.client_requests.specs.Decision.{Decision, Decided, Waits}
 use Rattle.handlers.specs.Call.{release, touchscreen_call}
 use Rattle.handlers.specs.declared.TouchAction.{TouchAction}
 

@@ -13,7 +13,7 @@ ghost use Rattle.handlers.specs.Call.{handshake_call, connection_call, seat_call
 ghost use Rattle.handlers.specs.Touch.{TouchActs};
 
 use answers::{Answer, Error, NAME_LENGTH_LIMIT};
-use client_requests::timed::{Decision, TouchChange};
+use client_requests::timed::{Queued, TouchChange};
 use client_requests::{timed, untimed};
 use eiproto::event::DeviceCapability;
 use requests::cell;
@@ -26,30 +26,28 @@ use requests::eis::{
 use requests::request::EisRequest;
 
 // A handshake's request in a running session, after what its text may meet.
-pub fn handle_handshake_request(request: HandshakeRequest, text: &[u8]) -> Answer
+pub fn handle_handshake_request(request: HandshakeRequest, text: &[u8]) -> Result<Answer, Error>
     ensures { (c out : List ℕ) (clock : ℕ) → HandledControl c c out out (handshake_call request text.now) clock result }
 {
     match request {
         HandshakeRequest::Name => {
             if !utf8::valid(text) {
-                return Answer::refused(Error::BadUtf8);
+                return Err(Error::BadUtf8);
             }
             if NAME_LENGTH_LIMIT < text.len() {
-                return Answer::refused(Error::NameLong);
+                return Err(Error::NameLong);
             }
-            Answer::refused(Error::UnexpectedHandshakeEvent)
+            Err(Error::UnexpectedHandshakeEvent)
         }
         HandshakeRequest::InterfaceVersion { .. } => {
             if !utf8::valid(text) {
-                return Answer::refused(Error::BadUtf8);
+                return Err(Error::BadUtf8);
             }
-            Answer::refused(Error::UnexpectedHandshakeEvent)
+            Err(Error::UnexpectedHandshakeEvent)
         }
-        HandshakeRequest::HandshakeVersion { .. } => {
-            Answer::refused(Error::UnexpectedHandshakeEvent)
-        }
-        HandshakeRequest::Finish => Answer::refused(Error::UnexpectedHandshakeEvent),
-        HandshakeRequest::ContextType { .. } => Answer::refused(Error::UnexpectedHandshakeEvent),
+        HandshakeRequest::HandshakeVersion { .. } => { Err(Error::UnexpectedHandshakeEvent) }
+        HandshakeRequest::Finish => Err(Error::UnexpectedHandshakeEvent),
+        HandshakeRequest::ContextType { .. } => Err(Error::UnexpectedHandshakeEvent),
     }
 }
 
@@ -59,7 +57,7 @@ pub fn handle_connection_request(
     reals: &mut [f32],
     request: ConnectionRequest,
     out: &mut [u8],
-) -> Answer
+) -> Result<Answer, Error>
     requires { Lent control.old words.old reals.old }
     ensures { (clock : ℕ) → HandlesRows control words reals out (connection_call request) clock result }
 {
@@ -81,7 +79,7 @@ pub fn handle_seat_request(
     seat: u64,
     request: SeatRequest,
     out: &mut [u8],
-) -> Answer
+) -> Result<Answer, Error>
     requires { Lent control.old words.old reals.old }
     ensures { (clock : ℕ) → HandlesRows control words reals out (seat_call request seat) clock result }
 {
@@ -105,46 +103,33 @@ pub fn handle_device_request(
     device: u64,
     request: DeviceRequest,
     clock: u64,
-) -> Answer
+) -> Result<Answer, Error>
     requires { Lent control.old words.old reals.old }
     ensures { SilentRows control words reals (device_call request device) clock result }
 {
-    match request {
-        DeviceRequest::Release => {
-            let closed = EisRequest::DeviceClosed { device };
-            untimed::queue_for_device(control, words, reals, device, clock, closed)
-        }
+    let queued = match request {
+        DeviceRequest::Release => EisRequest::DeviceClosed { device },
         DeviceRequest::StartEmulating {
             last_serial,
             sequence,
-        } => {
-            let start = EisRequest::DeviceStartEmulating {
-                device,
-                last_serial,
-                sequence,
-            };
-            untimed::queue_for_device(control, words, reals, device, clock, start)
-        }
-        DeviceRequest::StopEmulating { last_serial } => {
-            let stop = EisRequest::DeviceStopEmulating {
-                device,
-                last_serial,
-            };
-            untimed::queue_for_device(control, words, reals, device, clock, stop)
-        }
+        } => EisRequest::DeviceStartEmulating {
+            device,
+            last_serial,
+            sequence,
+        },
+        DeviceRequest::StopEmulating { last_serial } => EisRequest::DeviceStopEmulating {
+            device,
+            last_serial,
+        },
         DeviceRequest::Frame {
             last_serial,
             timestamp,
-        } => untimed::queue_frame(control, words, reals, device, last_serial, timestamp),
-        DeviceRequest::Ready => untimed::queue_for_device(
-            control,
-            words,
-            reals,
-            device,
-            clock,
-            EisRequest::Ready { device },
-        ),
-    }
+        } => {
+            return untimed::queue_frame(control, words, reals, device, last_serial, timestamp);
+        }
+        DeviceRequest::Ready => EisRequest::Ready { device },
+    };
+    untimed::queue_for_device(control, words, reals, device, clock, queued)
 }
 
 pub fn handle_keyboard_request(
@@ -154,7 +139,7 @@ pub fn handle_keyboard_request(
     keyboard: u64,
     request: KeyboardRequest,
     out: &mut [u8],
-) -> Answer
+) -> Result<Answer, Error>
     requires { Lent control.old words.old reals.old }
     ensures { (version clock : ℕ) → HandlesRows control words reals out (keyboard_call request keyboard version) clock result }
 {
@@ -186,7 +171,7 @@ pub fn handle_pointer_request(
     pointer: u64,
     request: PointerRequest,
     out: &mut [u8],
-) -> Answer
+) -> Result<Answer, Error>
     requires { Lent control.old words.old reals.old }
     ensures { (version clock : ℕ) → HandlesRows control words reals out (pointer_call request pointer version) clock result }
 {
@@ -218,7 +203,7 @@ pub fn handle_pointer_absolute_request(
     pointer_absolute: u64,
     request: PointerAbsoluteRequest,
     out: &mut [u8],
-) -> Answer
+) -> Result<Answer, Error>
     requires { Lent control.old words.old reals.old }
     ensures { (version clock : ℕ) → HandlesRows control words reals out (pointer_absolute_call request pointer_absolute version) clock result }
 {
@@ -250,7 +235,7 @@ pub fn handle_button_request(
     interface: u64,
     request: ButtonRequest,
     out: &mut [u8],
-) -> Answer
+) -> Result<Answer, Error>
     requires { Lent control.old words.old reals.old }
     ensures { (version clock : ℕ) → HandlesRows control words reals out (button_call request interface version) clock result }
 {
@@ -293,7 +278,7 @@ pub fn handle_scroll_request(
     scroll: u64,
     request: ScrollRequest,
     out: &mut [u8],
-) -> Answer
+) -> Result<Answer, Error>
     requires { Lent control.old words.old reals.old }
     ensures { (version clock : ℕ) → HandlesRows control words reals out (scroll_call request scroll version) clock result }
 {
@@ -340,11 +325,11 @@ pub fn handle_scroll_request(
     }
 }
 
-// What a request on a touchscreen asks for.
+// What a request on a touchscreen asks for: an enum of its own, since a decision on a timed one may be a refusal, or none.
 #[derive(Clone, Copy)]
 pub enum TouchAction {
     Release,
-    Timed(Decision),
+    Timed(Result<Option<Queued>, Error>),
 }
 
 // All of its arms meet in one call of `queue_request`: in an arm of its own each would be a call through memory.
@@ -388,7 +373,7 @@ pub fn handle_touchscreen_request(
     version: u32,
     request: TouchscreenRequest,
     out: &mut [u8],
-) -> Answer
+) -> Result<Answer, Error>
     requires { Lent control.old words.old reals.old }
     ensures { (clock : ℕ) → HandlesRows control words reals out (touchscreen_call request touchscreen version) clock result }
 {
@@ -412,7 +397,7 @@ pub fn handle_text_request(
     request: TextRequest,
     text: &[u8],
     out: &mut [u8],
-) -> Answer
+) -> Result<Answer, Error>
     requires { Whole (store control.old words.old reals.old texts.old) }
     ensures { (version clock : ℕ) → Handles control words reals texts out (text_call request interface version text.now) clock result }
 {
@@ -436,7 +421,7 @@ pub fn handle_text_request(
         }
         TextRequest::Utf8 => {
             if !utf8::valid(text) {
-                return Answer::refused(Error::BadUtf8);
+                return Err(Error::BadUtf8);
             }
             timed::queue_utf8(control, words, reals, texts, interface, text)
         }

@@ -6,10 +6,9 @@ use mathlib.Core.Option.{none, some}
 use native.Mathlib.Omega.{arith}
 use borrow.Author.Tests.{lt-ltb, le-ltb, eq-eqb, ne_eqb}
 use lib.ListN.{length, take, drop}
-use Rattle.parse.specs.First.{first_of}
+use Rattle.parse.specs.First.{ReadFirst, first_of}
 use Rattle.parse.specs.Parse.{le64}
 use Rattle.parse.specs.declared.Arguments.{Arguments}
-use Rattle.parse.specs.declared.First.{First}
 use Rattle.requests.specs.Row.{low}
 use Rattle.requests.specs.declared.eis.Request.{Request}
 use Rattle.handlers.specs.Call.{call_of}
@@ -19,6 +18,8 @@ use Rattle.model.specs.Live.{Object, live}
 use Rattle.model_reads.specs.Message.{Reading}
 use Rattle.session.specs.View.{Store, Whole, Lending}
 use Rattle.session.proofs.Views.{whole_is}
+use Rattle.std.specs.Prelude.{Result}
+use Rattle.answers.specs.declared.Error.{Error}
 use Rattle.answers.specs.declared.Answer.{Answer}
 use Rattle.answers.specs.Meets.{Handled, Answered}
 use Rattle.answers.proofs.Meetings.{answered-handled}
@@ -26,7 +27,7 @@ use Rattle.messages.specs.Reading.{request_in, call_in, read_as, reading_on, rea
 
 -- ---- the calls
 
-module _ {s e : Store} {out later : List ℕ} {r : Answer} (a : Arguments) (object version clock : ℕ) (m : List ℕ) where
+module _ {s e : Store} {out later : List ℕ} {r : Result Answer Error} (a : Arguments) (object version clock : ℕ) (m : List ℕ) where
   pub handed-sync : a.request ≡ 5 → {second : ℕ} → second ≡ low a.second → Handled s e out later (Call.plain (Plain.sync_message a.first second)) clock r
       → Handled s e out later (call_in a object version m) clock r
   unfolding call_in
@@ -42,7 +43,7 @@ module _ {s e : Store} {out later : List ℕ} {r : Answer} (a : Arguments) (obje
 
 -- ---- on an object that lives
 
-pub read_is : (object interface version : ℕ) (m : List ℕ) {f g : First} → f ≡ first_of interface m → f ≡ g → reading_on object interface version m ≡ read_as object version m g
+pub read_is : (object interface version : ℕ) (m : List ℕ) {f g : ReadFirst} → f ≡ first_of interface m → f ≡ g → reading_on object interface version m ≡ read_as object version m g
 unfolding reading_on
 read_is object interface version m e q = ap (read_as object version m) (sym e ∙ q)
 

@@ -10,11 +10,11 @@ use borrow.Author.Tests.{ltb-false}
 use lib.Dec.{ltb}
 use lib.ListN.{length, get_or, take, drop}
 use Rattle.wire.specs.declared.ParseError.{ParseError}
-use Rattle.parse.specs.First.{first_as, first_of}
-use Rattle.parse.specs.Parse.{le32, le64, parsed}
+use Rattle.std.specs.Prelude.{Ok, Err, Some}
+use Rattle.std.specs.Prelude as rust
+use Rattle.parse.specs.First.{ReadFirst, first_as, first_of}
+use Rattle.parse.specs.Parse.{Parsed, le32, le64, parsed}
 use Rattle.parse.specs.Same.{Same, Alike, Moves, Touches, States}
-use Rattle.parse.specs.declared.First.{First}
-use Rattle.parse.specs.declared.Parsed.{Parsed}
 use Rattle.parse.proofs.Same.{alike}
 use Rattle.lent_read.specs.Numbers.{request_of}
 use Rattle.model.specs.Call.{Input, Call}
@@ -41,8 +41,8 @@ module _ (object version : ℕ) where
   matched_as : {r r' : Parsed} (m m' : List ℕ) (n : ℕ) → Alike (take n m) (take n m') r r'
       → MatchedReading (read_as object version m (first_as n r)) (read_as object version m' (first_as n r'))
   unfolding read_as first_as call_in request_in request_of
-  matched_as {r = Parsed.Malformed e} m m' n (Alike.equal q) = MatchedReading.malformed e
-  matched_as {r = Parsed.Read a} m m' n (Alike.equal q) = rw (← q) (MatchedReading.request n (same_call (call_in a object version (take n m))))
+  matched_as {r = Err e} m m' n (Alike.equal q) = MatchedReading.malformed e
+  matched_as {r = Ok a} m m' n (Alike.equal q) = rw (← q) (MatchedReading.request n (same_call (call_in a object version (take n m))))
   matched_as m m' n (Alike.malformed e) = MatchedReading.malformed e
   matched_as m m' n (Alike.moves Moves.motion_relative x y x' y') = MatchedReading.request n (MatchedCall.timed object version (SameButPayload.MotionRelative x y x' y'))
   matched_as m m' n (Alike.moves Moves.motion_absolute x y x' y') = MatchedReading.request n (MatchedCall.timed object version (SameButPayload.MotionAbsolute x y x' y'))
@@ -72,26 +72,26 @@ le64_same m m' at h =
 
 module _ (object interface version : ℕ) (m m' : List ℕ) (long : length m ≡ length m') (size : le32 m 8 ≡ le32 m' 8)
     (rest : le32 m 8 ≤ length m → Same interface (take (le32 m 8) m) (take (le32 m 8) m')) where
-  abbrev As : List ℕ → First → Reading (Call Input)
+  abbrev As : List ℕ → ReadFirst → Reading (Call Input)
   As l r = read_as object version l r
 
   -- a message that is whole
-  abbrev whole : List ℕ → First
+  abbrev whole : List ℕ → ReadFirst
   whole l = first_as (le32 m 8) (parsed interface (take (le32 m 8) l))
 
   matched_on : MatchedReading (reading_on object interface version m) (reading_on object interface version m')
   unfolding reading_on first_of read_as
   matched_on = rw (← size, ← long) (by_length (ltb (le32 m 8) 16 || ltb 1024 (le32 m 8)))
     where
-      by_room : (b : Bool) → ltb (length m) (le32 m 8) ≡ b → MatchedReading (As m (cond b First.Wait (whole m))) (As m' (cond b First.Wait (whole m')))
+      by_room : (b : Bool) → ltb (length m) (le32 m 8) ≡ b → MatchedReading (As m (cond b (Ok rust.None) (whole m))) (As m' (cond b (Ok rust.None) (whole m')))
       by_room true e = MatchedReading.wait
       by_room false e =
           matched_as object version m m' (le32 m 8) (alike interface (take (le32 m 8) m) (take (le32 m 8) m') (rest (ltb-false (length m) (le32 m 8) e)))
 
       by_length : (b : Bool)
           → MatchedReading
-          (As m (cond b (First.Malformed (ParseError.HeaderLength (le32 m 8))) (cond (ltb (length m) (le32 m 8)) First.Wait (whole m))))
-          (As m' (cond b (First.Malformed (ParseError.HeaderLength (le32 m 8))) (cond (ltb (length m) (le32 m 8)) First.Wait (whole m'))))
+          (As m (cond b (Err (ParseError.HeaderLength (le32 m 8))) (cond (ltb (length m) (le32 m 8)) (Ok rust.None) (whole m))))
+          (As m' (cond b (Err (ParseError.HeaderLength (le32 m 8))) (cond (ltb (length m) (le32 m 8)) (Ok rust.None) (whole m'))))
       by_length true = MatchedReading.malformed (ParseError.HeaderLength (le32 m 8))
       by_length false = by_room (ltb (length m) (le32 m 8)) refl
 

@@ -9,9 +9,11 @@ use lib.Dec.{eqb, ltb}
 use lib.ListN.{length, take}
 use Rattle.wire.specs.declared.ParseError.{ParseError}
 use Rattle.parse.specs.Parse.{le64}
-use Rattle.parse.specs.First.{first_of}
+use Rattle.std.specs.Prelude.{Ok, Err, Some}
+use Rattle.std.specs.Prelude as rust
+use Rattle.parse.specs.First as parse
+use Rattle.parse.specs.First.{ReadFirst, first_of}
 use Rattle.parse.specs.declared.Arguments.{Arguments}
-use Rattle.parse.specs.declared.First.{First}
 use Rattle.requests.specs.Row.{low}
 use Rattle.lent_read.specs.Numbers.{request_of}
 use Rattle.handlers.specs.Call.{call_of}
@@ -43,7 +45,7 @@ unfolding unchanged refuses refusal
 sync_same s callback version now room fine = go (is_peer_id (view s) callback) refl
   where
     go : (b : Bool) → is_peer_id (view s) callback ≡ b → but_peer (step (message s callback version now room) s) ≡ but_peer (step (plainly s callback version now room) s)
-    go true mine = ap but_peer (both s callback version now room mine).is ∙ peered_but callback (step (plainly s callback version now room) s)
+    go true mine = ap but_peer (both s callback version now room mine) ∙ peered_but callback (step (plainly s callback version now room) s)
     go false other = absurd (true≢false (sym (ap (λ (x : Step Load). refuses x.outcome) (not_mine s callback version now room other)) ∙ fine))
 
 -- ---- what a message stands for
@@ -53,7 +55,7 @@ record Stands (v : View) (bytes : List ℕ) (n : ℕ) (call : Call Input) : Type
   object : Object
   arguments : Arguments
   alive : live v (le64 bytes 0) ≡ some object
-  read : first_of object.interface bytes ≡ First.Read arguments n
+  read : first_of object.interface bytes ≡ parse.read arguments n
   is : call ≡ call_in arguments (le64 bytes 0) object.version (take n bytes)
 
 data Standing (v : View) (bytes : List ℕ) : Reading (Call Input) → Type 0 where
@@ -63,11 +65,11 @@ data Standing (v : View) (bytes : List ℕ) : Reading (Call Input) → Type 0 wh
   request : (call : Call Input) (n : ℕ) → Stands v bytes n call → Standing v bytes (Reading.request call n)
 
 module _ (v : View) (m : List ℕ) where
-  read-stands : (o : Object) → live v (le64 m 0) ≡ some o → (r : First) → first_of o.interface m ≡ r → Standing v m (read_as (le64 m 0) o.version m r)
+  read-stands : (o : Object) → live v (le64 m 0) ≡ some o → (r : ReadFirst) → first_of o.interface m ≡ r → Standing v m (read_as (le64 m 0) o.version m r)
   unfolding read_as
-  read-stands o e First.Wait q = Standing.wait
-  read-stands o e (First.Malformed p) q = Standing.malformed p
-  read-stands o e (First.Read a n) q = Standing.request _ n (record { object = o; arguments = a; alive = e; read = q; is = refl })
+  read-stands o e (Ok rust.None) q = Standing.wait
+  read-stands o e (Err p) q = Standing.malformed p
+  read-stands o e (Ok (Some f)) q = Standing.request _ f.length (record { object = o; arguments = f.arguments; alive = e; read = q; is = refl })
 
   object-stands : (o : Option Object) → live v (le64 m 0) ≡ o → Standing v m (reading_of (le64 m 0) o m)
   unfolding reading_of reading_on

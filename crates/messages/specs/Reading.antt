@@ -2,10 +2,11 @@
 -- `first_of` of parse/specs/First. Assumes nothing.
 use Rattle.std.specs.Prelude.{ℕ, cond, List, eqb, ltb, length, take, drop}
 use Rattle.std.proofs.Math.Option.{Option, none, some}
-use Rattle.parse.specs.First.{first_of}
+use Rattle.std.specs.Prelude.{Ok, Err, Some}
+use Rattle.std.specs.Prelude as rust
+use Rattle.parse.specs.First.{ReadFirst, first_of}
 use Rattle.parse.specs.Parse.{le64}
 use Rattle.parse.specs.declared.Arguments.{Arguments}
-use Rattle.parse.specs.declared.First.{First}
 use Rattle.requests.specs.Row.{low}
 use Rattle.requests.specs.declared.eis.Request.{Request}
 use Rattle.lent_read.specs.Numbers.{arguments_of, request_of}
@@ -37,11 +38,11 @@ call_in a object version m =
     (call_of (request_in a) object version (text_in a m))
 
 -- what was read, on an object of this version: a request's message is so many of the bytes
-unfoldable pub read_as : (object version : ℕ) → (bytes : List ℕ) → First → Reading (Call Input)
+unfoldable pub read_as : (object version : ℕ) → (bytes : List ℕ) → ReadFirst → Reading (Call Input)
 unfolding call_in
-read_as object version bytes First.Wait = Reading.wait
-read_as object version bytes (First.Malformed e) = Reading.malformed e
-read_as object version bytes (First.Read a n) = Reading.request (call_in a object version (take n bytes)) n
+read_as object version bytes (Ok rust.None) = Reading.wait
+read_as object version bytes (Err e) = Reading.malformed e
+read_as object version bytes (Ok (Some f)) = Reading.request (call_in f.arguments object version (take f.length bytes)) f.length
 
 unfoldable pub reading_on : (object interface version : ℕ) → (bytes : List ℕ) → Reading (Call Input)
 unfolding first_of read_as

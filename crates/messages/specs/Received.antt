@@ -1,12 +1,11 @@
 -- What is promised of a client's bytes. Assumes nothing.
-use Rattle.std.specs.Prelude.{ℕ, ◌≡◌, true, false, List}
+use Rattle.std.specs.Prelude.{ℕ, ◌≡◌, true, false, List, Result, Err}
 use Rattle.model.specs.Call.{Input, Call}
 use Rattle.model.specs.Session.{view}
 use Rattle.model_reads.specs.Message.{Reading, taken_of}
 use Rattle.session.specs.View.{Store, session, is_whole}
 use Rattle.session.specs.Slices.{Numbers, Reals, before, after}
 use Rattle.answers.specs.declared.Error.{Error}
-use Rattle.answers.specs.declared.Outcome.{Outcome}
 use Rattle.answers.specs.declared.Answer.{Answer}
 use Rattle.answers.specs.Answer.{outcome_of}
 use Rattle.answers.specs.Meets.{Handled}
@@ -19,8 +18,8 @@ Told s e out later told r = (r ≡ told) × ((e ≡ s) × (later ≡ out))
 
 -- a message that was handed on: its request's answer is the model's, and its length is taken where that was not refused
 pub record HandedOn (s e : Store) (out later : List ℕ) (call : Call Input) (length clock : ℕ) (r : Received) : Type 0 where
-  pub answer : Answer
-  pub told : r ≡ Received.Handed answer (taken_of (outcome_of answer.outcome) length)
+  pub answer : Result Answer Error
+  pub told : r ≡ Received.Handed answer (taken_of (outcome_of answer) length)
   pub handled : Handled s e out later call clock answer
 
 abbrev pub ReceivedAs : (s e : Store) (out later : List ℕ) → Reading (Call Input) → (clock : ℕ) → Received → Type 0
@@ -31,7 +30,7 @@ ReceivedAs s e out later (Reading.request call n) clock r = HandedOn s e out lat
 
 -- EVERY BYTE STRING: 21 first, then as the bytes read in the session
 pub record ReceivedFrom (s e : Store) (out later bytes : List ℕ) (clock : ℕ) (r : Received) : Type 0 where
-  pub damaged : is_whole s ≡ false → Told s e out later (Received.Handed (record { outcome = Outcome.Refused Error.BadState; count = 0 }) 0) r
+  pub damaged : is_whole s ≡ false → Told s e out later (Received.Handed (Err Error.BadState) 0) r
   pub read : is_whole s ≡ true → ReceivedAs s e out later (reading (view (session s)) bytes) clock r
 
 -- ---- the same, said of the slices that the call is lent

@@ -3,9 +3,9 @@
 use Rattle.std.specs.Prelude.{ℕ, ◌≡◌, false, List, take}
 use Rattle.std.proofs.Math.Option.{some}
 use Rattle.parse.specs.Parse.{le64}
+use Rattle.parse.specs.First as parse
 use Rattle.parse.specs.First.{first_of}
 use Rattle.parse.specs.declared.Arguments.{Arguments}
-use Rattle.parse.specs.declared.First.{First}
 use Rattle.handlers.specs.Call.{call_of}
 use Rattle.model.specs.Call.{Input, Load, Call, split}
 use Rattle.model.specs.Session.{Session, view}
@@ -32,7 +32,7 @@ pub record AsRecord (s : Session Load) (bytes : List ℕ) (n : ℕ) (call : Call
   pub object : Object
   pub arguments : Arguments
   pub alive : live (view s) (le64 bytes 0) ≡ some object
-  pub read : first_of object.interface bytes ≡ First.Read arguments n
+  pub read : first_of object.interface bytes ≡ parse.read arguments n
   pub same : but_peer (step (split (record { call = call; now = now; room = room })) s)
       ≡ but_peer
       (step

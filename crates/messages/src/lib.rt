@@ -12,13 +12,12 @@ ghost use Rattle.model_reads.specs.Message.{taken_of};
 ghost use Rattle.messages.specs.Reading.{request_in, call_in, reading_on};
 ghost use Rattle.messages.specs.Received.{Receives, ReceivesBy};
 
-use answers::{Answer, Error, Outcome};
+use answers::{Answer, Error};
 use client_requests::untimed;
 use converter::request;
 use lent_read::record::RequestCell;
 use lent_read::{numbers, record};
-use objects::Object;
-use parse::{Arguments, First, HEADER_LENGTH};
+use parse::{Arguments, HEADER_LENGTH};
 use requests::row;
 use wire::ParseError;
 
@@ -32,21 +31,19 @@ pub enum Received {
     // 23, and why.
     Malformed(ParseError),
     // What the request that the message stands for was answered, and how many bytes were taken: those of the message, or none where it was refused.
-    Handed { answer: Answer, taken: usize },
+    Handed {
+        answer: Result<Answer, Error>,
+        taken: usize,
+    },
 }
 
 // "A refused message takes nothing."
-fn taken_of(outcome: Outcome, length: usize) -> usize
-    ensures { result ≡ taken_of (outcome_of outcome) length }
+fn taken_of(answer: Result<Answer, Error>, length: usize) -> usize
+    ensures { result ≡ taken_of (outcome_of answer) length }
 {
-    match outcome {
-        Outcome::Refused(_) => 0,
-        Outcome::Accepted => length,
-        Outcome::Seat(_) => length,
-        Outcome::Device(_) => length,
-        Outcome::Value(_) => length,
-        Outcome::Truth(_) => length,
-        Outcome::None => length,
+    match answer {
+        Ok(_) => length,
+        Err(_) => 0,
     }
 }
 
@@ -80,7 +77,7 @@ fn hand_on(
     message: &[u8],
     clock: u64,
     out: &mut [u8],
-) -> Answer
+) -> Result<Answer, Error>
     requires { Whole (store control.old words.old reals.old texts.old) × (a.start + a.length ≤ length message.now) }
     ensures { Handles control words reals texts out (call_in a object version message.now) clock result }
 {
@@ -120,9 +117,9 @@ fn receive_on(
     ensures { ReceivesBy control words reals texts out (reading_on object interface version message.now) clock result }
 {
     match parse::read_first(interface, message) {
-        First::Wait => Received::Wait,
-        First::Malformed(e) => Received::Malformed(e),
-        First::Read { arguments, length } => {
+        Ok(None) => Received::Wait,
+        Err(e) => Received::Malformed(e),
+        Ok(Some(first)) => {
             let answer = hand_on(
                 control,
                 words,
@@ -130,13 +127,12 @@ fn receive_on(
                 texts,
                 object,
                 version,
-                arguments,
-                &message[..length],
+                first.arguments,
+                &message[..first.length],
                 clock,
                 out,
             );
-            let outcome = answer.outcome;
-            let taken = taken_of(outcome, length);
+            let taken = taken_of(answer, first.length);
             Received::Handed { answer, taken }
         }
     }
@@ -155,17 +151,28 @@ pub fn pending_request(
     ensures { Receives control words reals texts out message.now clock result }
 {
     if !session::whole(control, words, reals, texts) {
-        let answer = Answer::refused(Error::BadState);
-        return Received::Handed { answer, taken: 0 };
+        return Received::Handed {
+            answer: Err(Error::BadState),
+            taken: 0,
+        };
     }
     if message.len() < HEADER_LENGTH {
         return Received::Wait;
     }
     let object = parse::number64(message, 0);
     match objects::find_object(control, object) {
-        Object::Unknown => Received::NoObject,
-        Object::Alive { interface, version } => receive_on(
-            control, words, reals, texts, object, interface, version, message, clock, out,
+        None => Received::NoObject,
+        Some(alive) => receive_on(
+            control,
+            words,
+            reals,
+            texts,
+            object,
+            alive.interface,
+            alive.version,
+            message,
+            clock,
+            out,
         ),
     }
 }

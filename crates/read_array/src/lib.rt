@@ -11,23 +11,13 @@ use reads::record::RequestRecord;
 // How many records one call takes.
 pub const READ_LIMIT: usize = 32;
 
-// Of n records, how many there are in the array.
-fn within(n: usize) -> usize
-    ensures { result ≡ min n 32 }
-{
-    if n < READ_LIMIT {
-        return n;
-    }
-    READ_LIMIT
-}
-
 // The first n of the records, and all of them where n is beyond.
 pub fn handle_array(
     control: &mut [u64],
     words: &mut [u64],
     reals: &mut [f32],
     texts: &mut [u8],
-    records: [RequestRecord; 32],
+    records: [RequestRecord; READ_LIMIT],
     n: usize,
     lent: &[u8],
     clock: u64,
@@ -35,13 +25,12 @@ pub fn handle_array(
 ) -> ReadAnswer
     ensures { HandsOver control words reals texts out (map (entry_of lent.now) (take n records)) clock result }
 {
-    let k = within(n);
     reads::handle_requests(
         control,
         words,
         reals,
         texts,
-        &records[..k],
+        &records[..n.min(READ_LIMIT)],
         lent,
         clock,
         out,

@@ -17,27 +17,15 @@ use Rattle.model.proofs.Refusals.{own_refusals}
 use Rattle.model_reads.specs.Read.{Entry, loaded, map_entry, Read, tried, before, handed_over}
 use Rattle.session.specs.View.{Store, session, is_whole}
 use Rattle.session.proofs.Views.{whole_parts, whole_is}
-use Rattle.answers.specs.Answer.{error_of, outcome_of}
+use Rattle.answers.specs.Answer.{error_of}
 use Rattle.answers.specs.declared.Error.{Error}
-use Rattle.answers.specs.declared.Outcome.{Outcome}
 use Rattle.answers.specs.Meets.{turn}
-use Rattle.answers.proofs.Meetings.{answered-handled, error_refuses}
+use Rattle.answers.proofs.Meetings.{answered-handled, error_refuses, ending_goes_on}
 use Rattle.events.proofs.Writes.{records-append}
-use Rattle.reads.specs.declared.First.{First}
+use Rattle.std.specs.Prelude.{Option, Some, None}
 use Rattle.reads.specs.declared.ReadAnswer.{ReadAnswer}
 use Rattle.reads.specs.Handed.{Singly}
 use Rattle.reads.specs.Agrees.{Agrees, model_read, HandedIsRead, ReadNever21}
-
--- an outcome that is no refusal of the code is none of the model
-accepts : (o : Outcome) → ((e : Error) → o ≡ Outcome.Refused e → ⊥) → refuses (outcome_of o) ≡ false
-unfolding refuses refusal
-accepts Outcome.Accepted h = refl
-accepts (Outcome.Refused e) h = absurd (h e refl)
-accepts (Outcome.Seat id) h = refl
-accepts (Outcome.Device id) h = refl
-accepts (Outcome.Value v) h = refl
-accepts (Outcome.Truth t) h = refl
-accepts Outcome.None h = refl
 
 -- ---- bytes one after another
 module _ (out xs : List ℕ) where
@@ -91,23 +79,23 @@ agreed s out w Singly.none =
     record { whole = whole_parts s w; view = refl; accepted = refl; outcome = refl; count = refl; bytes = sym (splice-none out 0) }
 agreed {clock} s out w (Singly.bad_part {es = es}) =
     rw (read-bad es clock (length out) s) (record { whole = whole_parts s w; view = refl; accepted = refl; outcome = refl; count = refl; bytes = sym (splice-none out 0) })
-agreed {clock} s out w (Singly.refused {call = call} {es = es} {answer = a} {error = error} answered o) =
+agreed {clock} s out w (Singly.refused {call = call} {es = es} {error = error} answered) =
     let m = answered-handled s answered w in
     let st = step_of call clock out s in
-    let stops : refuses st.outcome ≡ true = ap refuses (sym m.outcome ∙ ap outcome_of o) ∙ error_refuses error in
+    let stops : refuses st.outcome ≡ true = ap refuses (sym m.outcome) ∙ error_refuses error in
     rw (read-request call es clock out s, before-refused st _ stops) (record {
       whole = m.whole;
       view = m.view;
       accepted = refl;
-      outcome = sym (ap outcome_of o) ∙ m.outcome;
+      outcome = m.outcome;
       count = m.count;
       bytes = m.bytes;
     })
-agreed {clock} s out w (Singly.accepted {m = n} {mid = mid} {call = call} {es = es} {answer = a} {others = r} answered o rest) =
+agreed {clock} s out w (Singly.accepted {m = n} {mid = mid} {call = call} {es = es} {answer = a} {others = r} answered rest) =
     let m = answered-handled s answered w in
     let st = step_of call clock out s in
     let recs = records st.events in
-    let goes : refuses st.outcome ≡ false = ap refuses (sym m.outcome) ∙ accepts a.outcome o in
+    let goes : refuses st.outcome ≡ false = ap refuses (sym m.outcome) ∙ ending_goes_on a.outcome in
     let left : drop a.count mid ≡ drop (length recs) out = rw (m.count, m.bytes) (left_over out recs) in
     let wrote : take a.count mid ≡ recs = rw (m.count, m.bytes) (front out recs) in
     let room : length (drop a.count mid) ≡ length out - length recs = ap length left ∙ length-drop (length recs) out in
@@ -129,24 +117,24 @@ handed_is_read s e out later entries clock r w h = agreed s out w (h.handled w)
 
 -- ---- 21 once
 
-unfoldable number_in : First → ℕ
+unfoldable number_in : Option Error → ℕ
 unfolding refusal
-number_in First.None = 0
-number_in (First.Refused e) = refusal (error_of e)
+number_in None = 0
+number_in (Some e) = refusal (error_of e)
 
 -- 21 is no running session's refusal
 not_21 : (n : ℕ) → of_session n ≡ true → n ≡ 21 → ⊥
 not_21 n h e = false≢true (ap of_session (sym e) ∙ h)
 
 never : {clock : ℕ} (s : Store) {e : Store} {out later : List ℕ} {es : List (Entry (Call Input))} {r : ReadAnswer} → is_whole s ≡ true → Singly clock s e out later es r
-    → r.refusal ≡ First.Refused Error.BadState → ⊥
+    → r.refusal ≡ Some Error.BadState → ⊥
 unfolding OwnRefusals refusal number_in
 never s w Singly.none h = omega (arith, ap number_in h)
 never s w Singly.bad_part h = omega (arith, ap number_in h)
-never {clock} s {out = out} w (Singly.refused {call = call} {error = error} answered o) h =
+never {clock} s {out = out} w (Singly.refused {call = call} {error = error} answered) h =
     let m = answered-handled s answered w in
-    not_21 (refusal (error_of error)) (ap (λ (x : Result). of_session (refusal x)) (sym (ap outcome_of o) ∙ m.outcome) ∙ own_refusals (split (turn call clock out)) (session s)) (ap number_in h)
-never s w (Singly.accepted {m = n} answered o rest) h = never n (whole_is n (answered-handled s answered w).whole) rest h
+    not_21 (refusal (error_of error)) (ap (λ (x : Result). of_session (refusal x)) m.outcome ∙ own_refusals (split (turn call clock out)) (session s)) (ap number_in h)
+never s w (Singly.accepted {m = n} answered rest) h = never n (whole_is n (answered-handled s answered w).whole) rest h
 
 pub read_never_21 : ReadNever21
 read_never_21 s e out later entries clock r w h = never s w (h.handled w)

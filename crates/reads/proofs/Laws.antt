@@ -16,39 +16,16 @@ use Rattle.model_reads.specs.Read.{Entry}
 use Rattle.session.specs.View.{Store, is_whole, Lending}
 use Rattle.session.proofs.Views.{whole_is}
 use Rattle.answers.specs.declared.Error.{Error}
-use Rattle.answers.specs.declared.Outcome.{Outcome}
 use Rattle.answers.specs.declared.Answer.{Answer}
 use Rattle.answers.specs.Meets.{Answered}
 use Rattle.answers.proofs.Meetings.{answered-handled}
-use Rattle.reads.specs.declared.First.{First}
+use Rattle.std.specs.Prelude.{Option, Some, None, Result, Ok, Err}
+use Rattle.answers.specs.Answer.{count_of}
 use Rattle.reads.specs.declared.ReadAnswer.{ReadAnswer}
 use Rattle.reads.specs.declared.record.RequestRecord.{RequestRecord}
 use Rattle.reads.specs.Record.{entry_of}
 use Rattle.reads.proofs.Records.{count-within}
-use Rattle.reads.specs.Handed.{opened, unrefused, goes_on, one_more, joined_at, Singly, Handed, Taken}
-
--- an answer is a refusal, or goes on
-data Settled : Outcome → Type 0 where
-  stop : (e : Error) → Settled (Outcome.Refused e)
-  on : (o : Outcome) → ((e : Error) → o ≡ Outcome.Refused e → ⊥) → ((b : ReadAnswer) (count : ℕ) → joined_at b count o ≡ one_more b count) → Settled o
-
-abbrev refuses : Outcome → Bool
-refuses Outcome.Accepted = false
-refuses (Outcome.Refused e) = true
-refuses (Outcome.Seat id) = false
-refuses (Outcome.Device id) = false
-refuses (Outcome.Value v) = false
-refuses (Outcome.Truth t) = false
-refuses Outcome.None = false
-
-settled : (o : Outcome) → Settled o
-settled Outcome.Accepted = Settled.on Outcome.Accepted (λ e h. false≢true (ap refuses h)) (λ b count. refl)
-settled (Outcome.Refused e) = Settled.stop e
-settled (Outcome.Seat id) = Settled.on (Outcome.Seat id) (λ e h. false≢true (ap refuses h)) (λ b count. refl)
-settled (Outcome.Device id) = Settled.on (Outcome.Device id) (λ e h. false≢true (ap refuses h)) (λ b count. refl)
-settled (Outcome.Value v) = Settled.on (Outcome.Value v) (λ e h. false≢true (ap refuses h)) (λ b count. refl)
-settled (Outcome.Truth t) = Settled.on (Outcome.Truth t) (λ e h. false≢true (ap refuses h)) (λ b count. refl)
-settled Outcome.None = Settled.on Outcome.None (λ e h. false≢true (ap refuses h)) (λ b count. refl)
+use Rattle.reads.specs.Handed.{opened, unrefused, goes_on, one_more, joined, Singly, Handed, Taken}
 
 -- how many records may still be tried
 abbrev pub left : ReadAnswer → (n : ℕ) → ℕ
@@ -58,14 +35,14 @@ both : (x y : Bool) → x && y ≡ true → (x ≡ true) × (y ≡ true)
 both true y h = (refl, h)
 both false y h = absurd (false≢true h)
 
-unrefused-none : (f : First) → unrefused f ≡ true → f ≡ First.None
-unrefused-none First.None h = refl
-unrefused-none (First.Refused e) h = absurd (false≢true h)
+unrefused-none : (f : Option Error) → unrefused f ≡ true → f ≡ None
+unrefused-none None h = refl
+unrefused-none (Some e) h = absurd (false≢true h)
 
 pub goes_there : (b : ReadAnswer) (n : ℕ) → goes_on b n ≡ true → b.accepted < n
 goes_there b n h = ltb-true b.accepted n (both (unrefused b.refusal) (ltb b.accepted n) h).1
 
-goes_none : (b : ReadAnswer) (n : ℕ) → goes_on b n ≡ true → b.refusal ≡ First.None
+goes_none : (b : ReadAnswer) (n : ℕ) → goes_on b n ≡ true → b.refusal ≡ None
 goes_none b n h = unrefused-none b.refusal (both (unrefused b.refusal) (ltb b.accepted n) h).0
 
 fewer : (i n : ℕ) → i < n → cond (ltb (i + 1) n) (suc (n - (i + 1))) 0 < suc (n - i)
@@ -87,10 +64,10 @@ module _ (s₀ : Store) (out₀ : List ℕ) (es : List (Entry (Call Input))) (cl
     pub whole : is_whole e ≡ true
     pub fits : b.count ≤ length out
     -- no record was refused: whatever the others come to, with what is left of `out`, makes a read of all
-    pub onward : b.refusal ≡ First.None → (f : Store) (later : List ℕ) (r : ReadAnswer)
+    pub onward : b.refusal ≡ None → (f : Store) (later : List ℕ) (r : ReadAnswer)
         → Singly clock e f (drop b.count out) later (drop b.accepted es) r → Singly clock s₀ f out₀ (take b.count out ++ later) es (behind b r)
     -- one was: the read has ended
-    pub ended : (error : Error) → b.refusal ≡ First.Refused error → Singly clock s₀ e out₀ out es b
+    pub ended : (error : Error) → b.refusal ≡ Some error → Singly clock s₀ e out₀ out es b
 
   pub record SoFar (e : Store) (out : List ℕ) (b : ReadAnswer) : Type 0 where
     pub damaged : is_whole s₀ ≡ false → (b ≡ opened false) × ((e ≡ s₀) × (out ≡ out₀))
@@ -124,118 +101,115 @@ module _ (s₀ : Store) (out₀ : List ℕ) (es : List (Entry (Call Input))) (cl
       let go = h.handled (not-damaged e out b h g) in (go.whole, (go.fits, omega (arith, goes_there b (length es) g, l)))
 
   -- no record is left, or one was refused
-  stopped : (e : Store) (out : List ℕ) (b : ReadAnswer) → Going e out b → (f : First) → b.refusal ≡ f → unrefused f && ltb b.accepted (length es) ≡ false
+  stopped : (e : Store) (out : List ℕ) (b : ReadAnswer) → Going e out b → (f : Option Error) → b.refusal ≡ f → unrefused f && ltb b.accepted (length es) ≡ false
       → Singly clock s₀ e out₀ out es b
-  stopped e out b go First.None is g =
+  stopped e out b go None is g =
       let all : drop b.accepted es ≡ [] = drop_of_length-le es (ltb-false b.accepted (length es) g) in
       let t = go.onward is e (drop b.count out) (opened true) (rw all Singly.none) in
       rw (take-append-drop b.count out, add-zero b.accepted, add-zero b.count, ← is) at t
-  stopped e out b go (First.Refused error) is g = go.ended error is
+  stopped e out b go (Some error) is g = go.ended error is
 
   pub finished : (e : Store) (out : List ℕ) (b : ReadAnswer) → SoFar e out b → goes_on b (length es) ≡ false → Handed s₀ e out₀ out es clock b
   finished e out b h g = record { damaged = h.damaged; handled = λ w. stopped e out b (h.handled w) b.refusal refl g }
 
   -- ---- a record is tried: `rest` is what is left of `out` behind the call
-  module _ (e : Store) (out : List ℕ) (b : ReadAnswer) (go : Going e out b) (none : b.refusal ≡ First.None) where
+  module _ (e : Store) (out : List ℕ) (b : ReadAnswer) (go : Going e out b) (none : b.refusal ≡ None) where
     -- its part leaves the texts
     bad_at : drop b.accepted es ≡ Entry.bad_part ∷ drop (b.accepted + 1) es
-        → Going e out (record { accepted = b.accepted; count = b.count + 0; refusal = First.Refused Error.BadPart })
+        → Going e out (record { accepted = b.accepted; count = b.count; refusal = Some Error.BadPart })
     bad_at here =
         record {
           whole = go.whole;
           fits = omega (arith, go.fits);
           onward = λ n. absurd (false≢true (ap unrefused n));
           ended = λ error n.
-              let t = go.onward none e (drop b.count out) (record { accepted = 0; count = 0; refusal = First.Refused Error.BadPart }) (rw here Singly.bad_part) in
-              rw (take-append-drop b.count out, add-zero b.accepted) at t;
+              let t = go.onward none e (drop b.count out) (record { accepted = 0; count = 0; refusal = Some Error.BadPart }) (rw here Singly.bad_part) in
+              rw (take-append-drop b.count out, add-zero b.accepted, add-zero b.count) at t;
         }
 
-    module _ (f : Store) (rest : List ℕ) (call : Call Input) (a : Answer) (here : drop b.accepted es ≡ Entry.request call ∷ drop (b.accepted + 1) es)
-        (answered : Answered Lending.all e f (drop b.count out) rest call clock a) where
+    module _ (f : Store) (rest : List ℕ) (call : Call Input) (here : drop b.accepted es ≡ Entry.request call ∷ drop (b.accepted + 1) es) where
       abbrev later : List ℕ
       later = take b.count out ++ rest
 
       front : length (take b.count out) ≡ b.count
       front = length-take-le b.count out go.fits
 
-      whole-after : is_whole f ≡ true
-      whole-after = whole_is f (answered-handled e answered go.whole).whole
+      module _ {r : Result Answer Error} (answered : Answered Lending.all e f (drop b.count out) rest call clock r) where
+        whole-after : is_whole f ≡ true
+        whole-after = whole_is f (answered-handled e answered go.whole).whole
 
-      fits_after : b.count + a.count ≤ length later
-      fits_after =
-          omega (arith, count-within (drop b.count out) (answered-handled e answered go.whole), length-append (take b.count out) rest, front)
+        fits_after : b.count + count_of r ≤ length later
+        fits_after =
+            omega (arith, count-within (drop b.count out) (answered-handled e answered go.whole), length-append (take b.count out) rest, front)
 
-      stopped_at : (error : Error) → a.outcome ≡ Outcome.Refused error
-          → Going f later (record { accepted = b.accepted; count = b.count + a.count; refusal = First.Refused error })
-      stopped_at error o =
+      stopped_at : (error : Error) → Answered Lending.all e f (drop b.count out) rest call clock (Err error)
+          → Going f later (record { accepted = b.accepted; count = b.count; refusal = Some error })
+      stopped_at error answered =
           record {
-            whole = whole-after;
-            fits = fits_after;
+            whole = whole-after answered;
+            fits = omega (arith, fits_after answered);
             onward = λ n. absurd (false≢true (ap unrefused n));
             ended = λ error' n.
-                let t = go.onward none f rest (record { accepted = 0; count = a.count; refusal = First.Refused error }) (rw here (Singly.refused answered o)) in
-                rw (add-zero b.accepted) at t;
+                let t = go.onward none f rest (record { accepted = 0; count = 0; refusal = Some error }) (rw here (Singly.refused answered)) in
+                rw (add-zero b.accepted, add-zero b.count) at t;
           }
 
-      -- what the others are told, with this one before them
-      abbrev with_this : ReadAnswer → ReadAnswer
-      with_this r = record { accepted = suc r.accepted; count = a.count + r.count; refusal = r.refusal }
+      module _ (a : Answer) where
+        -- what the others are told, with this one before them
+        abbrev with_this : ReadAnswer → ReadAnswer
+        with_this r = record { accepted = suc r.accepted; count = a.count + r.count; refusal = r.refusal }
 
-      left_over : drop (b.count + a.count) later ≡ drop a.count rest
-      left_over = sym (drop-drop a.count b.count later) ∙ ap (drop a.count) (drop_at (take b.count out) rest b.count front)
+        left_over : drop (b.count + a.count) later ≡ drop a.count rest
+        left_over = sym (drop-drop a.count b.count later) ∙ ap (drop a.count) (drop_at (take b.count out) rest b.count front)
 
-      written : take (b.count + a.count) later ≡ take b.count out ++ take a.count rest
-      written = ap (λ (k : ℕ). take (k + a.count) later) (sym front) ∙ take-append-add (take b.count out) rest a.count
+        written : take (b.count + a.count) later ≡ take b.count out ++ take a.count rest
+        written = ap (λ (k : ℕ). take (k + a.count) later) (sym front) ∙ take-append-add (take b.count out) rest a.count
 
-      same_told : (r : ReadAnswer) → behind b (with_this r) ≡ behind (one_more b a.count) r
-      same_told r =
-          let n : b.accepted + suc r.accepted ≡ b.accepted + 1 + r.accepted = omega arith in
-          λ i. record { accepted = n i; count = sym (add_assoc b.count a.count r.count) i; refusal = r.refusal }
+        same_told : (r : ReadAnswer) → behind b (with_this r) ≡ behind (one_more b a.count) r
+        same_told r =
+            let n : b.accepted + suc r.accepted ≡ b.accepted + 1 + r.accepted = omega arith in
+            λ i. record { accepted = n i; count = sym (add_assoc b.count a.count r.count) i; refusal = r.refusal }
 
-      same_bytes : (more : List ℕ) → take b.count out ++ (take a.count rest ++ more) ≡ take (b.count + a.count) later ++ more
-      same_bytes more = sym (append_assoc (take b.count out) (take a.count rest) more) ∙ ap (λ (l : List ℕ). l ++ more) (sym written)
+        same_bytes : (more : List ℕ) → take b.count out ++ (take a.count rest ++ more) ≡ take (b.count + a.count) later ++ more
+        same_bytes more = sym (append_assoc (take b.count out) (take a.count rest) more) ∙ ap (λ (l : List ℕ). l ++ more) (sym written)
 
-      goes_on_at : ((error : Error) → a.outcome ≡ Outcome.Refused error → ⊥) → Going f later (one_more b a.count)
-      goes_on_at o =
-          record {
-            whole = whole-after;
-            fits = fits_after;
-            onward = λ n g more r t.
-                let others = rw left_over at t in
-                rw (← same_told r, ← same_bytes more) (go.onward none g (take a.count rest ++ more) (with_this r) (rw here (Singly.accepted answered o others)));
-            ended = λ error n. absurd (false≢true (sym (ap unrefused n)));
-          }
+        goes_on_at : Answered Lending.all e f (drop b.count out) rest call clock (Ok a) → Going f later (one_more b a.count)
+        goes_on_at answered =
+            record {
+              whole = whole-after answered;
+              fits = fits_after answered;
+              onward = λ n g more r t.
+                  let others = rw left_over at t in
+                  rw (← same_told r, ← same_bytes more) (go.onward none g (take a.count rest ++ more) (with_this r) (rw here (Singly.accepted answered others)));
+              ended = λ error n. absurd (false≢true (sym (ap unrefused n)));
+            }
 
   module _ (e f : Store) (out later : List ℕ) (b d : ReadAnswer) (go : Going e out b) (g : goes_on b (length es) ≡ true) where
-    none : b.refusal ≡ First.None
+    none : b.refusal ≡ None
     none = goes_none b (length es) g
 
     there : b.accepted < length es
     there = goes_there b (length es) g
 
-    stops_there : (error : Error) (count : ℕ) → left (record { accepted = b.accepted; count = count; refusal = First.Refused error }) (length es) < left b (length es)
+    stops_there : (error : Error) (count : ℕ) → left (record { accepted = b.accepted; count = count; refusal = Some error }) (length es) < left b (length es)
     stops_there error count = rw g (omega arith)
 
-    settles : (rest : List ℕ) (call : Call Input) (a : Answer) (here : drop b.accepted es ≡ Entry.request call ∷ drop (b.accepted + 1) es)
-        → Answered Lending.all e f (drop b.count out) rest call clock a → later ≡ take b.count out ++ rest
-        → (o : Outcome) → a.outcome ≡ o → Settled o → d ≡ joined_at b a.count o → Going f later d × (left d (length es) < left b (length es))
-    settles rest call a here answered bytes _ is (Settled.stop error) j =
-        rw (bytes, j) (stopped_at e out b go none f rest call a here answered error is, stops_there error (b.count + a.count))
-    settles rest call a here answered bytes _ is (Settled.on o not next) j =
-        rw (bytes, j ∙ next b a.count) (
-          goes_on_at e out b go none f rest call a here answered (λ error h. not error (sym is ∙ h)),
-          rw g (fewer b.accepted (length es) there),
-        )
+    settles : (rest : List ℕ) (call : Call Input) (here : drop b.accepted es ≡ Entry.request call ∷ drop (b.accepted + 1) es) (r : Result Answer Error)
+        → Answered Lending.all e f (drop b.count out) rest call clock r → later ≡ take b.count out ++ rest
+        → d ≡ joined b r → Going f later d × (left d (length es) < left b (length es))
+    settles rest call here (Err error) answered bytes j =
+        rw (bytes, j) (stopped_at e out b go none f rest call here error answered, stops_there error b.count)
+    settles rest call here (Ok a) answered bytes j =
+        rw (bytes, j) (goes_on_at e out b go none f rest call here a answered, rw g (fewer b.accepted (length es) there))
 
     tried_on : (entry : Entry (Call Input)) → drop b.accepted es ≡ entry ∷ drop (b.accepted + 1) es → Taken e f out later entry clock b d
         → Going f later d × (left d (length es) < left b (length es))
     tried_on Entry.bad_part here t =
-        let bad : d ≡ record { accepted = b.accepted; count = b.count + 0; refusal = First.Refused Error.BadPart } =
-        t.joins ∙ ap (joined_at b t.answer.count) t.tried.1.1.0 ∙ ap (λ (n : ℕ). joined_at b n (Outcome.Refused Error.BadPart)) t.tried.1.1.1 in
+        let bad : d ≡ record { accepted = b.accepted; count = b.count; refusal = Some Error.BadPart } = t.joins ∙ ap (joined b) t.tried.1.1 in
         let same : later ≡ out = t.bytes ∙ ap (λ (l : List ℕ). take b.count out ++ l) t.tried.1.0 ∙ take-append-drop b.count out in
-        rw (same, t.tried.0, bad) (bad_at e out b go none here, stops_there Error.BadPart (b.count + 0))
+        rw (same, t.tried.0, bad) (bad_at e out b go none here, stops_there Error.BadPart b.count)
     tried_on (Entry.request call) here t =
-        settles t.rest call t.answer here t.tried t.bytes t.answer.outcome refl (settled t.answer.outcome) t.joins
+        settles t.rest call here t.answer t.tried t.bytes t.joins
 
 -- the record at a place is the first of those from there on
 entry_at : (lent : List ℕ) (rs : List RequestRecord) (i : ℕ) (x : RequestRecord) → i < length rs → x ≡ get_or rs i x

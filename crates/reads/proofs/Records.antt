@@ -12,7 +12,8 @@ use Rattle.model.specs.Plan.{records}
 use Rattle.model.specs.Step.{Step}
 use Rattle.session.specs.View.{Store, is_whole, Lending}
 use Rattle.answers.specs.declared.Error.{Error}
-use Rattle.answers.specs.declared.Outcome.{Outcome}
+use Rattle.std.specs.Prelude.{Result, Err}
+use Rattle.answers.specs.Answer.{count_of}
 use Rattle.answers.specs.declared.Answer.{Answer}
 use Rattle.answers.specs.Meets.{Meets, Answered}
 use Rattle.answers.proofs.Meetings.{answered-handled}
@@ -28,12 +29,12 @@ within : (out recs : List ℕ) → length recs ≤ length (splice out 0 recs)
 unfolding splice
 within out recs = rw (length-append recs (drop (0 + length recs) out)) (omega arith)
 
-pub count-within : {s e : Store} (out : List ℕ) {later : List ℕ} {T : Type 0} {to : Step Load} {a : Answer} → Meets s e out later T to a → a.count ≤ length later
+pub count-within : {s e : Store} (out : List ℕ) {later : List ℕ} {T : Type 0} {to : Step Load} {a : Result Answer Error} → Meets s e out later T to a → count_of a ≤ length later
 count-within out {to = to} m = rw (m.count, m.bytes) (within out (records to.events))
 
 -- the record's part leaves the texts
-pub bad-taken : (s : Store) (out lent : List ℕ) (x : RequestRecord) (clock : ℕ) (b r : ReadAnswer) (a : Answer) (p : Part)
-    → p ≡ part lent x → p.stays ≡ false → (a.outcome ≡ Outcome.Refused Error.BadPart) × (a.count ≡ 0) → r ≡ joined b a
+pub bad-taken : (s : Store) (out lent : List ℕ) (x : RequestRecord) (clock : ℕ) (b r : ReadAnswer) (a : Result Answer Error) (p : Part)
+    → p ≡ part lent x → p.stays ≡ false → a ≡ Err Error.BadPart → r ≡ joined b a
     → Taken s s out out (entry_of lent x) clock b r
 bad-taken s out lent x clock b r a p is h told j =
     rw (entry-bad lent x p is h) (record {
@@ -45,7 +46,7 @@ bad-taken s out lent x clock b r a p is h told j =
     })
 
 -- the record is tried, with what is left of `out`; `later` is that behind the call
-module _ (s e : Store) (out later lent : List ℕ) (x : RequestRecord) (clock : ℕ) (b : ReadAnswer) (a : Answer) (p : Part) (w : is_whole s ≡ true)
+module _ (s e : Store) (out later lent : List ℕ) (x : RequestRecord) (clock : ℕ) (b : ReadAnswer) (a : Result Answer Error) (p : Part) (w : is_whole s ≡ true)
     (l : b.count ≤ length out) (same : length later ≡ length (take (length out - b.count) (drop b.count out)))
     (answered : Answered Lending.all s e (take (length out - b.count) (drop b.count out)) later (call_in lent x p) clock a) where
   all_left : take (length out - b.count) (drop b.count out) ≡ drop b.count out
@@ -59,7 +60,7 @@ module _ (s e : Store) (out later lent : List ℕ) (x : RequestRecord) (clock : 
       let e : b.count + (length out - b.count) ≡ length out = omega arith in
       drop-drop (length out - b.count) b.count out ∙ ap (λ (n : ℕ). drop n out) e ∙ drop-length out
 
-  pub call_fits : b.count + a.count ≤ length out
+  pub call_fits : b.count + count_of a ≤ length out
   call_fits = omega (arith, count-within (drop b.count out) (answered-handled s answered-left w), same, ap length all_left, length-drop b.count out)
 
   pub call-taken : (r : ReadAnswer) → p ≡ part lent x → p.stays ≡ true → r ≡ joined b a

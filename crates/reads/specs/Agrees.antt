@@ -1,5 +1,5 @@
 -- A read as its contract has it is the model's. proofs/Agreed.antt proves the statements. Assumes nothing.
-use Rattle.std.specs.Prelude.{ℕ, ◌≡◌, true, List, map, length}
+use Rattle.std.specs.Prelude.{ℕ, ◌≡◌, true, List, map, length, Option, Some, None}
 use Rattle.wire.specs.Bits.{splice}
 use Rattle.model.specs.Call.{Input, Load, Call}
 use Rattle.model.specs.Plan.{Result, records}
@@ -7,13 +7,12 @@ use Rattle.model_reads.specs.Read.{Entry, loaded, map_entry, Read, handed_over}
 use Rattle.session.specs.View.{Store, session, is_whole, Whole}
 use Rattle.answers.specs.Answer.{error_of}
 use Rattle.answers.specs.declared.Error.{Error}
-use Rattle.reads.specs.declared.First.{First}
 use Rattle.reads.specs.declared.ReadAnswer.{ReadAnswer}
 use Rattle.reads.specs.Handed.{Handed}
 
-abbrev pub first_of : First → Result
-first_of First.None = Result.accepted
-first_of (First.Refused e) = error_of e
+abbrev pub first_of : Option Error → Result
+first_of None = Result.accepted
+first_of (Some e) = error_of e
 
 -- the answer is that of the model's read: session, number accepted, first refusal, count and every byte of `out`
 pub record Agrees (s e : Store) (out later : List ℕ) (to : Read Load) (r : ReadAnswer) : Type 0 where
@@ -37,4 +36,4 @@ HandedIsRead =
 abbrev pub ReadNever21 : Type 0
 ReadNever21 =
     (s e : Store) (out later : List ℕ) (entries : List (Entry (Call Input))) (clock : ℕ) (r : ReadAnswer) → is_whole s ≡ true
-    → Handed s e out later entries clock r → r.refusal ≡ First.Refused Error.BadState → ⊥
+    → Handed s e out later entries clock r → r.refusal ≡ Some Error.BadState → ⊥

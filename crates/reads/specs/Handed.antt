@@ -1,26 +1,24 @@
 -- What is promised of a whole read, and of one record of it. Assumes nothing.
-use Rattle.std.specs.Prelude.{ℕ, suc, ◌+◌, ◌≡◌, Bool, true, false, ◌&&◌, List, [], ◌∷◌, ◌++◌, ltb, take, drop}
+use Rattle.std.specs.Prelude.{ℕ, suc, ◌+◌, ◌≡◌, Bool, true, false, ◌&&◌, List, [], ◌∷◌, ◌++◌, ltb, take, drop, Option, Some, None, Result, Ok, Err}
 use Rattle.model.specs.Call.{Input, Call}
 use Rattle.model_reads.specs.Read.{Entry}
 use Rattle.session.specs.View.{Store, is_whole, Lending}
 use Rattle.session.specs.Slices.{Numbers, Reals, before, after}
 use Rattle.answers.specs.declared.Error.{Error}
-use Rattle.answers.specs.declared.Outcome.{Outcome}
 use Rattle.answers.specs.declared.Answer.{Answer}
 use Rattle.answers.specs.Meets.{Answered}
-use Rattle.reads.specs.declared.First.{First}
 use Rattle.reads.specs.declared.ReadAnswer.{ReadAnswer}
 
 -- ---- what is told
 
 -- nothing tried yet
 abbrev pub opened : Bool → ReadAnswer
-opened true = record { accepted = 0; count = 0; refusal = First.None }
-opened false = record { accepted = 0; count = 0; refusal = First.Refused Error.BadState }
+opened true = record { accepted = 0; count = 0; refusal = None }
+opened false = record { accepted = 0; count = 0; refusal = Some Error.BadState }
 
-abbrev pub unrefused : First → Bool
-unrefused First.None = true
-unrefused (First.Refused e) = false
+abbrev pub unrefused : Option Error → Bool
+unrefused None = true
+unrefused (Some e) = false
 
 -- whether a record of n is left to be tried
 abbrev pub goes_on : ReadAnswer → (n : ℕ) → Bool
@@ -28,20 +26,12 @@ goes_on b n = unrefused b.refusal && ltb b.accepted n
 
 -- "the number accepted (ignored ones included), the number of event bytes these wrote"
 abbrev pub one_more : ReadAnswer → (count : ℕ) → ReadAnswer
-one_more b count = record { accepted = b.accepted + 1; count = b.count + count; refusal = First.None }
-
-abbrev pub joined_at : ReadAnswer → (count : ℕ) → Outcome → ReadAnswer
-joined_at b count Outcome.Accepted = one_more b count
-joined_at b count (Outcome.Refused e) = record { accepted = b.accepted; count = b.count + count; refusal = First.Refused e }
-joined_at b count (Outcome.Seat id) = one_more b count
-joined_at b count (Outcome.Device id) = one_more b count
-joined_at b count (Outcome.Value v) = one_more b count
-joined_at b count (Outcome.Truth t) = one_more b count
-joined_at b count Outcome.None = one_more b count
+one_more b count = record { accepted = b.accepted + 1; count = b.count + count; refusal = None }
 
 -- the answer of one record joined to those before it
-abbrev pub joined : ReadAnswer → Answer → ReadAnswer
-joined b a = joined_at b a.count a.outcome
+abbrev pub joined : ReadAnswer → Result Answer Error → ReadAnswer
+joined b (Ok a) = one_more b a.count
+joined b (Err e) = record { accepted = b.accepted; count = b.count; refusal = Some e }
 
 -- ---- a read: s are the slices before it, e those after it, out and later the lent `out`
 
@@ -52,13 +42,13 @@ pub data Singly (clock : ℕ) : (s e : Store) (out later : List ℕ) → List (E
   none : {s : Store} {out : List ℕ} → Singly clock s s out out [] (opened true)
   -- "refused before it is tried", and "nothing after that is tried"
   bad_part : {s : Store} {out : List ℕ} {es : List (Entry (Call Input))}
-      → Singly clock s s out out (Entry.bad_part ∷ es) (record { accepted = 0; count = 0; refusal = First.Refused Error.BadPart })
-  refused : {s e : Store} {out later : List ℕ} {call : Call Input} {es : List (Entry (Call Input))} {answer : Answer} {error : Error}
-      → Answered Lending.all s e out later call clock answer → answer.outcome ≡ Outcome.Refused error
-      → Singly clock s e out later (Entry.request call ∷ es) (record { accepted = 0; count = answer.count; refusal = First.Refused error })
+      → Singly clock s s out out (Entry.bad_part ∷ es) (record { accepted = 0; count = 0; refusal = Some Error.BadPart })
+  refused : {s e : Store} {out later : List ℕ} {call : Call Input} {es : List (Entry (Call Input))} {error : Error}
+      → Answered Lending.all s e out later call clock (Err error)
+      → Singly clock s e out later (Entry.request call ∷ es) (record { accepted = 0; count = 0; refusal = Some error })
   -- the others get the session that it returns, and what is left of `out`
   accepted : {s m e : Store} {out mid later : List ℕ} {call : Call Input} {es : List (Entry (Call Input))} {answer : Answer} {others : ReadAnswer}
-      → Answered Lending.all s m out mid call clock answer → ((error : Error) → answer.outcome ≡ Outcome.Refused error → ⊥)
+      → Answered Lending.all s m out mid call clock (Ok answer)
       → Singly clock m e (drop answer.count mid) later es others
       → Singly clock s e out (take answer.count mid ++ later) (Entry.request call ∷ es)
       (record { accepted = suc others.accepted; count = answer.count + others.count; refusal = others.refusal })
@@ -71,12 +61,12 @@ pub record Handed (s e : Store) (out later : List ℕ) (entries : List (Entry (C
 -- ---- one record behind those accepted: its answer, joined to theirs, is that of the single call with what is left of `out`
 
 -- what becomes of a record: `rest` is what is left of `out`, `later` the same behind the call
-abbrev pub Tried : Entry (Call Input) → (clock : ℕ) (s e : Store) (rest later : List ℕ) (answer : Answer) → Type 0
-Tried Entry.bad_part clock s e rest later a = (e ≡ s) × ((later ≡ rest) × ((a.outcome ≡ Outcome.Refused Error.BadPart) × (a.count ≡ 0)))
+abbrev pub Tried : Entry (Call Input) → (clock : ℕ) (s e : Store) (rest later : List ℕ) (answer : Result Answer Error) → Type 0
+Tried Entry.bad_part clock s e rest later a = (e ≡ s) × ((later ≡ rest) × (a ≡ Err Error.BadPart))
 Tried (Entry.request call) clock s e rest later a = Answered Lending.all s e rest later call clock a
 
 pub record Taken (s e : Store) (out later : List ℕ) (entry : Entry (Call Input)) (clock : ℕ) (so_far r : ReadAnswer) : Type 0 where
-  pub answer : Answer
+  pub answer : Result Answer Error
   pub rest : List ℕ
   pub joins : r ≡ joined so_far answer
   pub tried : Tried entry clock s e (drop so_far.count out) rest answer

@@ -4,28 +4,22 @@
 
 ghost use Rattle.std.specs.Prelude.{◌≡◌, true, map, ◌+◌, ◌<◌, ◌≤◌, ◌^◌, length};
 ghost use Rattle.session.specs.View.{store, is_whole};
+ghost use Rattle.answers.specs.Answer.{count_of};
 ghost use Rattle.reads.specs.Record.{has_text, part_of, entry_of};
 ghost use Rattle.reads.specs.Handed.{goes_on, joined, Opens, Takes, HandsOver};
 
-use answers::{Answer, Error, Outcome};
+use answers::{Answer, Error};
 use record::{RequestRecord, record_at};
 use requests::eis::{HandshakeRequest, InterfaceRequest, Request, TextRequest};
 
 pub mod record;
 
-// The first refusal, if there was one.
-#[derive(Clone, Copy)]
-pub enum First {
-    None,
-    Refused(Error),
-}
-
-// How many records were accepted, ignored ones included; how many bytes of events these wrote; the first refusal.
-#[derive(Clone, Copy)]
+// How many records were accepted, ignored ones included; how many bytes of events these wrote; the first refusal, if there was one.
+#[derive(Clone, Copy, Debug, PartialEq, Eq)]
 pub struct ReadAnswer {
     pub accepted: usize,
     pub count: usize,
-    pub refusal: First,
+    pub refusal: Option<Error>,
 }
 
 // The part of the texts that a record has, if it stays within them.
@@ -49,13 +43,13 @@ pub fn begin(
         return ReadAnswer {
             accepted: 0,
             count: 0,
-            refusal: First::None,
+            refusal: None,
         };
     }
     ReadAnswer {
         accepted: 0,
         count: 0,
-        refusal: First::Refused(Error::BadState),
+        refusal: Some(Error::BadState),
     }
 }
 
@@ -63,11 +57,7 @@ pub fn begin(
 pub fn goes_on(sofar: ReadAnswer, n: usize) -> bool
     ensures { result ≡ goes_on sofar n }
 {
-    let refusal = sofar.refusal;
-    match refusal {
-        First::None => sofar.accepted < n,
-        First::Refused(_) => false,
-    }
+    sofar.refusal.is_none() && sofar.accepted < n
 }
 
 // Whether the request carries a text.
@@ -135,22 +125,20 @@ fn part_of(request: Request, start: usize, length: usize, n: usize) -> Part
 }
 
 // The answer of one record joined to those before it.
-fn join(sofar: ReadAnswer, answer: Answer) -> ReadAnswer
-    requires { (sofar.accepted + 1 < 2 ^ 64) × (sofar.count + answer.count < 2 ^ 64) }
+fn join(sofar: ReadAnswer, answer: Result<Answer, Error>) -> ReadAnswer
+    requires { (sofar.accepted + 1 < 2 ^ 64) × (sofar.count + count_of answer < 2 ^ 64) }
     ensures { result ≡ joined sofar answer }
 {
-    let outcome = answer.outcome;
-    let count = sofar.count + answer.count;
-    match outcome {
-        Outcome::Refused(e) => ReadAnswer {
-            accepted: sofar.accepted,
-            count,
-            refusal: First::Refused(e),
-        },
-        _ => ReadAnswer {
+    match answer {
+        Ok(answer) => ReadAnswer {
             accepted: sofar.accepted + 1,
-            count,
-            refusal: First::None,
+            count: sofar.count + answer.count,
+            refusal: None,
+        },
+        Err(error) => ReadAnswer {
+            accepted: sofar.accepted,
+            count: sofar.count,
+            refusal: Some(error),
         },
     }
 }
@@ -173,7 +161,7 @@ pub fn handle_record(
     let request = one.request;
     let part = part_of(request, one.start, one.length, lent.len());
     if !part.stays {
-        return join(sofar, Answer::refused(Error::BadPart));
+        return join(sofar, Err(Error::BadPart));
     }
     let start = part.start;
     let end = part.end;

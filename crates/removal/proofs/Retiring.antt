@@ -1,4 +1,6 @@
 -- Objects that go: destroyed is sent for each, the last serial is raised, and the rows behind them are taken out. Assumes nothing.
+use Rattle.std.specs.Prelude.{Result}
+use Rattle.model.specs.Plan as plan
 use Prim.Native.Nat.{ℕ, ◌*◌, ◌≤◌, ◌<◌}
 use mathlib.Core.Path.{◌≡◌, refl, sym, ap, ap₂, ◌∙◌}
 use mathlib.Core.Bool.{true}
@@ -21,9 +23,8 @@ use Rattle.session.proofs.Views.{enacted_join, view-connection, devices-length, 
 use Rattle.events.specs.declared.Mark.{Mark}
 use Rattle.events.specs.Events.{Destroys}
 use Rattle.events.proofs.Writes.{destroyed-length, last_is, destroys-sends}
-use Rattle.answers.specs.Answer.{outcome_of}
+use Rattle.answers.specs.Answer.{error_of, Tells}
 use Rattle.answers.specs.declared.Error.{Error}
-use Rattle.answers.specs.declared.Outcome.{Outcome}
 use Rattle.answers.specs.declared.Answer.{Answer}
 use Rattle.answers.specs.Texts.{TextsAfter}
 use Rattle.answers.specs.Meets.{turn, Handled}
@@ -71,20 +72,20 @@ module _ (s : Store) (w : Whole s) (out : List ℕ) (call : Plain) (clock : ℕ)
       p
       ∙ ap₂ (λ (c : Connection) (o : List ℕ). send (destroyed c.last_serial o) (Edit.raise (length o) ∷ edits)) (view-connection s) seen
 
-  pub retired_short : {n : ℕ} {r : Answer} → n ≡ length objects → length out < 14 * n → (r.outcome ≡ Outcome.Refused Error.ShortOut) × (r.count ≡ 0)
+  pub retired_short : {n : ℕ} {r : Result Answer Error} → n ≡ length objects → length out < 14 * n → Tells r (error_of Error.ShortOut) 0
       → Handled s s out out (Call.plain call) clock r
   unfolding split
   retired_short {r = r} e h a =
-      over-handled s out (Call.plain call) clock (Outcome.Refused Error.ShortOut) r w
+      over-handled s out (Call.plain call) clock (error_of Error.ShortOut) r w
       (step-remove-short t (session s) told all planned q (pending-few s w) (omega (arith, told-length))) a
 
-  pub retired_handled : {d v later : List ℕ} {f : List Float} {n m : ℕ} {r : Answer} → n ≡ length objects → 14 * n ≤ length out
+  pub retired_handled : {d v later : List ℕ} {f : List Float} {n m : ℕ} {r : Result Answer Error} → n ≡ length objects → 14 * n ≤ length out
       → Retired s.control s.words s.reals d v f out later objects edits m → length v ≡ length s.words → length f ≡ length s.reals
-      → (r.outcome ≡ Outcome.Accepted) × (r.count ≡ m) → Handled s (store d v f s.texts) out later (Call.plain call) clock r
+      → Tells r plan.Result.accepted m → Handled s (store d v f s.texts) out later (Call.plain call) clock r
   unfolding split send refuses
   retired_handled {d} {v} {later} {f} {r = r} e room gone words reals a =
       let done = gone.enacted s.texts t.load in
       meets-done s (store d v f s.texts) out later (step t (session s)) (send told all) t.load r
       (whole-after s w done.sound words reals)
       (step-remove t (session s) told all planned q (pending-few s w) (omega (arith, told-length)))
-      done refl (ap outcome_of a.0) (omega (arith, a.1, gone.sent.next)) gone.sent.bytes (TextsAfter.kept refl)
+      done refl a.0 (omega (arith, a.1, gone.sent.next)) gone.sent.bytes (TextsAfter.kept refl)

@@ -2,12 +2,10 @@
 // requests move down.
 #![tactic(auto)]
 
-ghost use Rattle.std.specs.Prelude.{[], ◌∷◌, ℕ, ◌+◌, ◌*◌, ◌≤◌, ◌<◌, length};
-ghost use Rattle.std.specs.Float.{nan};
+ghost use Rattle.std.specs.Prelude.{[], ◌∷◌, ℕ, ◌*◌, ◌≤◌, ◌<◌, length};
 ghost use Rattle.model.specs.Call.{Plain, Call};
 ghost use Rattle.model.specs.Edit.{Edit};
 ghost use Rattle.model.specs.Decide.{objects_of, seat_objects, remove_seats};
-ghost use Rattle.control.specs.Shift.{value_at, Shifted};
 ghost use Rattle.control.specs.Control.{device_count, connection_of, core_at};
 ghost use Rattle.session.specs.View.{Lent};
 ghost use Rattle.session.specs.Enact.{EnactsRows};
@@ -25,18 +23,6 @@ const PENDING_WORDS: usize = ROW_WORDS * PENDING_LIMIT;
 
 const PENDING_REALS: usize = ROW_REALS * PENDING_LIMIT;
 
-// n reals from `from` on, moved down to `to`, as `control::edits::shift` moves words.
-fn shift_reals(a: &mut [f32], to: usize, from: usize, n: usize)
-    requires { (to ≤ from) × (from + n ≤ length a.old) }
-    ensures { Shifted (value_at nan a.old) (value_at nan a.new) to from n }
-{
-    let mut i: usize = 0;
-    while i < n {
-        a[to + i] = a[from + i];
-        i += 1;
-    }
-}
-
 // The device in slot k taken out with what it has pending; those behind it move down. What is queued stays.
 fn remove_device(control: &mut [u64], words: &mut [u64], reals: &mut [f32], k: usize)
     requires { Lent control.old words.old reals.old × (k < device_count control.old) }
@@ -49,7 +35,7 @@ fn remove_device(control: &mut [u64], words: &mut [u64], reals: &mut [f32], k: u
         PENDING_WORDS * (k + 1),
         PENDING_WORDS * behind,
     );
-    shift_reals(
+    control::edits::shift(
         reals,
         PENDING_REALS * k,
         PENDING_REALS * (k + 1),
@@ -131,12 +117,12 @@ pub fn remove_seat(
     reals: &mut [f32],
     seat: u64,
     out: &mut [u8],
-) -> Answer
+) -> Result<Answer, Error>
     requires { Lent control.old words.old reals.old }
     ensures { (call : Plain) (clock : ℕ) → Retirement call clock seat control.old → HandlesRows control words reals out (Call.plain call) clock result }
 {
     if out.len() < events::DESTROYED_LENGTH * events::seat_objects(control, seat) {
-        return Answer::refused(Error::ShortOut);
+        return Err(Error::ShortOut);
     }
-    Answer::sent(retire_seat(control, words, reals, seat, out))
+    Ok(Answer::sent(retire_seat(control, words, reals, seat, out)))
 }

@@ -1,4 +1,6 @@
 -- A new device: the call by its tests and by its limits. Assumes nothing.
+use Rattle.answers.specs.Answer.{error_of, Tells}
+use Rattle.std.specs.Prelude.{Result, Ok, Err}
 use Prim.Native.Nat.{ℕ, ◌+◌, ◌≤◌, ◌<◌}
 use mathlib.Core.Path.{◌≡◌, refl, sym, ap, ap₂, ◌∙◌}
 use mathlib.Core.Bool.{true}
@@ -27,7 +29,6 @@ use Rattle.session.specs.View.{Store, store, session, Whole}
 use Rattle.session.specs.Enact.{EnactedControl}
 use Rattle.session.proofs.Views.{connection_is, view-connection, devices-length, found-seat, no_seat}
 use Rattle.events.specs.Events.{Sends}
-use Rattle.answers.specs.declared.Checked.{Checked}
 use Rattle.answers.specs.declared.Error.{Error}
 use Rattle.answers.specs.declared.Outcome.{Outcome}
 use Rattle.answers.specs.declared.Answer.{Answer}
@@ -52,7 +53,7 @@ made-part c k caps e = rw e (cut_within (connection_of c) (common caps (seat_at 
 
 -- ---- the plan
 
-device_plan_lem : (v : View) (seat : ℕ) (name : Option (List ℕ)) (kind caps : ℕ) {t : Seat} → Checks name Checked.Fine → caps < 128 → seat_of seat v ≡ some t
+device_plan_lem : (v : View) (seat : ℕ) (name : Option (List ℕ)) (kind caps : ℕ) {t : Seat} → Checks name (Ok tt) → caps < 128 → seat_of seat v ≡ some t
     → add_device v seat name kind caps
     ≡ device_added v seat name kind (common caps t.capabilities)
 unfolding add_device check_capabilities on_found
@@ -65,21 +66,21 @@ module _ (s : Store) (w : Whole s) (out : List ℕ) (clock seat : ℕ) (name : O
   call = Plain.add_device seat name kind caps
 
   -- 10 or 11, 13, 12
-  pub added_checked : {e : Error} {r : Answer} → Checks name (Checked.Refused e) → (r.outcome ≡ Outcome.Refused e) × (r.count ≡ 0)
+  pub added_checked : (e : Error) {r : Result Answer Error} → Checks name (Err e) → Tells r (error_of e) 0
       → Handled s s out out (Call.plain call) clock r
   unfolding decide_plain add_device
-  added_checked {e} {r} checked a = told-handled s out call clock (Outcome.Refused e) r w (checked _) a
+  added_checked e {r} checked a = told-handled s out call clock (error_of e) r w (checked _) a
 
-  pub added_unknown : {r : Answer} → Checks name Checked.Fine → unknown_bits caps ≡ true → (r.outcome ≡ Outcome.Refused Error.BadCapabilities) × (r.count ≡ 0)
+  pub added_unknown : {r : Result Answer Error} → Checks name (Ok tt) → unknown_bits caps ≡ true → Tells r (error_of Error.BadCapabilities) 0
       → Handled s s out out (Call.plain call) clock r
   unfolding decide_plain add_device check_capabilities refuse
-  added_unknown {r} fine unknown a = told-handled s out call clock (Outcome.Refused Error.BadCapabilities) r w (fine _ ∙ rw unknown) a
+  added_unknown {r} fine unknown a = told-handled s out call clock (error_of Error.BadCapabilities) r w (fine _ ∙ rw unknown) a
 
-  pub added_seatless : {r : Answer} → Checks name Checked.Fine → caps < 128 → first (λ t. eqb t.id seat) (connection_of s.control).seats ≡ none
-      → (r.outcome ≡ Outcome.Refused Error.UnknownHandle) × (r.count ≡ 0) → Handled s s out out (Call.plain call) clock r
+  pub added_seatless : {r : Result Answer Error} → Checks name (Ok tt) → caps < 128 → first (λ t. eqb t.id seat) (connection_of s.control).seats ≡ none
+      → Tells r (error_of Error.UnknownHandle) 0 → Handled s s out out (Call.plain call) clock r
   unfolding decide_plain add_device check_capabilities on_found refuse
   added_seatless {r} fine small e a =
-      told-handled s out call clock (Outcome.Refused Error.UnknownHandle) r w (fine _ ∙ rw (lt-leb 128 caps small, no_seat s seat e)) a
+      told-handled s out call clock (error_of Error.UnknownHandle) r w (fine _ ∙ rw (lt-leb 128 caps small, no_seat s seat e)) a
 
   -- where these are fine, by the limits. The id, the version, the type's number and the capabilities that it is made with are the code's
   module _ {k : ℕ} (tested : Tested s.control k seat name caps)
@@ -106,29 +107,29 @@ module _ (s : Store) (w : Whole s) (out : List ℕ) (clock seat : ℕ) (name : O
         device_plan (connection_of s.control).next_id seat z
         (device_events (connection_of s.control) seat (connection_of s.control).next_id (device_version (connection_of s.control)) name x z)) y m)
 
-    pub added_full : {r : Answer} → 8 ≤ device_count s.control → (r.outcome ≡ Outcome.Refused Error.FullDevices) × (r.count ≡ 0)
+    pub added_full : {r : Result Answer Error} → 8 ≤ device_count s.control → Tells r (error_of Error.FullDevices) 0
         → Handled s s out out (Call.plain call) clock r
-    added_full {r} h = over-handled s out (Call.plain call) clock (Outcome.Refused Error.FullDevices) r w (step_device_full t (session s) planned (omega (arith, devices-length s)))
+    added_full {r} h = over-handled s out (Call.plain call) clock (error_of Error.FullDevices) r w (step_device_full t (session s) planned (omega (arith, devices-length s)))
 
     module _ (fewer : device_count s.control < 8) where
       next_is : (session s).connection.next_id ≡ id
       next_is = ap (λ (c : Connection). c.next_id) (connection_is s) ∙ sym i
 
-      pub added_spent : {r : Answer} → 0xffff_ffff_ffff_ffff < id + 1 + length (bits_of made) → (r.outcome ≡ Outcome.Refused Error.IdsSpent) × (r.count ≡ 0)
+      pub added_spent : {r : Result Answer Error} → 0xffff_ffff_ffff_ffff < id + 1 + length (bits_of made) → Tells r (error_of Error.IdsSpent) 0
           → Handled s s out out (Call.plain call) clock r
       added_spent {r} h =
-          over-handled s out (Call.plain call) clock (Outcome.Refused Error.IdsSpent) r w (step_device_spent t (session s) planned (omega (arith, devices-length s)) (omega (arith, next_is)))
+          over-handled s out (Call.plain call) clock (error_of Error.IdsSpent) r w (step_device_spent t (session s) planned (omega (arith, devices-length s)) (omega (arith, next_is)))
 
       module _ (left : id + 1 + length (bits_of made) ≤ 0xffff_ffff_ffff_ffff) where
-        pub added-short : {r : Answer} → length out < length (records told) → (r.outcome ≡ Outcome.Refused Error.ShortOut) × (r.count ≡ 0)
+        pub added-short : {r : Result Answer Error} → length out < length (records told) → Tells r (error_of Error.ShortOut) 0
             → Handled s s out out (Call.plain call) clock r
         unfolding split
         added-short {r} h =
-            over-handled s out (Call.plain call) clock (Outcome.Refused Error.ShortOut) r w
+            over-handled s out (Call.plain call) clock (error_of Error.ShortOut) r w
             (step-device-short t (session s) planned (omega (arith, devices-length s)) (omega (arith, next_is)) h)
 
         pub added-done : {d later : List ℕ} {n : ℕ} → EnactedControl s.control d (Edit.add_device seat made ∷ []) → length (records told) ≤ length out → Sends out later 0 told n
-            → Handled s (store d s.words s.reals s.texts) out later (Call.plain call) clock (record { outcome = Outcome.Device id; count = n })
+            → Handled s (store d s.words s.reals s.texts) out later (Call.plain call) clock (Ok (record { outcome = Outcome.Device id; count = n }))
         unfolding split refuses refusal
         added-done {d} {later} done room sends =
             let e : Store = store d s.words s.reals s.texts in

@@ -3,17 +3,15 @@
 
 ghost use Rattle.std.specs.Prelude.{◌≡◌, ℕ, ◌<◌, length};
 ghost use Rattle.model.specs.Call.{Plain, Call};
-ghost use Rattle.session.specs.Slices.{optional, text};
+ghost use Rattle.session.specs.Slices.{given};
 ghost use Rattle.answers.specs.Promise.{Promise, PromiseRows, HandlesControl};
 ghost use Rattle.control.specs.Control.{seats_limit, control_length};
 ghost use Rattle.seat.specs.Seat.{made_with, Tested};
 
-use answers::{Answer, Checked, Error, Outcome};
-use control::Slot;
+use answers::{Answer, Error, Outcome};
 use eiproto::eiproto_enum::DeviceType;
 use eiproto::event::DeviceCapability;
 use wire::backend;
-use wire::backend::NewObjects;
 
 // The capabilities that a device on the seat in slot k is made with: "Capabilities that were not advertised on the seat will be ignored.", and "a
 // device gets no interface for one not negotiated", whatever the seat's set says.
@@ -30,73 +28,58 @@ fn add_device_at(
     control: &mut [u64],
     k: usize,
     seat: u64,
-    given: bool,
-    name: &[u8],
+    name: Option<&[u8]>,
     kind: DeviceType,
     capabilities: u64,
     out: &mut [u8],
-) -> Answer
-    requires { Tested control.old k seat (optional given name.now) capabilities }
-    ensures { (clock : ℕ) → HandlesControl control out (Call.plain (Plain.add_device seat (text given name) kind capabilities)) clock result }
+) -> Result<Answer, Error>
+    requires { Tested control.old k seat (given name) capabilities }
+    ensures { (clock : ℕ) → HandlesControl control out (Call.plain (Plain.add_device seat (given name.entry) kind capabilities)) clock result }
 {
     if control::DEVICES_LIMIT <= control::device_count(control) {
-        return Answer::refused(Error::FullDevices);
+        return Err(Error::FullDevices);
     }
     let made = made_with(control, k, capabilities);
     let id = control::next_id(control);
     let more = 1 + DeviceCapability::count(made) as u64;
-    let NewObjects::NextId(_) = backend::new_objects(id, more) else {
-        return Answer::refused(Error::IdsSpent);
+    let Some(_) = backend::new_objects(id, more) else {
+        return Err(Error::IdsSpent);
     };
     let version = control::device_version(control);
-    if out.len() < events::device_length(id, version, given, name, made) {
-        return Answer::refused(Error::ShortOut);
+    if out.len() < events::device_length(id, version, name, made) {
+        return Err(Error::ShortOut);
     }
     let number = kind.number();
-    let count = events::announce_device(control, seat, id, version, given, name, number, made, out);
+    let count = events::announce_device(control, seat, id, version, name, number, made, out);
     session::add_device(control, seat, made);
-    Answer {
+    Ok(Answer {
         outcome: Outcome::Device(id),
         count,
-    }
+    })
 }
 
 // `Seat::add_device`, with an empty `before_done_cb`.
 pub fn add_device(
     control: &mut [u64],
     seat: u64,
-    given: bool,
-    name: &[u8],
+    name: Option<&[u8]>,
     kind: DeviceType,
     capabilities: u64,
     out: &mut [u8],
-) -> Answer
-    ensures { Promise control out (Plain.add_device seat (text given name) kind capabilities) result }
+) -> Result<Answer, Error>
+    ensures { Promise control out (Plain.add_device seat (given name.entry) kind capabilities) result }
 {
     if !control::sound(control) {
-        return Answer::refused(Error::BadState);
+        return Err(Error::BadState);
     }
-    match answers::check_optional(given, name) {
-        Checked::Refused(e) => Answer::refused(e),
-        Checked::Fine => {
-            if DeviceCapability::has_unknown(capabilities) {
-                return Answer::refused(Error::BadCapabilities);
-            }
-            match control::find_seat(control, seat) {
-                Slot::At(k) => add_device_at(
-                    control,
-                    k,
-                    seat,
-                    given,
-                    name,
-                    kind,
-                    capabilities,
-                    out,
-                ),
-                Slot::Unknown => Answer::refused(Error::UnknownHandle),
-            }
-        }
+    answers::check_optional(name)?;
+    if DeviceCapability::has_unknown(capabilities) {
+        return Err(Error::BadCapabilities);
     }
+    let Some(k) = control::find_seat(control, seat) else {
+        return Err(Error::UnknownHandle);
+    };
+    add_device_at(control, k, seat, name, kind, capabilities, out)
 }
 
 // `Seat::remove`: its devices in the order of the table, then itself.
@@ -106,14 +89,14 @@ pub fn remove_seat(
     reals: &mut [f32],
     seat: u64,
     out: &mut [u8],
-) -> Answer
+) -> Result<Answer, Error>
     ensures { PromiseRows control words reals out (Plain.remove_seat seat) result }
 {
     if !session::lent(control, words, reals) {
-        return Answer::refused(Error::BadState);
+        return Err(Error::BadState);
     }
-    match control::find_seat(control, seat) {
-        Slot::At(_) => removal::remove_seat(control, words, reals, seat, out),
-        Slot::Unknown => Answer::refused(Error::UnknownHandle),
-    }
+    let Some(_) = control::find_seat(control, seat) else {
+        return Err(Error::UnknownHandle);
+    };
+    removal::remove_seat(control, words, reals, seat, out)
 }

@@ -1,8 +1,7 @@
 -- 21, or what the handler promises. Assumes nothing.
-use mathlib.Core.Path.{◌≡◌}
+use mathlib.Core.Path.{◌≡◌, refl}
 use mathlib.Core.Bool.{true}
-use borrow.Author.Rules.{rules}
-use Rattle.session.specs.View.{Store, store, is_whole, is_intact}
+use Rattle.session.specs.View.{store, is_whole, is_intact}
 use Rattle.session.proofs.Views.{whole_parts}
 use Rattle.answers.proofs.Meetings.{failed, passed, damaged-answered, intact_answered}
 use Rattle.client_calls.proofs.Unlent.{no_out}
@@ -11,7 +10,7 @@ use Rattle.client_calls.proofs.handle_utf8_request.Goals as goal
 
 pub returns-then-not-whole : goal.returns-then-not-whole
 unfolding is_intact
-returns-then-not-whole c = λ version clock. damaged-answered (failed c.whole.ensures (not_from_false _ c.if-not-whole.true)) c.refused.ensures
+returns-then-not-whole c = λ version clock. damaged-answered (failed c.whole.ensures (not_from_false _ c.if-not-whole.true)) refl
 
 pub handle_text_request-requires : goal.handle_text_request-requires
 handle_text_request-requires c =

@@ -1,14 +1,13 @@
 -- 21, or what the handler promises. Assumes nothing.
-use mathlib.Core.Path.{◌≡◌}
+use mathlib.Core.Path.{◌≡◌, refl}
 use mathlib.Core.Bool.{true}
-use borrow.Author.Rules.{rules}
 use Rattle.control.specs.Sound.{is_sound}
 use Rattle.answers.proofs.Meetings.{failed, passed, unsound_answered, sound-answered}
 use Rattle.std.proofs.lemmas.Bool.{not_from_false, not_from_true}
 use Rattle.client_calls.proofs.sync.Goals as goal
 
 pub returns-then-not-sound : goal.returns-then-not-sound
-returns-then-not-sound c = λ clock. unsound_answered (failed c.sound.ensures (not_from_false _ c.if-not-sound.true)) c.refused.ensures
+returns-then-not-sound c = λ clock. unsound_answered (failed c.sound.ensures (not_from_false _ c.if-not-sound.true)) refl
 
 pub returns : goal.returns
 returns c =

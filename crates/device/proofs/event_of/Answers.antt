@@ -1,6 +1,5 @@
 -- Each notice has its event. Assumes nothing.
 use mathlib.Core.Path.{sym, ap}
-use borrow.Author.Rules.{rules}
 use Rattle.device.specs.declared.Notice.{Notice}
 use Rattle.device.specs.Notice.{notice_event}
 use Rattle.device.proofs.event_of.Goals as goal

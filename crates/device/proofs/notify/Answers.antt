@@ -1,20 +1,19 @@
 -- 21, 12 and 19 leave all as it was; else the event is sent, its serial is the last one, and the device is changed as the notice says. Assumes nothing.
-use mathlib.Core.Path.{◌≡◌, sym, ap, ◌∙◌}
+use Rattle.answers.specs.Answer.{error_of}
+use mathlib.Core.Path.{◌≡◌, sym, ap, ◌∙◌, refl}
 use mathlib.Core.Bool.{true}
 use mathlib.Core.List.{[]}
 use native.Mathlib.Omega.{arith}
-use borrow.Author.Rules.{rules}
 use lib.ListN.{length}
 use Rattle.model.specs.Call.{Load}
 use Rattle.model.specs.Edit.{next_serial}
-use Rattle.control.specs.Answer.{slot_told}
+use Rattle.eiproto.specs.Told.{told}
 use Rattle.control.specs.Sound.{is_sound}
 use Rattle.control.proofs.Sounds.{sound_bounds}
 use Rattle.session.specs.View.{store}
 use Rattle.session.proofs.Views.{found_bound}
 use Rattle.answers.specs.declared.Error.{Error}
-use Rattle.answers.specs.declared.Outcome.{Outcome}
-use Rattle.answers.proofs.Meetings.{failed, passed, unsound_answered, sound-answered, told-handled}
+use Rattle.answers.proofs.Meetings.{failed, passed, unsound_answered, sound-answered, told-handled, ends}
 use Rattle.removal.proofs.Retiring.{raise-count}
 use Rattle.device.specs.Notice.{notice_call}
 use Rattle.device.proofs.Plans.{notice_unknown}
@@ -23,7 +22,7 @@ use Rattle.std.proofs.lemmas.Bool.{not_from_false, not_from_true}
 use Rattle.device.proofs.notify.Goals as goal
 
 pub returns-then-not-sound : goal.returns-then-not-sound
-returns-then-not-sound c = λ clock. unsound_answered (failed c.sound.ensures (not_from_false _ c.if-not-sound.true)) c.refused.ensures
+returns-then-not-sound c = λ clock. unsound_answered (failed c.sound.ensures (not_from_false _ c.if-not-sound.true)) refl
 
 pub find_device-requires : goal.find_device-requires
 find_device-requires c =
@@ -44,8 +43,8 @@ returns-then-out-fixed_length c =
     sound-answered (sound_at)
     (λ words reals texts whole.
     notice_short (store a.control.now words reals texts) whole a.out.now a.device clock a.notice _
-    (sym c.find_device.ensures ∙ ap slot_told c.in-At.is) (c.next_serial-serial.ensures ∙ ap next_serial c.last_serial.ensures)
-    c.event_of-told.ensures c.fixed_length.ensures (omega arith) c.refused-then-out-fixed_length.ensures)
+    (sym c.find_device.ensures ∙ ap told c.in-Some.is) (c.next_serial-serial.ensures ∙ ap next_serial c.last_serial.ensures)
+    c.event_of-told.ensures c.fixed_length.ensures (omega arith) (refl, refl))
 
 pub send-count-requires : goal.send-count-requires
 send-count-requires c =
@@ -59,31 +58,31 @@ raise-requires c =
 pub enact-requires : goal.enact-requires
 enact-requires c =
     let a = c.args in
-    let e = sym c.find_device.ensures ∙ ap slot_told c.in-At.is in
+    let e = sym c.find_device.ensures ∙ ap told c.in-Some.is in
     let r = c.raise.ensures 1 (raise_one _ (c.next_serial-serial.ensures ∙ ap next_serial c.last_serial.ensures)) in
     ((r [] [] [] Load.None).sound, omega (arith, raise-count r, found_bound (store a.control.now [] [] []) a.device e))
 
 -- sent
-pub returns-else-out-fixed_length : goal.returns-else-out-fixed_length
-returns-else-out-fixed_length c =
+pub returns : goal.returns
+returns c =
     let sound_at : is_sound c.args.control.now ≡ true = passed c.sound.ensures (not_from_true _ c.if-not-sound.false) in
     let a = c.args in
     λ clock.
     sound-answered (sound_at)
     (λ words reals texts whole.
     notice_told (store a.control.now words reals texts) whole a.out.now a.device clock a.notice _
-    (sym c.find_device.ensures ∙ ap slot_told c.in-At.is) (c.next_serial-serial.ensures ∙ ap next_serial c.last_serial.ensures)
+    (sym c.find_device.ensures ∙ ap told c.in-Some.is) (c.next_serial-serial.ensures ∙ ap next_serial c.last_serial.ensures)
     c.event_of-told.ensures c.fixed_length.ensures (omega (arith, c.if-out-fixed_length.false)) c.send-count.ensures c.raise.ensures
-    c.enact.ensures c.sent.ensures)
+    c.enact.ensures (ends c.sent.ensures))
 
 -- 12
-pub returns-in-Unknown : goal.returns-in-Unknown
-returns-in-Unknown c =
+pub returns-in_default : goal.returns-in_default
+returns-in_default c =
     let sound_at : is_sound c.args.control.now ≡ true = passed c.sound.ensures (not_from_true _ c.if-not-sound.false) in
     let a = c.args in
     λ clock.
     sound-answered (sound_at)
     (λ words reals texts whole.
     let s = store a.control.now words reals texts in
-    told-handled s a.out.now (notice_call a.notice a.device) clock (Outcome.Refused Error.UnknownHandle) _ whole
-    (notice_unknown s a.device clock (sym c.find_device.ensures ∙ ap slot_told c.in-Unknown.is) a.notice) c.refused-in-Unknown.ensures)
+    told-handled s a.out.now (notice_call a.notice a.device) clock (error_of Error.UnknownHandle) _ whole
+    (notice_unknown s a.device clock (sym c.find_device.ensures ∙ ap told c.in_default.is) a.notice) (refl, refl))

@@ -9,7 +9,6 @@ use Rattle.model.specs.Decide.{handler, handle}
 use Rattle.session.specs.View.{request_in, item_in, request_at, item_at}
 use Rattle.handlers.specs.Call.{touchscreen_call}
 use Rattle.handlers.proofs.Timed.{row-waits}
-use borrow.Author.Rules.{rules}
 use Rattle.handlers.proofs.decide_touchscreen.Goals as goal
 
 pub returns-in-Down : goal.returns-in-Down

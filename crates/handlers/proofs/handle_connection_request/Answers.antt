@@ -7,7 +7,6 @@ use Rattle.model.specs.Session.{Untimed}
 use Rattle.handlers.specs.Call.{connection_call}
 use Rattle.requests.specs.declared.eis.ConnectionRequest.{ConnectionRequest}
 use Rattle.handlers.proofs.Plain.{for_call}
-use borrow.Author.Rules.{rules}
 use Rattle.handlers.proofs.handle_connection_request.Goals as goal
 
 pub returns-in-Sync : goal.returns-in-Sync

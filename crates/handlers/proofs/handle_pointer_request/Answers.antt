@@ -10,7 +10,6 @@ use Rattle.session.specs.View.{request_in, item_in, request_at, item_at}
 use Rattle.handlers.specs.Call.{pointer_call}
 use Rattle.handlers.proofs.Plain.{for_call}
 use Rattle.handlers.proofs.Timed.{row-waits}
-use borrow.Author.Rules.{rules}
 use Rattle.handlers.proofs.handle_pointer_request.Goals as goal
 
 pub returns-in-Release : goal.returns-in-Release

@@ -7,7 +7,6 @@ use Rattle.model.specs.Session.{Untimed}
 use Rattle.handlers.specs.Call.{seat_call}
 use Rattle.requests.specs.declared.eis.SeatRequest.{SeatRequest}
 use Rattle.handlers.proofs.Plain.{for_call}
-use borrow.Author.Rules.{rules}
 use Rattle.handlers.proofs.handle_seat_request.Goals as goal
 
 pub returns-in-Release : goal.returns-in-Release

@@ -11,7 +11,6 @@ use Rattle.handlers.specs.Call.{text_call}
 use Rattle.requests.specs.declared.eis.TextRequest.{TextRequest}
 use Rattle.handlers.proofs.Plain.{for_call}
 use Rattle.handlers.proofs.Timed.{row-waits, utf8-bad}
-use borrow.Author.Rules.{rules}
 use Rattle.std.proofs.lemmas.Bool.{not_from_false, not_from_true}
 use Rattle.handlers.proofs.handle_text_request.Goals as goal
 
@@ -20,7 +19,7 @@ returns-then-not-valid c =
     let a = c.args in
     λ version clock.
     for_call clock (ap (λ (x : TextRequest). text_call x a.interface version a.text.now) c.in-Utf8.is)
-    (utf8-bad (store a.control.now a.words.now a.reals.now a.texts.now) a.out.now clock _ c.requires a.text.now a.interface version (sym c.valid.ensures ∙ not-true _ (not_from_false _ c.if-not-valid.true)) c.refused.ensures)
+    (utf8-bad (store a.control.now a.words.now a.reals.now a.texts.now) a.out.now clock _ c.requires a.text.now a.interface version (sym c.valid.ensures ∙ not-true _ (not_from_false _ c.if-not-valid.true)) (refl, refl))
 
 pub queue_utf8-requires : goal.queue_utf8-requires
 queue_utf8-requires c =

@@ -3,7 +3,6 @@ use mathlib.Core.Path.{subst}
 use Rattle.handlers.specs.Touch.{TimedTouch, TouchActs}
 use Rattle.handlers.specs.declared.TouchAction.{TouchAction}
 use Rattle.handlers.proofs.Plain.{for_call}
-use borrow.Author.Rules.{rules}
 use Rattle.handlers.proofs.handle_touchscreen_request.Goals as goal
 
 pub queue_request-requires : goal.queue_request-requires

@@ -3,7 +3,6 @@ use mathlib.Core.Path.{refl}
 use native.Mathlib.Omega.{arith}
 use borrow.Author.Tests.{eq-eqb, ne_eqb}
 use Rattle.handlers.proofs.Timed.{stop-waits, cancel-waits}
-use borrow.Author.Rules.{rules}
 use Rattle.handlers.proofs.scroll_stop.Goals as goal
 
 pub returns-then-is_cancel-ne0 : goal.returns-then-is_cancel-ne0

@@ -25,7 +25,7 @@ pub returns-then-not-whole : goal.returns-then-not-whole
 returns-then-not-whole c =
     let d = failed c.whole.ensures (not_from_false _ c.if-not-whole.true) in
     record {
-      damaged = λ _. ((λ i. Received.Handed (record { outcome = c.refused-answer.ensures.0 i; count = c.refused-answer.ensures.1 i }) 0), (refl, refl));
+      damaged = λ _. (refl, (refl, refl));
       read = λ w. absurd (false≢true (sym d ∙ w));
     }
 
@@ -45,20 +45,20 @@ receive_on-requires c =
     let whole_at : let a = c.args in is_whole (store a.control.now a.words.now a.reals.now a.texts.now) ≡ true = passed c.whole.ensures (not_from_true _ c.if-not-whole.false) in
     (whole_parts _ whole_at, omega arith)
 
-pub returns-in-Unknown : goal.returns-in-Unknown
-returns-in-Unknown c =
+pub returns-in-None : goal.returns-in-None
+returns-in-None c =
     let whole_at : let a = c.args in is_whole (store a.control.now a.words.now a.reals.now a.texts.now) ≡ true = passed c.whole.ensures (not_from_true _ c.if-not-whole.false) in
     let a = c.args in
     let s = store a.control.now a.words.now a.reals.now a.texts.now in
     whole-received whole_at
-    (rw (not-alive (view (session s)) a.message.now (omega arith) c.number64-object.ensures (sym (ap object_told c.in-Unknown.is) ∙ c.find_object.ensures a.words.now a.reals.now a.texts.now))
+    (rw (not-alive (view (session s)) a.message.now (omega arith) c.number64-object.ensures (sym (ap object_told c.in-None.is) ∙ c.find_object.ensures a.words.now a.reals.now a.texts.now))
     (refl, (refl, refl)))
 
-pub returns-in-Alive : goal.returns-in-Alive
-returns-in-Alive c =
+pub returns-in-Some : goal.returns-in-Some
+returns-in-Some c =
     let whole_at : let a = c.args in is_whole (store a.control.now a.words.now a.reals.now a.texts.now) ≡ true = passed c.whole.ensures (not_from_true _ c.if-not-whole.false) in
     let a = c.args in
     let s = store a.control.now a.words.now a.reals.now a.texts.now in
     whole-received whole_at
-    (rw (alive (view (session s)) a.message.now (omega arith) c.number64-object.ensures _ (sym (ap object_told c.in-Alive.is) ∙ c.find_object.ensures a.words.now a.reals.now a.texts.now))
+    (rw (alive (view (session s)) a.message.now (omega arith) c.number64-object.ensures _ (sym (ap object_told c.in-Some.is) ∙ c.find_object.ensures a.words.now a.reals.now a.texts.now))
     c.receive_on.ensures)

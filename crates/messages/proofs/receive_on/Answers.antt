@@ -1,8 +1,10 @@
 -- By what the first message is read as; where that is a request, by what it is answered. Assumes nothing.
 use Prim.Native.Nat.{ℕ}
-use mathlib.Core.Path.{refl, sym, ap, ◌∙◌}
+use mathlib.Core.Path.{◌≡◌, refl, sym, ap, ◌∙◌}
 use native.Mathlib.Omega.{arith}
 use lib.ListN.{length-take}
+use Rattle.std.specs.Prelude.{Ok, Some}
+use Rattle.std.specs.Prelude as rust
 use Rattle.parse.proofs.Firsts.{first-within}
 use Rattle.messages.specs.Reading.{read_as}
 use Rattle.messages.specs.declared.Received.{Received}
@@ -11,30 +13,34 @@ use Rattle.messages.proofs.receive_on.Goals as goal
 
 pub slice_bounds-hand_on-end : goal.slice_bounds-hand_on-end
 slice_bounds-hand_on-end c =
-    let w = first-within _ _ _ _ (sym c.in-Read.is ∙ c.read_first.ensures) in
+    let e : c.read_first.result ≡ Ok (Some c.in-Ok-Some.first) = cc in
+    let w = first-within _ _ _ _ (sym e ∙ c.read_first.ensures) in
     simp length-take (omega (arith, w.room))
 
 pub hand_on-answer-requires : goal.hand_on-answer-requires
 hand_on-answer-requires c =
-    (c.requires.0, (first-within _ _ _ _ (sym c.in-Read.is ∙ c.read_first.ensures)).text)
+    let e : c.read_first.result ≡ Ok (Some c.in-Ok-Some.first) = cc in
+    (c.requires.0, (first-within _ _ _ _ (sym e ∙ c.read_first.ensures)).text)
 
-pub returns-in-Wait : goal.returns-in-Wait
+pub returns-in-Ok-None : goal.returns-in-Ok-None
 unfolding read_as
-returns-in-Wait c =
+returns-in-Ok-None c =
     let a = c.args in
-    rw (read_is a.object a.interface a.version a.message.now c.read_first.ensures c.in-Wait.is) (refl, (refl, refl))
+    let e : c.read_first.result ≡ Ok rust.None = cc in
+    rw (read_is a.object a.interface a.version a.message.now c.read_first.ensures e) (refl, (refl, refl))
 
-pub returns-in-Malformed : goal.returns-in-Malformed
+pub returns-in-Err : goal.returns-in-Err
 unfolding read_as
-returns-in-Malformed c =
+returns-in-Err c =
     let a = c.args in
-    rw (read_is a.object a.interface a.version a.message.now c.read_first.ensures c.in-Malformed.is) (refl, (refl, refl))
+    rw (read_is a.object a.interface a.version a.message.now c.read_first.ensures c.in-Err.is) (refl, (refl, refl))
 
-pub returns-in-Read : goal.returns-in-Read
+pub returns-in-Ok-Some : goal.returns-in-Ok-Some
 unfolding read_as
-returns-in-Read c =
+returns-in-Ok-Some c =
     let a = c.args in
-    rw (read_is a.object a.interface a.version a.message.now c.read_first.ensures c.in-Read.is)
+    let e : c.read_first.result ≡ Ok (Some c.in-Ok-Some.first) = cc in
+    rw (read_is a.object a.interface a.version a.message.now c.read_first.ensures e)
     (record {
       answer = c.hand_on-answer.result;
       told = ap (λ (n : ℕ). Received.Handed c.hand_on-answer.result n) c.taken_of-taken.ensures;

@@ -1,4 +1,5 @@
 -- The part decides whether the record is tried; the call's answer is joined to those before it. Assumes nothing.
+use mathlib.Core.Path.{refl}
 use borrow.Author.Tests.{not-true, not-false}
 use Prim.Native.Nat.{◌<◌, ◌^◌}
 use native.Mathlib.Nat.{lt_of_le_of_lt}
@@ -14,7 +15,7 @@ pub returns-then-not-part : goal.returns-then-not-part
 returns-then-not-part c =
     let a = c.args in
     bad-taken (store a.control.now a.words.now a.reals.now a.texts.now) a.out.now a.lent.now a.one a.clock a.sofar _ _ c.part_of-part.result
-    c.part_of-part.ensures (not-true _ c.if-not-part.true) c.refused.ensures c.join.ensures
+    c.part_of-part.ensures (not-true _ c.if-not-part.true) refl c.join.ensures
 
 -- the part that is lent
 pub slice_bounds-handle_request-count : goal.slice_bounds-handle_request-count

@@ -1,13 +1,12 @@
 -- What is left to do from slot k on, done, is the whole. Assumes nothing.
-use Prim.Native.Nat.{ℕ, ◌-◌, ◌≤◌, ◌<◌}
+use Prim.Native.Nat.{◌<◌}
 use mathlib.Core.Path.{sym, ◌∙◌}
-use mathlib.Core.List.{List, []}
+use mathlib.Core.List.{[]}
 use native.Mathlib.Omega.{arith}
-use borrow.Author.Rules.{rules}
 use Rattle.model.specs.Call.{Load}
 use Rattle.control.specs.Control.{device_count}
-use Rattle.session.specs.View.{store, Lent}
-use Rattle.removal.proofs.Loops.{Dropping, device-fewer, dropping_none, dropping_hit, dropping_miss, dropping_end}
+use Rattle.session.specs.View.{store}
+use Rattle.removal.proofs.Loops.{device-fewer, dropping_none, dropping_hit, dropping_miss, dropping_end}
 use Rattle.removal.proofs.remove_devices_of.Goals as goal
 
 pub loop-k-init : goal.loop-k-init

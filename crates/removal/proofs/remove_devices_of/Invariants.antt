@@ -1,13 +1,9 @@
 -- What is left to do from slot k on, done, is the whole. Assumes nothing.
-use Prim.Native.Nat.{ℕ, ◌-◌, ◌≤◌, ◌<◌}
-use mathlib.Core.Path.{sym, ◌∙◌}
-use mathlib.Core.List.{List, []}
-use native.Mathlib.Omega.{arith}
-use borrow.Author.Rules.{rules}
-use Rattle.model.specs.Call.{Load}
+use Prim.Native.Nat.{ℕ, ◌-◌, ◌≤◌}
+use mathlib.Core.List.{List}
 use Rattle.control.specs.Control.{device_count}
 use Rattle.session.specs.View.{store, Lent}
-use Rattle.removal.proofs.Loops.{Dropping, device-fewer, dropping_none, dropping_hit, dropping_miss, dropping_end}
+use Rattle.removal.proofs.Loops.{Dropping}
 use Rattle.removal.proofs.remove_devices_of.Given as goal
 
 abbrev pub invariant-loop-k : goal.invariant-loop-k

@@ -1,7 +1,8 @@
 -- 19 leaves all as it was; else the objects of the seat are destroyed, and it goes. Assumes nothing.
+use Rattle.answers.proofs.Meetings.{ends}
+use mathlib.Core.Path.{refl}
 use mathlib.Core.List.{[], ◌∷◌}
 use native.Mathlib.Omega.{arith}
-use borrow.Author.Rules.{rules}
 use Rattle.model.specs.Edit.{Edit}
 use Rattle.model_steps.proofs.Counted.{removes-seat}
 use Rattle.session.specs.View.{store}
@@ -16,7 +17,7 @@ returns-then-out-seat_objects c =
     λ call clock goes texts whole.
     let s = store a.control.now a.words.now a.reals.now texts in
     retired_short s whole a.out.now call clock (Edit.remove_devices_of a.seat ∷ Edit.remove_seat a.seat ∷ [])
-    (goes a.words.now a.reals.now texts) (seat_objects-seen s a.seat) (removes-seat _ _) c.seat_objects.ensures.0 (omega arith) c.refused.ensures
+    (goes a.words.now a.reals.now texts) (seat_objects-seen s a.seat) (removes-seat _ _) c.seat_objects.ensures.0 (omega arith) (refl, refl)
 
 pub retire_seat-requires : goal.retire_seat-requires
 retire_seat-requires c =
@@ -30,4 +31,4 @@ returns c =
     let s = store a.control.now a.words.now a.reals.now texts in
     retired_handled s whole a.out.now call clock (Edit.remove_devices_of a.seat ∷ Edit.remove_seat a.seat ∷ [])
     (goes a.words.now a.reals.now texts) (seat_objects-seen s a.seat) (removes-seat _ _) c.seat_objects.ensures.0 (omega (arith, c.if-out-seat_objects.false))
-    c.retire_seat.ensures c.retire_seat.auto.words c.retire_seat.auto.reals c.sent.ensures
+    c.retire_seat.ensures c.retire_seat.auto.words c.retire_seat.auto.reals (ends c.sent.ensures)

@@ -1,13 +1,12 @@
 -- What is left to do with the seats that stand, done, is the whole. Assumes nothing.
-use Prim.Native.Nat.{ℕ, ◌<◌}
+use Prim.Native.Nat.{◌<◌}
 use mathlib.Core.Path.{◌∙◌}
-use mathlib.Core.List.{List, []}
+use mathlib.Core.List.{[]}
 use native.Mathlib.Omega.{arith}
-use borrow.Author.Rules.{rules}
 use Rattle.model.specs.Call.{Load}
 use Rattle.control.specs.Control.{seat_count}
-use Rattle.session.specs.View.{store, Lent}
-use Rattle.removal.proofs.Loops.{Emptying, seat-fewer, emptying_none, emptying_step, emptying_end}
+use Rattle.session.specs.View.{store}
+use Rattle.removal.proofs.Loops.{seat-fewer, emptying_none, emptying_step, emptying_end}
 use Rattle.removal.proofs.remove_seats.Goals as goal
 
 pub loop-control-init : goal.loop-control-init

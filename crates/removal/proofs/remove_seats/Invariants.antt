@@ -1,13 +1,10 @@
 -- What is left to do with the seats that stand, done, is the whole. Assumes nothing.
-use Prim.Native.Nat.{ℕ, ◌<◌}
-use mathlib.Core.Path.{◌∙◌}
-use mathlib.Core.List.{List, []}
-use native.Mathlib.Omega.{arith}
-use borrow.Author.Rules.{rules}
+use Prim.Native.Nat.{ℕ}
+use mathlib.Core.List.{List}
 use Rattle.model.specs.Call.{Load}
 use Rattle.control.specs.Control.{seat_count}
 use Rattle.session.specs.View.{store, Lent}
-use Rattle.removal.proofs.Loops.{Emptying, seat-fewer, emptying_none, emptying_step, emptying_end}
+use Rattle.removal.proofs.Loops.{Emptying}
 use Rattle.removal.proofs.remove_seats.Given as goal
 
 abbrev pub invariant-loop-control : goal.invariant-loop-control

@@ -1,7 +1,6 @@
 -- The events, then the serial, then the edit. Assumes nothing.
 use mathlib.Core.Path.{refl}
 use native.Mathlib.Omega.{arith}
-use borrow.Author.Rules.{rules}
 use Rattle.session.proofs.Views.{lent-after}
 use Rattle.events.proofs.Writes.{last_is}
 use Rattle.removal.proofs.Retiring.{raise-count, retired}

@@ -1,7 +1,6 @@
 -- The events, then the serial, then the edits: the devices, and the seat. Assumes nothing.
 use mathlib.Core.Path.{refl}
 use mathlib.Core.List.{[]}
-use borrow.Author.Rules.{rules}
 use Rattle.model.specs.Call.{Load}
 use Rattle.session.proofs.Views.{lent-after, enacted_join}
 use Rattle.events.proofs.Writes.{last_is}

@@ -3,7 +3,6 @@ use Prim.Native.Nat.{ℕ, ◌+◌, ◌≤◌, ◌<◌}
 use mathlib.Core.Path.{◌≡◌, refl, sym, ◌∙◌}
 use mathlib.Core.List.{[]}
 use native.Mathlib.Omega.{arith}
-use borrow.Author.Rules.{rules}
 use lib.ListN.{length}
 use Rattle.eiproto.specs.Bits.{bits_of}
 use Rattle.eiproto.specs.Enum.{device_type_number}
@@ -12,7 +11,7 @@ use Rattle.model.specs.Plan.{records}
 use Rattle.model.specs.Decide.{device_version, device_events}
 use Rattle.control.specs.Control.{device_count, connection_of}
 use Rattle.session.specs.View.{store}
-use Rattle.session.specs.Slices.{optional}
+use Rattle.session.specs.Slices.{given}
 use Rattle.session.proofs.Views.{seat_bound}
 use Rattle.seat.specs.Seat.{made_with}
 use Rattle.seat.proofs.Added.{made-small, made-part, added_full, added_spent, added-short, added-done}
@@ -23,9 +22,9 @@ pub returns-then-device_count-ge-DEVICES_LIMIT : goal.returns-then-device_count-
 returns-then-device_count-ge-DEVICES_LIMIT c =
     let n = connection_of c.args.control.now in
     λ clock words reals texts whole.
-    added_full (store c.args.control.now words reals texts) whole c.args.out.now clock c.args.seat (optional c.args.given c.args.name.now) c.args.kind c.args.capabilities c.requires
+    added_full (store c.args.control.now words reals texts) whole c.args.out.now clock c.args.seat (given c.args.name) c.args.kind c.args.capabilities c.requires
     (made_with c.args.control.now c.args.k c.args.capabilities) n.next_id (device_version n) (device_type_number c.args.kind) refl refl refl refl
-    (omega (arith, c.device_count.ensures, c.if-device_count-ge-DEVICES_LIMIT.true)) c.refused.ensures
+    (omega (arith, c.device_count.ensures, c.if-device_count-ge-DEVICES_LIMIT.true)) (refl, refl)
 
 pub made_with-made-requires : goal.made_with-made-requires
 made_with-made-requires c =
@@ -37,9 +36,9 @@ pub returns-in_default : goal.returns-in_default
 returns-in_default c =
     let fewer_at : device_count c.args.control.now < 8 = omega (arith, c.device_count.ensures, c.if-device_count-ge-DEVICES_LIMIT.false) in
     λ clock words reals texts whole.
-    added_spent (store c.args.control.now words reals texts) whole c.args.out.now clock c.args.seat (optional c.args.given c.args.name.now) c.args.kind c.args.capabilities c.requires
+    added_spent (store c.args.control.now words reals texts) whole c.args.out.now clock c.args.seat (given c.args.name) c.args.kind c.args.capabilities c.requires
     _ _ _ _ c.made_with-made.ensures c.next_id-id.ensures refl refl (fewer_at)
-    (omega (arith, ids_spent_lem _ _ (sym c.new_objects.ensures ∙ c.in_default.is), c.count.ensures)) c.refused-in_default.ensures
+    (omega (arith, ids_spent_lem _ _ (sym c.new_objects.ensures ∙ c.in_default.is), c.count.ensures)) (refl, refl)
 
 pub device_length-requires : goal.device_length-requires
 device_length-requires c =
@@ -51,20 +50,20 @@ device_length-requires c =
 pub returns-then-out-device_length : goal.returns-then-out-device_length
 returns-then-out-device_length c =
     let fewer_at : device_count c.args.control.now < 8 = omega (arith, c.device_count.ensures, c.if-device_count-ge-DEVICES_LIMIT.false) in
-    let left_at : c.next_id-id.result + 1 + length (bits_of c.made_with-made.result) ≤ 0xffff_ffff_ffff_ffff = omega (arith, ids-left _ _ (sym c.new_objects.ensures ∙ c.in-NextId.is), c.count.ensures) in
-    let bytes_at : (kind : ℕ) → c.device_length.result ≡ length (records (device_events (connection_of c.args.control.now) c.args.seat c.next_id-id.result c.device_version-version.result (optional c.args.given c.args.name.now) kind c.made_with-made.result)) = λ kind. let a = c.args in
+    let left_at : c.next_id-id.result + 1 + length (bits_of c.made_with-made.result) ≤ 0xffff_ffff_ffff_ffff = omega (arith, ids-left _ _ (sym c.new_objects.ensures ∙ c.in-Some.is), c.count.ensures) in
+    let bytes_at : (kind : ℕ) → c.device_length.result ≡ length (records (device_events (connection_of c.args.control.now) c.args.seat c.next_id-id.result c.device_version-version.result (given c.args.name) kind c.made_with-made.result)) = λ kind. let a = c.args in
     c.device_length.ensures (connection_of a.control.now) a.seat kind (made-part a.control.now a.k a.capabilities c.made_with-made.ensures) in
     λ clock words reals texts whole.
-    added-short (store c.args.control.now words reals texts) whole c.args.out.now clock c.args.seat (optional c.args.given c.args.name.now) c.args.kind c.args.capabilities c.requires
+    added-short (store c.args.control.now words reals texts) whole c.args.out.now clock c.args.seat (given c.args.name) c.args.kind c.args.capabilities c.requires
     _ _ _ _ c.made_with-made.ensures c.next_id-id.ensures c.device_version-version.ensures refl (fewer_at) (left_at)
-    (omega (arith, bytes_at (device_type_number c.args.kind), c.if-out-device_length.true)) c.refused-then-out-device_length.ensures
+    (omega (arith, bytes_at (device_type_number c.args.kind), c.if-out-device_length.true)) (refl, refl)
 
 pub announce_device-count-requires : goal.announce_device-count-requires
 announce_device-count-requires c =
     let small_at : c.made_with-made.result < 128 = let a = c.args in
     made-small a.control.now a.k a.capabilities c.requires.known c.made_with-made.ensures in
-    let left_at : c.next_id-id.result + 1 + length (bits_of c.made_with-made.result) ≤ 0xffff_ffff_ffff_ffff = omega (arith, ids-left _ _ (sym c.new_objects.ensures ∙ c.in-NextId.is), c.count.ensures) in
-    let bytes_at : (kind : ℕ) → c.device_length.result ≡ length (records (device_events (connection_of c.args.control.now) c.args.seat c.next_id-id.result c.device_version-version.result (optional c.args.given c.args.name.now) kind c.made_with-made.result)) = λ kind. let a = c.args in
+    let left_at : c.next_id-id.result + 1 + length (bits_of c.made_with-made.result) ≤ 0xffff_ffff_ffff_ffff = omega (arith, ids-left _ _ (sym c.new_objects.ensures ∙ c.in-Some.is), c.count.ensures) in
+    let bytes_at : (kind : ℕ) → c.device_length.result ≡ length (records (device_events (connection_of c.args.control.now) c.args.seat c.next_id-id.result c.device_version-version.result (given c.args.name) kind c.made_with-made.result)) = λ kind. let a = c.args in
     c.device_length.ensures (connection_of a.control.now) a.seat kind (made-part a.control.now a.k a.capabilities c.made_with-made.ensures) in
     record { sound = c.requires.sound; known = small_at; ids = left_at; room = omega (arith, bytes_at c.number-number.result, c.if-out-device_length.false) }
 
@@ -73,17 +72,17 @@ add_device-requires c =
     let fewer_at : device_count c.args.control.now < 8 = omega (arith, c.device_count.ensures, c.if-device_count-ge-DEVICES_LIMIT.false) in
     let small_at : c.made_with-made.result < 128 = let a = c.args in
     made-small a.control.now a.k a.capabilities c.requires.known c.made_with-made.ensures in
-    let left_at : c.next_id-id.result + 1 + length (bits_of c.made_with-made.result) ≤ 0xffff_ffff_ffff_ffff = omega (arith, ids-left _ _ (sym c.new_objects.ensures ∙ c.in-NextId.is), c.count.ensures) in
+    let left_at : c.next_id-id.result + 1 + length (bits_of c.made_with-made.result) ≤ 0xffff_ffff_ffff_ffff = omega (arith, ids-left _ _ (sym c.new_objects.ensures ∙ c.in-Some.is), c.count.ensures) in
     (c.requires.sound, (fewer_at, (small_at, omega (arith, left_at, c.next_id-id.ensures))))
 
 -- announced
 pub returns : goal.returns
 returns c =
     let fewer_at : device_count c.args.control.now < 8 = omega (arith, c.device_count.ensures, c.if-device_count-ge-DEVICES_LIMIT.false) in
-    let left_at : c.next_id-id.result + 1 + length (bits_of c.made_with-made.result) ≤ 0xffff_ffff_ffff_ffff = omega (arith, ids-left _ _ (sym c.new_objects.ensures ∙ c.in-NextId.is), c.count.ensures) in
-    let bytes_at : (kind : ℕ) → c.device_length.result ≡ length (records (device_events (connection_of c.args.control.now) c.args.seat c.next_id-id.result c.device_version-version.result (optional c.args.given c.args.name.now) kind c.made_with-made.result)) = λ kind. let a = c.args in
+    let left_at : c.next_id-id.result + 1 + length (bits_of c.made_with-made.result) ≤ 0xffff_ffff_ffff_ffff = omega (arith, ids-left _ _ (sym c.new_objects.ensures ∙ c.in-Some.is), c.count.ensures) in
+    let bytes_at : (kind : ℕ) → c.device_length.result ≡ length (records (device_events (connection_of c.args.control.now) c.args.seat c.next_id-id.result c.device_version-version.result (given c.args.name) kind c.made_with-made.result)) = λ kind. let a = c.args in
     c.device_length.ensures (connection_of a.control.now) a.seat kind (made-part a.control.now a.k a.capabilities c.made_with-made.ensures) in
     λ clock words reals texts whole.
-    added-done (store c.args.control.now words reals texts) whole c.args.out.now clock c.args.seat (optional c.args.given c.args.name.now) c.args.kind c.args.capabilities c.requires
+    added-done (store c.args.control.now words reals texts) whole c.args.out.now clock c.args.seat (given c.args.name) c.args.kind c.args.capabilities c.requires
     _ _ _ _ c.made_with-made.ensures c.next_id-id.ensures c.device_version-version.ensures c.number-number.ensures (fewer_at) (left_at) c.add_device.ensures
     (omega (arith, bytes_at c.number-number.result, c.if-out-device_length.false)) c.announce_device-count.ensures

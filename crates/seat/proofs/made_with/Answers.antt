@@ -1,6 +1,5 @@
 -- Cut down twice. Assumes nothing.
 use mathlib.Core.Path.{ap, ap₂, ◌∙◌}
-use borrow.Author.Rules.{rules}
 use Rattle.eiproto.specs.Bits.{common}
 use Rattle.seat.proofs.made_with.Goals as goal
 

@@ -1,5 +1,4 @@
 -- Each arm has the number of its refusal. Assumes nothing.
-use borrow.Author.Rules.{rules}
 use Rattle.model.specs.Plan.{refusal}
 use Rattle.answers.specs.Answer.{number_of}
 use Rattle.answers.proofs.Error.number.Goals as goal

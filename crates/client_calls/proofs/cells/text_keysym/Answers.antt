@@ -5,7 +5,6 @@ use Rattle.model.specs.Call.{Input, sight, load}
 use Rattle.model.specs.Edit.{item}
 use Rattle.session.specs.View.{request_in, item_in, request_at, item_at}
 use Rattle.handlers.proofs.Timed.{row-waits}
-use borrow.Author.Rules.{rules}
 use Rattle.client_calls.proofs.cells.text_keysym.Goals as goal
 
 pub returns : goal.returns

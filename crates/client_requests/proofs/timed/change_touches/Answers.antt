@@ -1,6 +1,5 @@
 -- A touch goes down or up, or nothing is changed. Assumes nothing.
 use Rattle.client_requests.proofs.Enactings.{changes_nothing, changes_touch}
-use borrow.Author.Rules.{rules}
 use Rattle.client_requests.proofs.timed.change_touches.Goals as goal
 
 pub touch_down-requires : goal.touch_down-requires

@@ -5,7 +5,6 @@ use Rattle.control.specs.Control.{cores_of}
 use Rattle.control.specs.Table.{first}
 use Rattle.model.specs.Decide.{lists_as}
 use Rattle.client_requests.proofs.Decisions.{bit_is}
-use borrow.Author.Rules.{rules}
 use Prim.Native.Nat.{ℕ}
 use Rattle.client_requests.proofs.timed.device_for_interface.Goals as goal
 

@@ -1,7 +1,6 @@
 -- The test of the pending count decides. Assumes nothing.
 use native.Mathlib.Omega.{arith}
 use Rattle.client_requests.proofs.Decisions.{queue_full, queue-room}
-use borrow.Author.Rules.{rules}
 use Rattle.client_requests.proofs.timed.queue_on.Goals as goal
 
 pub returns-then-pending_count-ge-PENDING_LIMIT : goal.returns-then-pending_count-ge-PENDING_LIMIT

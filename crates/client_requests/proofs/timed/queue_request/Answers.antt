@@ -1,39 +1,45 @@
 -- The held touches change before the request waits. Assumes nothing.
+use Rattle.std.specs.Prelude.{Ok, Err}
+use Rattle.std.proofs.lemmas.Result.{err_from_is_err_and}
+use Rattle.answers.proofs.Meetings.{ends, refused_is}
 use mathlib.Core.Path.{refl, sym, ap, ◌∙◌}
 use Rattle.requests.specs.Row.{row_of}
 use Rattle.requests.specs.declared.cell.Cell.{Cell}
 use Rattle.session.specs.View.{store, item_at}
 use Rattle.session.proofs.Views.{enacted_join}
 use Rattle.client_requests.proofs.Enactings.{met_ignored, met_refused, met_queued, changed_lent}
-use borrow.Author.Rules.{rules}
 use Rattle.client_requests.proofs.timed.queue_request.Goals as goal
 
 pub change_touches-requires : goal.change_touches-requires
 change_touches-requires c =
-    let can = c.requires.1 _ _ _ c.in-Queued.is in
+    let can = c.requires.1 _ (c.in_ok-queued.was ∙ ap Ok c.in-Some.is) in
     (c.requires.0.sound, (can.known, can.touch))
 
 pub pend-requires : goal.pend-requires
 pend-requires c =
-    changed_lent _ _ c.change_touches.ensures c.requires.0 (c.requires.1 _ _ _ c.in-Queued.is)
+    changed_lent _ _ c.change_touches.ensures c.requires.0 (c.requires.1 _ (c.in_ok-queued.was ∙ ap Ok c.in-Some.is))
 
-pub returns-in-Ignored : goal.returns-in-Ignored
-returns-in-Ignored c =
+pub returns-in_err-queued : goal.returns-in_err-queued
+returns-in_err-queued c =
+    let a = c.args in
+    let p = err_from_is_err_and c.from_residual.result c.from_residual.ensures.1 in
+    λ interface version clock input request dec waits out texts whole.
+    met_refused (store a.control.now a.words.now a.reals.now texts) out interface version clock input request _ whole dec (c.in_err-queued.was)
+    (refused_is (p.1 ∙ ap Err p.2))
+
+pub returns-in_default : goal.returns-in_default
+returns-in_default c =
     let a = c.args in
     λ interface version clock input request dec waits out texts whole.
-    met_ignored (store a.control.now a.words.now a.reals.now texts) out interface version clock input request _ whole dec c.in-Ignored.is c.accepted.ensures
+    met_ignored (store a.control.now a.words.now a.reals.now texts) out interface version clock input request _ whole dec
+    (c.in_ok-queued.was ∙ ap Ok c.in_default.is) (ends c.accepted.ensures)
 
-pub returns-in-Refused : goal.returns-in-Refused
-returns-in-Refused c =
+pub returns : goal.returns
+returns c =
     let a = c.args in
     λ interface version clock input request dec waits out texts whole.
-    met_refused (store a.control.now a.words.now a.reals.now texts) out interface version clock input request _ whole dec c.in-Refused.is c.refused.ensures
-
-pub returns-in-Queued : goal.returns-in-Queued
-returns-in-Queued c =
-    let a = c.args in
-    λ interface version clock input request dec waits out texts whole.
+    let is = c.in_ok-queued.was ∙ ap Ok c.in-Some.is in
     met_queued (store a.control.now a.words.now a.reals.now texts) out interface version clock input request _ whole dec (store c.pend.new.control c.pend.new.words c.pend.new.reals texts)
-    c.in-Queued.is c.pend.auto.words c.pend.auto.reals refl
-    (enacted_join (c.change_touches.ensures a.words.now a.reals.now texts _) (c.pend.ensures texts _ _ (waits texts ∙ ap (λ (x : Cell). item_at texts (row_of x)) (sym (dec.same _ _ _ c.in-Queued.is)))))
-    c.accepted-in-Queued.ensures
+    is c.pend.auto.words c.pend.auto.reals refl
+    (enacted_join (c.change_touches.ensures a.words.now a.reals.now texts _) (c.pend.ensures texts _ _ (waits texts ∙ ap (λ (x : Cell). item_at texts (row_of x)) (sym (dec.same _ is)))))
+    (ends c.accepted-2.ensures)

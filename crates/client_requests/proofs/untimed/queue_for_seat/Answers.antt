@@ -1,48 +1,48 @@
 -- The tests of the model, in its order, on the seat that was found. Assumes nothing.
-use mathlib.Core.Path.{sym, ap, ◌∙◌}
+use Rattle.answers.proofs.Meetings.{ends}
+use mathlib.Core.Path.{sym, ap, ◌∙◌, refl}
 use native.Mathlib.Omega.{arith}
 use Prim.Native.Nat.{ℕ}
 use borrow.Author.Tests.{not-true, not-false}
 use lib.Dec.{eqb}
 use Rattle.eiproto.specs.Bits.{contains}
 use Rattle.model.specs.Session.{view}
-use Rattle.control.specs.Answer.{slot_told}
+use Rattle.eiproto.specs.Told.{told}
 use Rattle.control.proofs.Models.{seat-passes}
 use Rattle.session.specs.View.{store, session}
 use Rattle.client_requests.proofs.Handling.{handled-answer, seat-none, seat_strange, seat_lacks, seat-has}
-use borrow.Author.Rules.{rules}
 use Rattle.std.proofs.lemmas.Bool.{not_from_false, not_from_true}
 use Rattle.client_requests.proofs.untimed.queue_for_seat.Goals as goal
 
 pub returns-then-has_unknown : goal.returns-then-has_unknown
 returns-then-has_unknown c =
     let a = c.args in
-    let f = sym c.find_seat.ensures ∙ ap slot_told c.in-At.is in
+    let f = sym c.find_seat.ensures ∙ ap told c.in-Some.is in
     λ call clock x out texts w.
     let s = store a.control.now a.words.now a.reals.now texts in
-    handled-answer s out call clock _ w (x.plan (view (session s)) ∙ seat_strange s a.seat a.capabilities x.untimed f (sym c.has_unknown.ensures ∙ c.if-has_unknown.true)) c.refused.ensures
+    handled-answer s out call clock _ w (x.plan (view (session s)) ∙ seat_strange s a.seat a.capabilities x.untimed f (sym c.has_unknown.ensures ∙ c.if-has_unknown.true)) (refl, refl)
 
 pub seat_capabilities-requires : goal.seat_capabilities-requires
 seat_capabilities-requires c =
     let a = c.args in
-    let f = sym c.find_seat.ensures ∙ ap slot_told c.in-At.is in
+    let f = sym c.find_seat.ensures ∙ ap told c.in-Some.is in
     (c.requires.sound.long, omega (arith, c.requires.sound.seats, (seat-passes a.control.now (λ t. eqb t.id a.seat) _ f).within))
 
 pub returns-then-not-contains : goal.returns-then-not-contains
 returns-then-not-contains c =
     let a = c.args in
-    let f = sym c.find_seat.ensures ∙ ap slot_told c.in-At.is in
+    let f = sym c.find_seat.ensures ∙ ap told c.in-Some.is in
     λ call clock x out texts w.
     let s = store a.control.now a.words.now a.reals.now texts in
     handled-answer s out call clock _ w
     (x.plan (view (session s)) ∙ seat_lacks s a.seat a.capabilities x.untimed f (sym c.has_unknown.ensures ∙ c.if-has_unknown.false)
     (ap (λ (m : ℕ). contains m a.capabilities) (sym c.seat_capabilities.ensures) ∙ sym c.contains.ensures ∙ not-true _ (not_from_false _ c.if-not-contains.true)))
-    c.refused-then-not-contains.ensures
+    (refl, refl)
 
-pub returns-else-not-contains : goal.returns-else-not-contains
-returns-else-not-contains c =
+pub returns : goal.returns
+returns c =
     let a = c.args in
-    let f = sym c.find_seat.ensures ∙ ap slot_told c.in-At.is in
+    let f = sym c.find_seat.ensures ∙ ap told c.in-Some.is in
     λ call clock x out texts w.
     let s = store a.control.now a.words.now a.reals.now texts in
     c.queue_untimed.ensures call clock texts out
@@ -54,11 +54,11 @@ returns-else-not-contains c =
     })
     w
 
-pub returns-in-Unknown : goal.returns-in-Unknown
-returns-in-Unknown c =
+pub returns-in_default : goal.returns-in_default
+returns-in_default c =
     let a = c.args in
     λ call clock x out texts w.
     let s = store a.control.now a.words.now a.reals.now texts in
     handled-answer s out call clock _ w
-    (x.plan (view (session s)) ∙ seat-none s a.seat a.capabilities x.untimed (sym c.find_seat.ensures ∙ ap slot_told c.in-Unknown.is))
-    c.accepted.ensures
+    (x.plan (view (session s)) ∙ seat-none s a.seat a.capabilities x.untimed (sym c.find_seat.ensures ∙ ap told c.in_default.is))
+    (ends c.accepted.ensures)

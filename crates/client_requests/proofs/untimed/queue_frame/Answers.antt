@@ -1,38 +1,38 @@
 -- The frame of the device that was found, where there is room for it. Assumes nothing.
+use Rattle.answers.proofs.Meetings.{ends}
 use mathlib.Core.Path.{refl, sym, ap, ◌∙◌}
 use borrow.Author.Tests.{not-true, not-false}
 use lib.Dec.{eqb}
 use Rattle.model.specs.Call.{Plain, Call}
 use Rattle.model.specs.Session.{view}
-use Rattle.control.specs.Answer.{slot_told}
+use Rattle.eiproto.specs.Told.{told}
 use Rattle.control.proofs.Models.{device-passes}
 use Rattle.session.specs.View.{store, session}
 use Rattle.client_requests.proofs.Handling.{room-frame, whole-rows, handled-answer, frame-plan, frame-none, device_frame_lem, frame_full, frame-done}
-use borrow.Author.Rules.{rules}
 use Rattle.std.proofs.lemmas.Bool.{not_from_false, not_from_true}
 use Rattle.client_requests.proofs.untimed.queue_frame.Goals as goal
 
 pub frame_fits-requires : goal.frame_fits-requires
 frame_fits-requires c =
     let a = c.args in
-    let f = sym c.find_device.ensures ∙ ap slot_told c.in-At.is in
+    let f = sym c.find_device.ensures ∙ ap told c.in-Some.is in
     (c.requires.sound, (device-passes a.control.now (λ d. eqb d.id a.device) _ f).within)
 
 pub returns-then-not-frame_fits : goal.returns-then-not-frame_fits
 returns-then-not-frame_fits c =
     let a = c.args in
-    let f = sym c.find_device.ensures ∙ ap slot_told c.in-At.is in
+    let f = sym c.find_device.ensures ∙ ap told c.in-Some.is in
     λ clock out texts w.
     let s = store a.control.now a.words.now a.reals.now texts in
     frame_full s out (Call.plain (Plain.device_frame a.device a.serial a.time)) clock _ _ a.serial a.time
     (device-passes a.control.now (λ d. eqb d.id a.device) _ f).within
     (frame-plan (view (session s)) clock a.device a.serial a.time ∙ device_frame_lem s a.device f a.serial a.time) refl w
-    (sym c.frame_fits.ensures ∙ not-true _ (not_from_false _ c.if-not-frame_fits.true)) c.refused.ensures
+    (sym c.frame_fits.ensures ∙ not-true _ (not_from_false _ c.if-not-frame_fits.true)) (refl, refl)
 
 pub frame-requires : goal.frame-requires
 frame-requires c =
     let a = c.args in
-    let f = sym c.find_device.ensures ∙ ap slot_told c.in-At.is in (
+    let f = sym c.find_device.ensures ∙ ap told c.in-Some.is in (
       c.requires,
       (
         (device-passes a.control.now (λ d. eqb d.id a.device) _ f).within,
@@ -40,24 +40,24 @@ frame-requires c =
       ),
     )
 
-pub returns-else-not-frame_fits : goal.returns-else-not-frame_fits
-returns-else-not-frame_fits c =
+pub returns : goal.returns
+returns c =
     let a = c.args in
-    let f = sym c.find_device.ensures ∙ ap slot_told c.in-At.is in
+    let f = sym c.find_device.ensures ∙ ap told c.in-Some.is in
     λ clock out texts w.
     let s = store a.control.now a.words.now a.reals.now texts in
     let o = c.frame.ensures.0 texts _ in
     frame-done s out (Call.plain (Plain.device_frame a.device a.serial a.time)) clock _ _ a.serial a.time
     (device-passes a.control.now (λ d. eqb d.id a.device) _ f).within
     (frame-plan (view (session s)) clock a.device a.serial a.time ∙ device_frame_lem s a.device f a.serial a.time) refl
-    (sym c.frame_fits.ensures ∙ not-false _ (not_from_true _ c.if-not-frame_fits.false)) (whole-rows w o c.frame.auto.words c.frame.auto.reals) o c.accepted.ensures
+    (sym c.frame_fits.ensures ∙ not-false _ (not_from_true _ c.if-not-frame_fits.false)) (whole-rows w o c.frame.auto.words c.frame.auto.reals) o (ends c.accepted-2.ensures)
 
-pub returns-in-Unknown : goal.returns-in-Unknown
-returns-in-Unknown c =
+pub returns-in_default : goal.returns-in_default
+returns-in_default c =
     let a = c.args in
     λ clock out texts w.
     let s = store a.control.now a.words.now a.reals.now texts in
     handled-answer s out (Call.plain (Plain.device_frame a.device a.serial a.time)) clock _ w
     (frame-plan (view (session s)) clock a.device a.serial a.time
-    ∙ frame-none s a.device (sym c.find_device.ensures ∙ ap slot_told c.in-Unknown.is) a.serial a.time)
-    c.accepted-in-Unknown.ensures
+    ∙ frame-none s a.device (sym c.find_device.ensures ∙ ap told c.in_default.is) a.serial a.time)
+    (ends c.accepted.ensures)

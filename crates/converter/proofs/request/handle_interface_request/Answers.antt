@@ -3,7 +3,6 @@ use mathlib.Core.Path.{ap}
 use Rattle.requests.specs.declared.eis.InterfaceRequest.{InterfaceRequest}
 use Rattle.handlers.specs.Call.{interface_call}
 use Rattle.handlers.proofs.Plain.{for_call}
-use borrow.Author.Rules.{rules}
 use Rattle.converter.proofs.request.handle_interface_request.Goals as goal
 
 pub returns-in-Pointer : goal.returns-in-Pointer

@@ -1,19 +1,18 @@
 -- A damaged session first, then each kind of request. Assumes nothing.
-use mathlib.Core.Path.{◌≡◌, ap}
+use mathlib.Core.Path.{◌≡◌, ap, refl}
 use mathlib.Core.Bool.{true}
 use Rattle.requests.specs.declared.eis.Request.{Request}
-use Rattle.session.specs.View.{Store, store, Whole, Lending, is_intact}
+use Rattle.session.specs.View.{store, Whole, Lending, is_intact}
 use Rattle.session.proofs.Views.{whole_parts, lent-part}
-use Rattle.answers.proofs.Meetings.{failed, passed, damaged-answered, intact_answered}
+use Rattle.answers.proofs.Meetings.{failed, passed, damaged-answered, intact_answered, ends}
 use Rattle.handlers.specs.Call.{call_of}
 use Rattle.handlers.proofs.Plain.{for_call, pingpong}
-use borrow.Author.Rules.{rules}
 use Rattle.std.proofs.lemmas.Bool.{not_from_false, not_from_true}
 use Rattle.converter.proofs.request.handle_request.Goals as goal
 
 pub returns-then-not-whole : goal.returns-then-not-whole
 unfolding is_intact
-returns-then-not-whole c = damaged-answered (failed c.whole.ensures (not_from_false _ c.if-not-whole.true)) c.refused.ensures
+returns-then-not-whole c = damaged-answered (failed c.whole.ensures (not_from_false _ c.if-not-whole.true)) refl
 
 pub handle_connection_request-requires : goal.handle_connection_request-requires
 unfolding is_intact
@@ -68,7 +67,7 @@ returns-in-PingpongDone c =
     let a = c.args in
     intact_answered (intact_at) (λ whole.
     for_call a.clock (ap (λ (x : Request). call_of x a.object a.version a.text.now) c.in-PingpongDone.is)
-    (pingpong ((let a = c.args in store a.control.now a.words.now a.reals.now a.texts.now)) a.out.now a.clock _ whole c.accepted.ensures))
+    (pingpong ((let a = c.args in store a.control.now a.words.now a.reals.now a.texts.now)) a.out.now a.clock _ whole (ends c.accepted.ensures)))
 
 pub returns-in-Seat : goal.returns-in-Seat
 unfolding is_intact

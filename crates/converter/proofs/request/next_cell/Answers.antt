@@ -7,11 +7,10 @@ use Rattle.requests.specs.Request.{text_length}
 use Rattle.requests.specs.Row.{request_of}
 use Rattle.model.specs.Call.{Load}
 use Rattle.control.specs.Control.{queue_head, queue_length}
-use Rattle.session.specs.View.{Store, store, slot_length, texts_length, queue_row, is_whole, Whole}
+use Rattle.session.specs.View.{store, slot_length, texts_length, queue_row, is_whole, Whole}
 use Rattle.session.proofs.Views.{whole_parts, lent-part}
 use Rattle.answers.proofs.Meetings.{failed, passed}
 use Rattle.converter.proofs.Given.{head, head-request, head-slot, text-room, given-none, given-short, given-done, delivered-bad, delivered}
-use borrow.Author.Rules.{rules}
 use Rattle.std.proofs.lemmas.Bool.{not_from_false, not_from_true}
 use Rattle.converter.proofs.request.next_cell.Goals as goal
 
