@@ -1,32 +1,32 @@
 -- A number is a case of its enum or none, and only one case. Assumes nothing.
 use mathlib.Core.Path.{◌≡◌, sym, ap, ◌∙◌, subst}
 use mathlib.Core.Option.{Option, none, some}
+use Rattle.std.specs.Prelude as rust
+use Rattle.std.specs.Prelude.{Result, Ok, Err}
+use Rattle.eiproto.specs.Told.{told}
 use Rattle.eiproto.specs.declared.event.DeviceCapability.{DeviceCapability}
-use Rattle.eiproto.specs.declared.event.DeviceCapabilityOf.{DeviceCapabilityOf}
 use Rattle.eiproto.specs.declared.eiproto_enum.ContextType.{ContextType}
-use Rattle.eiproto.specs.declared.eiproto_enum.ContextTypeOf.{ContextTypeOf}
 use Rattle.eiproto.specs.declared.eiproto_enum.DeviceType.{DeviceType}
-use Rattle.eiproto.specs.declared.eiproto_enum.DeviceTypeOf.{DeviceTypeOf}
 use Rattle.eiproto.specs.declared.eiproto_enum.DisconnectReason.{DisconnectReason}
-use Rattle.eiproto.specs.declared.eiproto_enum.DisconnectReasonOf.{DisconnectReasonOf}
+use Rattle.eiproto.specs.declared.eiproto_enum.InvalidVariant.{InvalidVariant}
 
--- ---- the case that a parse tells, of each enum
+-- ---- the case that a number is read as, of each enum
 
-abbrev pub capability : DeviceCapabilityOf → Option DeviceCapability
-capability (DeviceCapabilityOf.Case c) = some c
-capability DeviceCapabilityOf.Unknown = none
+abbrev pub capability : rust.Option DeviceCapability → Option DeviceCapability
+capability = told
 
-abbrev pub context : ContextTypeOf → Option ContextType
-context (ContextTypeOf.Case c) = some c
-context (ContextTypeOf.InvalidVariant n) = none
+abbrev case : {A : Type 0} → Result A InvalidVariant → Option A
+case (Ok a) = some a
+case (Err e) = none
 
-abbrev pub type : DeviceTypeOf → Option DeviceType
-type (DeviceTypeOf.Case t) = some t
-type (DeviceTypeOf.InvalidVariant n) = none
+abbrev pub context : Result ContextType InvalidVariant → Option ContextType
+context = case
 
-abbrev pub reason : DisconnectReasonOf → Option DisconnectReason
-reason (DisconnectReasonOf.Case r) = some r
-reason (DisconnectReasonOf.InvalidVariant n) = none
+abbrev pub type : Result DeviceType InvalidVariant → Option DeviceType
+type = case
+
+abbrev pub reason : Result DisconnectReason InvalidVariant → Option DisconnectReason
+reason = case
 
 module _ {A : Type 0} where
   abbrev or_else : A → Option A → A

@@ -3,7 +3,8 @@ use Rattle.std.specs.Prelude.{ℕ, List, ◌≡◌}
 use Rattle.session.specs.Slices.{Numbers}
 use Rattle.event_messages.specs.Stands.{Turned}
 use Rattle.event_messages.specs.declared.MessageError.{MessageError}
-use Rattle.event_messages.specs.declared.Written.{Written}
+use Rattle.event_messages.specs.Written.{Written}
+use Rattle.std.specs.Prelude.{Ok, Err}
 use Rattle.answer_numbers.specs.Numbers.{malformed_number, unsendable_number}
 use Rattle.bozterrun.specs.Reply.{Number}
 
@@ -15,12 +16,12 @@ error_number MessageError.ShortOut = 19
 
 -- 0, or the refusal's number; and how many bytes were written
 abbrev pub written_status : Written → ℕ
-written_status (Written.Bytes n) = 0
-written_status (Written.Refused e) = error_number e
+written_status (Ok n) = 0
+written_status (Err e) = error_number e
 
 abbrev pub written_count : Written → ℕ
-written_count (Written.Bytes n) = n
-written_count (Written.Refused e) = 0
+written_count (Ok n) = n
+written_count (Err e) = 0
 
 -- THE NUMBERS ARE THOSE OF WHAT THE CALL PROMISES
 pub record Turns (Asked : List ℕ → Type 0) (refusal : MessageError) (out : Numbers) (count : Number) (status : ℕ) : Type 0 where

@@ -1,7 +1,9 @@
 -- What an exported function of the handshake tells: a reply that the call on the lent handshake promises, as numbers. Assumes nothing.
-use Rattle.std.specs.Prelude.{ℕ, ◌≡◌, cond, []}
+use Rattle.std.specs.Prelude.{ℕ, ◌≡◌, cond, [], Ok, Err}
+use Rattle.std.specs.Prelude as rust
 use Rattle.handshake.specs.Handshake as paper
 use Rattle.handshake.specs.View.{number}
+use Rattle.handshake.specs.declared.handshake.HandshakeError.{HandshakeError}
 use Rattle.session.specs.Slices.{Numbers, SharedNumbers}
 use Rattle.lent_handshake.specs.Lent.{status_of, Handled, Names}
 use Rattle.lent_handshake.specs.declared.HandshakeReply.{HandshakeReply}
@@ -25,24 +27,24 @@ Says w n message status =
     Answers (λ a. Handled w.entry.now n.entry.now w.exit.now n.exit.now [] [] message a) status (λ a. Unit {0})
 
 -- who the client says it is; 0 where the slices hold no handshake
-abbrev pub client_status : Client → ℕ
-client_status (Client.Known length given context) = 0
-client_status (Client.Refused e) = number e
+abbrev pub client_status : rust.Result Client HandshakeError → ℕ
+client_status (Ok c) = 0
+client_status (Err e) = number e
 
-abbrev pub client_given : Client → ℕ
-client_given (Client.Known length given context) = cond given 1 0
-client_given (Client.Refused e) = 0
+abbrev pub client_given : rust.Result Client HandshakeError → ℕ
+client_given (Ok c) = cond c.given 1 0
+client_given (Err e) = 0
 
-abbrev pub client_length : Client → ℕ
-client_length (Client.Known length given context) = length
-client_length (Client.Refused e) = 0
+abbrev pub client_length : rust.Result Client HandshakeError → ℕ
+client_length (Ok c) = c.length
+client_length (Err e) = 0
 
-abbrev pub client_context : Client → ℕ
-client_context (Client.Known length given context) = context
-client_context (Client.Refused e) = 0
+abbrev pub client_context : rust.Result Client HandshakeError → ℕ
+client_context (Ok c) = c.context
+client_context (Err e) = 0
 
 pub record Introduced (words name : SharedNumbers) (given length context : Number) (status : ℕ) : Type 0 where
-  pub client : Client
+  pub client : rust.Result Client HandshakeError
   pub named : Names words name client
   pub status_is : status ≡ client_status client
   pub given_is : given.exit.now ≡ client_given client

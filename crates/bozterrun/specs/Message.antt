@@ -1,11 +1,13 @@
 -- What is told of a client's bytes, as numbers. Assumes nothing.
-use Rattle.std.specs.Prelude.{ℕ, ◌≡◌, cond}
+use Rattle.std.specs.Prelude.{ℕ, ◌≡◌, cond, Result, Ok, Err}
 use Rattle.wire.specs.declared.ParseError.{ParseError}
-use Rattle.answers.specs.Answer.{outcome_of}
+use Rattle.answers.specs.Answer.{outcome_of, count_of}
 use Rattle.answers.specs.declared.Answer.{Answer}
+use Rattle.answers.specs.declared.Error.{Error}
 use Rattle.messages.specs.declared.Received.{Received}
 use Rattle.handshake.specs.View.{is_finished}
-use Rattle.handshake_messages.specs.declared.Told.{Told}
+use Rattle.handshake_messages.specs.Reading.{Told}
+use Rattle.handshake_messages.specs.declared.Unhanded.{Unhanded}
 use Rattle.lent_handshake.specs.Lent as lent
 use Rattle.lent_handshake.specs.declared.HandshakeReply.{HandshakeReply}
 use Rattle.lent_handshake.specs.declared.MessageReply.{MessageReply}
@@ -31,15 +33,15 @@ told_error (ParseError.MessageLength read header) = malformed 6 read header
 told_error ParseError.InvalidNull = malformed 7 0 0
 
 -- what the message's request was answered, with the details of refusal 2
-abbrev pub told_answer : Answer → (taken : ℕ) → MessageTold
+abbrev pub told_answer : Result Answer Error → (taken : ℕ) → MessageTold
 told_answer a taken =
     record {
-      status = status_of a.outcome;
+      status = status_of a;
       taken = taken;
-      count = a.count;
+      count = count_of a;
       error = 0;
-      first = (version_in (outcome_of a.outcome)).interface;
-      second = (version_in (outcome_of a.outcome)).version;
+      first = (version_in (outcome_of a)).interface;
+      second = (version_in (outcome_of a)).version;
     }
 
 abbrev pub told_received : Received → MessageTold
@@ -49,12 +51,15 @@ told_received (Received.Malformed e) = told_error e
 told_received (Received.Handed a taken) = told_answer a taken
 
 -- the same in a handshake
+abbrev pub told_unhanded : Unhanded → MessageTold
+told_unhanded Unhanded.Wait = bare wait_number
+told_unhanded Unhanded.NoObject = bare no_object_number
+told_unhanded (Unhanded.Malformed e) = told_error e
+told_unhanded Unhanded.InvalidId = bare invalid_id_number
+
 abbrev pub told_handshake : Told → HandshakeReply → (taken : ℕ) → MessageTold
-told_handshake Told.Wait r taken = bare wait_number
-told_handshake Told.NoObject r taken = bare no_object_number
-told_handshake (Told.Malformed e) r taken = told_error e
-told_handshake Told.InvalidId r taken = bare invalid_id_number
-told_handshake Told.Handed r taken =
+told_handshake (Err why) r taken = told_unhanded why
+told_handshake (Ok u) r taken =
     record { status = lent.status_of r.outcome; taken = taken; count = r.count; error = 0; first = 0; second = 0 }
 
 abbrev pub told_reply : MessageReply → MessageTold

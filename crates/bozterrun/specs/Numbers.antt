@@ -1,16 +1,12 @@
 -- The numbers by which C names things. Assumes nothing.
-use Rattle.std.specs.Prelude.{ℕ, ◌≡◌, cond, List, [], ◌∷◌, ◌++◌, map, eqb}
+use Rattle.std.specs.Prelude.{ℕ, ◌≡◌, cond, List, [], ◌∷◌, ◌++◌, map, eqb, Some, None, Ok, Err}
 use Rattle.eiproto.specs.Interface.{ei_connection, ei_callback, ei_pingpong, ei_seat, ei_device, ei_pointer, ei_pointer_absolute, ei_scroll, ei_button, ei_keyboard, ei_touchscreen, ei_text}
 use Rattle.eiproto.specs.Capability.{capabilities, capability_mask, capability_by}
-use Rattle.eiproto.specs.Enum.{context_types, context_type_number, context_type_of, device_types, device_type_number, device_type_of, disconnect_reasons, disconnect_reason_number, disconnect_reason_of}
+use Rattle.eiproto.specs.Enum.{invalid_variant, context_types, context_type_number, context_type_of, device_types, device_type_number, device_type_of, disconnect_reasons, disconnect_reason_number, disconnect_reason_of}
 use Rattle.eiproto.specs.declared.event.DeviceCapability.{DeviceCapability}
-use Rattle.eiproto.specs.declared.event.DeviceCapabilityOf.{DeviceCapabilityOf}
 use Rattle.eiproto.specs.declared.eiproto_enum.ContextType.{ContextType}
-use Rattle.eiproto.specs.declared.eiproto_enum.ContextTypeOf.{ContextTypeOf}
 use Rattle.eiproto.specs.declared.eiproto_enum.DeviceType.{DeviceType}
-use Rattle.eiproto.specs.declared.eiproto_enum.DeviceTypeOf.{DeviceTypeOf}
 use Rattle.eiproto.specs.declared.eiproto_enum.DisconnectReason.{DisconnectReason}
-use Rattle.eiproto.specs.declared.eiproto_enum.DisconnectReasonOf.{DisconnectReasonOf}
 use Rattle.wire.specs.declared.ParseError.{ParseError}
 use Rattle.requests.specs.declared.eis.HandshakeRequest.{HandshakeRequest}
 use Rattle.handshake.specs.View.{number}
@@ -31,28 +27,28 @@ handshake_request opcode value =
 
 -- a number stands for a case of its enum, or for none
 abbrev pub IsCapability : (mask : ℕ) → DeviceCapability → Type 0
-IsCapability n c = capability_by capability_mask n ≡ DeviceCapabilityOf.Case c
+IsCapability n c = capability_by capability_mask n ≡ Some c
 
 abbrev pub NoCapability : (mask : ℕ) → Type 0
-NoCapability n = capability_by capability_mask n ≡ DeviceCapabilityOf.Unknown
+NoCapability n = capability_by capability_mask n ≡ None
 
 abbrev pub IsContext : ℕ → ContextType → Type 0
-IsContext n c = context_type_of n ≡ ContextTypeOf.Case c
+IsContext n c = context_type_of n ≡ Ok c
 
 abbrev pub NoContext : (number variant : ℕ) → Type 0
-NoContext n v = context_type_of n ≡ ContextTypeOf.InvalidVariant v
+NoContext n v = context_type_of n ≡ Err (invalid_variant v)
 
 abbrev pub IsType : ℕ → DeviceType → Type 0
-IsType n t = device_type_of n ≡ DeviceTypeOf.Case t
+IsType n t = device_type_of n ≡ Ok t
 
 abbrev pub NoType : (number variant : ℕ) → Type 0
-NoType n v = device_type_of n ≡ DeviceTypeOf.InvalidVariant v
+NoType n v = device_type_of n ≡ Err (invalid_variant v)
 
 abbrev pub IsReason : ℕ → DisconnectReason → Type 0
-IsReason n r = disconnect_reason_of n ≡ DisconnectReasonOf.Case r
+IsReason n r = disconnect_reason_of n ≡ Ok r
 
 abbrev pub NoReason : (number variant : ℕ) → Type 0
-NoReason n v = disconnect_reason_of n ≡ DisconnectReasonOf.InvalidVariant v
+NoReason n v = disconnect_reason_of n ≡ Err (invalid_variant v)
 
 -- the refusals, in the order of their numbers; those of a handshake alone stand in their places
 abbrev refusals : List ℕ

@@ -1,12 +1,13 @@
 -- What an exported function tells: an answer that the module's own call promises, as numbers. Assumes nothing.
-use Rattle.std.specs.Prelude.{ℕ, ◌≤◌, ◌≡◌, Bool, List, [], map, eqb}
+use Rattle.std.specs.Prelude.{ℕ, ◌≤◌, ◌≡◌, Bool, List, [], map, eqb, Result}
 use Rattle.std.proofs.Math.Option.{Option}
 use Rattle.std.specs.Borrow.{MutBor}
 use denote.Triple.Both.{Both}
 use Rattle.model.specs.Call.{Input, Call}
 use Rattle.session.specs.Slices.{Numbers, SharedNumbers, Reals, SharedReals, before, after, rows_before, rows_after, text}
-use Rattle.answers.specs.Answer.{outcome_of}
+use Rattle.answers.specs.Answer.{outcome_of, count_of}
 use Rattle.answers.specs.declared.Answer.{Answer}
+use Rattle.answers.specs.declared.Error.{Error}
 use Rattle.client_calls.specs.Request.{AsksRows}
 use Rattle.reads.specs.declared.ReadAnswer.{ReadAnswer}
 use Rattle.reads.specs.Record.{entry_of}
@@ -17,10 +18,10 @@ use Rattle.answer_numbers.specs.Numbers.{bad_argument, status_of, value_of, firs
 -- ---- promises
 
 -- THE NUMBERS ARE THOSE OF AN ANSWER that the call promises; Rest is what else is told of it
-pub record Replies (Promised : Answer → Type 0) (status : ℕ) (Rest : Answer → Type 0) : Type 0 where
-  pub answer : Answer
+pub record Replies (Promised : Result Answer Error → Type 0) (status : ℕ) (Rest : Result Answer Error → Type 0) : Type 0 where
+  pub answer : Result Answer Error
   pub promised : Promised answer
-  pub status_is : status ≡ status_of answer.outcome
+  pub status_is : status ≡ status_of answer
   pub rest : Rest answer
 
 -- a number that a function writes for its caller
@@ -28,7 +29,7 @@ abbrev pub Number : Type 0
 Number = Both (MutBor ℕ) (MutBor ℕ)
 
 -- the status alone
-abbrev pub Told : (Answer → Type 0) → (status : ℕ) → Type 0
+abbrev pub Told : (Result Answer Error → Type 0) → (status : ℕ) → Type 0
 Told P status = Replies P status (λ a. Unit {0})
 
 -- of a timed request: whatever the version of its interface is
@@ -36,21 +37,21 @@ abbrev pub ToldTimed : (control words : Numbers) (reals : Reals) → (interface 
 ToldTimed c w r interface input status = Told (λ a. (version : ℕ) → AsksRows c w r (Call.timed interface version input) a) status
 
 -- how many bytes of events were written, too
-abbrev pub Sent : (Answer → Type 0) → (status : ℕ) (count : Number) → Type 0
-Sent P status count = Replies P status (λ a. count.exit.now ≡ a.count)
+abbrev pub Sent : (Result Answer Error → Type 0) → (status : ℕ) (count : Number) → Type 0
+Sent P status count = Replies P status (λ a. count.exit.now ≡ count_of a)
 
 -- an id besides
-abbrev pub Gave : (Answer → Type 0) → (status : ℕ) (count value : Number) → Type 0
-Gave P status count value = Replies P status (λ a. (count.exit.now ≡ a.count) × (value.exit.now ≡ value_of a.outcome))
+abbrev pub Gave : (Result Answer Error → Type 0) → (status : ℕ) (count value : Number) → Type 0
+Gave P status count value = Replies P status (λ a. (count.exit.now ≡ count_of a) × (value.exit.now ≡ value_of a))
 
 -- what was asked for
-abbrev pub Valued : (Answer → Type 0) → (status : ℕ) (value : Number) → Type 0
-Valued P status value = Replies P status (λ a. value.exit.now ≡ value_of a.outcome)
+abbrev pub Valued : (Result Answer Error → Type 0) → (status : ℕ) (value : Number) → Type 0
+Valued P status value = Replies P status (λ a. value.exit.now ≡ value_of a)
 
 -- the details of refusal 2
-abbrev pub Detailed : (interface version : Number) → Answer → Type 0
+abbrev pub Detailed : (interface version : Number) → Result Answer Error → Type 0
 Detailed interface version a =
-    (interface.exit.now ≡ (version_in (outcome_of a.outcome)).interface) × (version.exit.now ≡ (version_in (outcome_of a.outcome)).version)
+    (interface.exit.now ≡ (version_in (outcome_of a)).interface) × (version.exit.now ≡ (version_in (outcome_of a)).version)
 
 -- the answer of a whole read, with the details of refusal 2
 pub record ToldRead (Promised : ReadAnswer → Type 0) (status : ℕ) (accepted count interface version : Number) : Type 0 where

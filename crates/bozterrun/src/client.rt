@@ -3,6 +3,7 @@ ghost use Rattle.std.specs.Prelude.{ℕ, ◌≤◌, ◌<◌, ◌≡◌};
 ghost use Rattle.eiproto.specs.declared.event.DeviceCapability.{DeviceCapability};
 ghost use Rattle.requests.specs.Row.{key_state, button_state};
 ghost use Rattle.model.specs.Call.{Input, Plain, Call};
+ghost use Rattle.answers.specs.Answer.{count_of};
 ghost use Rattle.answers.specs.Promise.{Promise, PromiseUnchanged, PromiseRows, Reply};
 ghost use Rattle.client_requests.specs.Decision.{OnlyQueued, Waits};
 ghost use Rattle.handlers.specs.Call.{handshake_call, device_call};
@@ -13,7 +14,7 @@ ghost use Rattle.bozterrun.specs.Numbers.{handshake_request, IsCapability, NoCap
 
 use answer_numbers::BAD_ARGUMENT;
 use client_calls::cells;
-use eiproto::event::{DeviceCapability, DeviceCapabilityOf};
+use eiproto::event::DeviceCapability;
 use requests::cell::Cell;
 use requests::eis::{DeviceRequest, HandshakeRequest, SeatRequest, TouchscreenRequest};
 
@@ -31,8 +32,7 @@ fn queue(
     let answer = client_calls::queue_for_interface(
         control, words, reals, capability, interface, request,
     );
-    let outcome = answer.outcome;
-    answer_numbers::status(outcome)
+    answer_numbers::status(answer)
 }
 
 #[unsafe(no_mangle)]
@@ -233,8 +233,7 @@ pub extern "C" fn bozterrun_text_utf8(
     ensures { Told (λ a. (version : ℕ) → AsksAll control words reals texts (Call.timed interface version (Input.Utf8 text.now)) a) result }
 {
     let answer = client_calls::handle_utf8_request(control, words, reals, texts, interface, text);
-    let outcome = answer.outcome;
-    answer_numbers::status(outcome)
+    answer_numbers::status(answer)
 }
 
 // The version counts for Cancel alone: Down, Motion and Up are at version 1.
@@ -259,8 +258,7 @@ pub extern "C" fn bozterrun_touchscreen_down(
         1,
         request,
     );
-    let outcome = answer.outcome;
-    answer_numbers::status(outcome)
+    answer_numbers::status(answer)
 }
 
 #[unsafe(no_mangle)]
@@ -284,8 +282,7 @@ pub extern "C" fn bozterrun_touchscreen_motion(
         1,
         request,
     );
-    let outcome = answer.outcome;
-    answer_numbers::status(outcome)
+    answer_numbers::status(answer)
 }
 
 #[unsafe(no_mangle)]
@@ -307,8 +304,7 @@ pub extern "C" fn bozterrun_touchscreen_up(
         1,
         request,
     );
-    let outcome = answer.outcome;
-    answer_numbers::status(outcome)
+    answer_numbers::status(answer)
 }
 
 // Refusal 2 tells the interface and the version.
@@ -334,11 +330,10 @@ pub extern "C" fn bozterrun_touchscreen_cancel(
         version,
         request,
     );
-    let outcome = answer.outcome;
-    let refused = answer_numbers::refused_version(outcome);
+    let refused = answer_numbers::refused_version(answer);
     *refused_interface = refused.interface;
     *refused_version = refused.version;
-    answer_numbers::status(outcome)
+    answer_numbers::status(answer)
 }
 
 // A request on a device other than its Frame.
@@ -353,8 +348,7 @@ fn device_request(
     ensures { Told (AsksRowsAt control words reals (device_call request device) clock) result }
 {
     let answer = client_calls::handle_device_request(control, words, reals, device, request, clock);
-    let outcome = answer.outcome;
-    answer_numbers::status(outcome)
+    answer_numbers::status(answer)
 }
 
 #[unsafe(no_mangle)]
@@ -433,8 +427,7 @@ pub extern "C" fn bozterrun_device_frame(
     ensures { Told (AsksRows control words reals (Call.plain (Plain.device_frame device serial timestamp))) result }
 {
     let answer = client_calls::queue_frame(control, words, reals, device, serial, timestamp);
-    let outcome = answer.outcome;
-    answer_numbers::status(outcome)
+    answer_numbers::status(answer)
 }
 
 #[unsafe(no_mangle)]
@@ -449,8 +442,7 @@ pub extern "C" fn bozterrun_seat_bind(
 {
     let request = SeatRequest::Bind { capabilities };
     let answer = client_calls::handle_seat_request(control, words, reals, seat, request);
-    let outcome = answer.outcome;
-    answer_numbers::status(outcome)
+    answer_numbers::status(answer)
 }
 
 #[unsafe(no_mangle)]
@@ -465,8 +457,7 @@ pub extern "C" fn bozterrun_seat_request_device(
 {
     let request = SeatRequest::RequestDevice { capabilities };
     let answer = client_calls::handle_seat_request(control, words, reals, seat, request);
-    let outcome = answer.outcome;
-    answer_numbers::status(outcome)
+    answer_numbers::status(answer)
 }
 
 #[unsafe(no_mangle)]
@@ -481,9 +472,8 @@ pub extern "C" fn bozterrun_seat_release(
     ensures { Sent (PromiseRows control words reals out (Plain.seat_release seat)) result count }
 {
     let answer = client_calls::release_seat(control, words, reals, seat, out);
-    let outcome = answer.outcome;
-    *count = answer.count;
-    answer_numbers::status(outcome)
+    *count = answer_numbers::count(answer);
+    answer_numbers::status(answer)
 }
 
 // The Release of the interface for a capability, which is told by its mask.
@@ -499,15 +489,14 @@ pub extern "C" fn bozterrun_interface_release(
     ensures value { NoCapability capability → (result ≡ bad_argument) × (Kept control × (Kept out × (count.new ≡ 0))) }
 {
     match DeviceCapability::from_mask(capability) {
-        DeviceCapabilityOf::Unknown => {
+        None => {
             *count = 0;
             BAD_ARGUMENT
         }
-        DeviceCapabilityOf::Case(known) => {
+        Some(known) => {
             let answer = client_calls::release_interface(control, known, interface, out);
-            let outcome = answer.outcome;
-            *count = answer.count;
-            answer_numbers::status(outcome)
+            *count = answer_numbers::count(answer);
+            answer_numbers::status(answer)
         }
     }
 }
@@ -523,15 +512,14 @@ pub extern "C" fn bozterrun_connection_sync(
     refused_interface: &mut u32,
     refused_version: &mut u32,
 ) -> u32
-    ensures { Replies (PromiseUnchanged control out (Plain.sync callback version)) result (λ a. (count.new ≡ a.count) × Detailed refused_interface refused_version a) }
+    ensures { Replies (PromiseUnchanged control out (Plain.sync callback version)) result (λ a. (count.new ≡ count_of a) × Detailed refused_interface refused_version a) }
 {
     let answer = client_calls::sync(control, callback, version, out);
-    let outcome = answer.outcome;
-    let refused = answer_numbers::refused_version(outcome);
-    *count = answer.count;
+    let refused = answer_numbers::refused_version(answer);
+    *count = answer_numbers::count(answer);
     *refused_interface = refused.interface;
     *refused_version = refused.version;
-    answer_numbers::status(outcome)
+    answer_numbers::status(answer)
 }
 
 #[unsafe(no_mangle)]
@@ -543,8 +531,7 @@ pub extern "C" fn bozterrun_connection_disconnect(
     ensures { Told (AsksRows control words reals (Call.plain Plain.disconnect)) result }
 {
     let answer = client_calls::disconnect(control, words, reals);
-    let outcome = answer.outcome;
-    answer_numbers::status(outcome)
+    answer_numbers::status(answer)
 }
 
 #[unsafe(no_mangle)]
@@ -552,8 +539,7 @@ pub extern "C" fn bozterrun_pingpong_done(control: &[u64]) -> u32
     ensures { Told (Reply control Plain.pingpong_done) result }
 {
     let answer = client_calls::pingpong_done(control);
-    let outcome = answer.outcome;
-    answer_numbers::status(outcome)
+    answer_numbers::status(answer)
 }
 
 // The handshake's request of an opcode; past the last one it is the last.
@@ -593,6 +579,5 @@ pub extern "C" fn bozterrun_unexpected_handshake(
     }
     let request = handshake_request(opcode, value);
     let answer = client_calls::handle_handshake_request(control, request, text);
-    let outcome = answer.outcome;
-    answer_numbers::status(outcome)
+    answer_numbers::status(answer)
 }

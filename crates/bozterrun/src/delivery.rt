@@ -4,7 +4,6 @@ ghost use Rattle.bozterrun.specs.Delivery.{numbers_of, coordinates_of, Tells};
 
 use answer_numbers::NONE;
 use converter::request;
-use converter::request::NextCell;
 use requests::cell::Cell;
 
 // How many numbers and coordinates a request has.
@@ -44,12 +43,12 @@ pub extern "C" fn bozterrun_next_request(
     ensures { Tells control words reals texts buffer numbers coordinates result }
 {
     match request::next_cell(control, words, reals, texts, buffer) {
-        NextCell::Given(given) => {
+        Ok(Some(given)) => {
             put_numbers(numbers, given);
             put_coordinates(coordinates, given);
             0
         }
-        NextCell::None => NONE,
-        NextCell::Refused(error) => error.number(),
+        Ok(None) => NONE,
+        Err(error) => error.number(),
     }
 }

@@ -5,7 +5,7 @@ ghost use Rattle.event_messages.specs.declared.MessageError.{MessageError};
 ghost use Rattle.bozterrun.specs.Events.{error_number, written_status, written_count, Turns};
 
 use answer_numbers::{MALFORMED, UNSENDABLE};
-use event_messages::{MessageError, Written};
+use event_messages::MessageError;
 
 fn error_number(error: MessageError) -> u32
     ensures { result ≡ error_number error }
@@ -17,21 +17,21 @@ fn error_number(error: MessageError) -> u32
     }
 }
 
-fn status(written: Written) -> u32
+fn status(written: Result<usize, MessageError>) -> u32
     ensures { result ≡ written_status written }
 {
     match written {
-        Written::Bytes(_) => 0,
-        Written::Refused(error) => error_number(error),
+        Ok(_) => 0,
+        Err(error) => error_number(error),
     }
 }
 
-fn count_of(written: Written) -> usize
+fn count_of(written: Result<usize, MessageError>) -> usize
     ensures { result ≡ written_count written }
 {
     match written {
-        Written::Bytes(count) => count,
-        Written::Refused(_) => 0,
+        Ok(count) => count,
+        Err(_) => 0,
     }
 }
 

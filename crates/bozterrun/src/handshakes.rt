@@ -10,17 +10,15 @@ ghost use Rattle.bozterrun.specs.Handshake.{Counted, Says, Introduced};
 ghost use Rattle.bozterrun.specs.Numbers.{IsContext, NoContext};
 
 use answer_numbers::BAD_ARGUMENT;
-use eiproto::eiproto_enum::{ContextType, ContextTypeOf};
-use handshake::handshake::{HandshakeMessage, HandshakeOutcome};
-use lent_handshake::Client;
+use eiproto::eiproto_enum::ContextType;
+use handshake::handshake::{EisHandshakeResp, HandshakeError, HandshakeMessage};
 
-pub fn status(outcome: HandshakeOutcome) -> u32
+pub fn status(outcome: Result<Option<EisHandshakeResp>, HandshakeError>) -> u32
     ensures { result ≡ status_of outcome }
 {
     match outcome {
-        HandshakeOutcome::Accepted => 0,
-        HandshakeOutcome::Finished => 0,
-        HandshakeOutcome::Refused(error) => error.number(),
+        Ok(_) => 0,
+        Err(error) => error.number(),
     }
 }
 
@@ -82,14 +80,9 @@ pub extern "C" fn bozterrun_handshake_context_type(
     ensures says { (c : ContextType) → IsContext kind c → Says words name (paper.Message.Context c) result }
     ensures by_index { (n : ℕ) → NoContext kind n → (result ≡ bad_argument) × (Kept words × Kept name) }
 {
-    match ContextType::parse(kind) {
-        ContextTypeOf::InvalidVariant(_) => BAD_ARGUMENT,
-        ContextTypeOf::Case(context) => message(
-            words,
-            name,
-            HandshakeMessage::ContextType { context },
-            b"",
-        ),
+    match ContextType::try_from(kind) {
+        Err(_) => BAD_ARGUMENT,
+        Ok(context) => message(words, name, HandshakeMessage::ContextType { context }, b""),
     }
 }
 
@@ -147,20 +140,16 @@ pub extern "C" fn bozterrun_handshake_client(
     ensures { Introduced words name given length context result }
 {
     match lent_handshake::who(words, name) {
-        Client::Refused(error) => {
+        Err(error) => {
             *given = 0;
             *length = 0;
             *context = 0;
             error.number()
         }
-        Client::Known {
-            length: said,
-            given: named,
-            context: stated,
-        } => {
-            *given = named as u32;
-            *length = said;
-            *context = stated;
+        Ok(client) => {
+            *given = client.given as u32;
+            *length = client.length;
+            *context = client.context;
             0
         }
     }

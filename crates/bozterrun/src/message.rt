@@ -3,13 +3,13 @@ ghost use Rattle.std.specs.Prelude.{◌≡◌, cond};
 ghost use Rattle.handshake.specs.View.{is_finished};
 ghost use Rattle.messages.specs.Received.{Receives};
 ghost use Rattle.lent_handshake.specs.Lent as lent;
-ghost use Rattle.bozterrun.specs.Message.{bare, malformed, told_error, told_answer, told_received, told_handshake, told_reply, begun_of, Tells};
+ghost use Rattle.bozterrun.specs.Message.{bare, malformed, told_error, told_answer, told_received, told_handshake, told_unhanded, told_reply, begun_of, Tells};
 
 use crate::handshakes;
 use answer_numbers::{INVALID_ID, MALFORMED, NO_OBJECT, WAIT};
-use answers::Answer;
-use handshake::handshake::HandshakeOutcome;
-use handshake_messages::Told;
+use answers::{Answer, Error};
+use handshake::handshake::{EisHandshakeResp, HandshakeError};
+use handshake_messages::Unhanded;
 use lent_handshake::HandshakeReply;
 use messages::Received;
 use wire::ParseError;
@@ -67,15 +67,14 @@ fn told_error(error: ParseError) -> MessageTold
     }
 }
 
-fn told_answer(answer: Answer, taken: usize) -> MessageTold
+fn told_answer(answer: Result<Answer, Error>, taken: usize) -> MessageTold
     ensures { result ≡ told_answer answer taken }
 {
-    let outcome = answer.outcome;
-    let refused = answer_numbers::refused_version(outcome);
+    let refused = answer_numbers::refused_version(answer);
     MessageTold {
-        status: answer_numbers::status(outcome),
+        status: answer_numbers::status(answer),
         taken,
-        count: answer.count,
+        count: answer_numbers::count(answer),
         error: 0,
         first: refused.interface,
         second: refused.version,
@@ -121,36 +120,42 @@ pub extern "C" fn bozterrun_pending_request(
     told.status
 }
 
-fn told_handshake(told: Told, reply: HandshakeReply, taken: usize) -> MessageTold
+// Why bytes were not handed on.
+fn told_unhanded(why: Unhanded) -> MessageTold
+    ensures { result ≡ told_unhanded why }
+{
+    match why {
+        Unhanded::Wait => bare(WAIT),
+        Unhanded::NoObject => bare(NO_OBJECT),
+        Unhanded::Malformed(error) => told_error(error),
+        Unhanded::InvalidId => bare(INVALID_ID),
+    }
+}
+
+fn told_handshake(told: Result<(), Unhanded>, reply: HandshakeReply, taken: usize) -> MessageTold
     ensures { result ≡ told_handshake told reply taken }
 {
     match told {
-        Told::Wait => bare(WAIT),
-        Told::NoObject => bare(NO_OBJECT),
-        Told::Malformed(error) => told_error(error),
-        Told::InvalidId => bare(INVALID_ID),
-        Told::Handed => {
-            let outcome = reply.outcome;
-            MessageTold {
-                status: handshakes::status(outcome),
-                taken,
-                count: reply.count,
-                error: 0,
-                first: 0,
-                second: 0,
-            }
-        }
+        Ok(()) => MessageTold {
+            status: handshakes::status(reply.outcome),
+            taken,
+            count: reply.count,
+            error: 0,
+            first: 0,
+            second: 0,
+        },
+        Err(why) => told_unhanded(why),
     }
 }
 
 // 1 where a Finish begins the session.
-fn begun_by(outcome: HandshakeOutcome) -> u32
+fn begun_by(outcome: Result<Option<EisHandshakeResp>, HandshakeError>) -> u32
     ensures { result ≡ cond (is_finished outcome) 1 0 }
 {
     match outcome {
-        HandshakeOutcome::Accepted => 0,
-        HandshakeOutcome::Finished => 1,
-        HandshakeOutcome::Refused(_) => 0,
+        Ok(Some(_)) => 1,
+        Ok(None) => 0,
+        Err(_) => 0,
     }
 }
 

@@ -35,12 +35,11 @@ pub extern "C" fn bozterrun_handle_requests(
     let answer = lent_read::handle_requests(
         control, words, reals, texts, records, points, lent, clock, out,
     );
-    let refusal = answer.refusal;
-    let outcome = answer_numbers::first_outcome(refusal);
-    let refused = answer_numbers::refused_version(outcome);
+    let first = answer_numbers::first_outcome(answer.refusal);
+    let refused = answer_numbers::refused_version(first);
     *accepted = answer.accepted;
     *count = answer.count;
     *refused_interface = refused.interface;
     *refused_version = refused.version;
-    answer_numbers::status(outcome)
+    answer_numbers::status(first)
 }

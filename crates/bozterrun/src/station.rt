@@ -10,8 +10,8 @@ ghost use Rattle.answer_numbers.specs.Numbers.{bad_argument};
 ghost use Rattle.bozterrun.specs.Numbers.{IsCapability, NoCapability, IsType, NoType, IsReason, NoReason};
 
 use answer_numbers::BAD_ARGUMENT;
-use eiproto::eiproto_enum::{DeviceType, DeviceTypeOf, DisconnectReason, DisconnectReasonOf};
-use eiproto::event::{DeviceCapability, DeviceCapabilityOf};
+use eiproto::eiproto_enum::{DeviceType, DisconnectReason};
+use eiproto::event::DeviceCapability;
 
 // The name counts where `given` is 1.
 #[unsafe(no_mangle)]
@@ -32,11 +32,11 @@ pub extern "C" fn bozterrun_add_seat(
         *id = 0;
         return BAD_ARGUMENT;
     }
-    let answer = connection::add_seat(control, given == 1, name, capabilities, out);
-    let outcome = answer.outcome;
-    *count = answer.count;
-    *id = answer_numbers::value(outcome);
-    answer_numbers::status(outcome)
+    let name = answers::if_given(given == 1, name);
+    let answer = connection::add_seat(control, name, capabilities, out);
+    *count = answer_numbers::count(answer);
+    *id = answer_numbers::value(answer);
+    answer_numbers::status(answer)
 }
 
 #[unsafe(no_mangle)]
@@ -60,26 +60,18 @@ pub extern "C" fn bozterrun_add_device(
         *id = 0;
         return BAD_ARGUMENT;
     }
-    match DeviceType::parse(kind) {
-        DeviceTypeOf::InvalidVariant(_) => {
+    match DeviceType::try_from(kind) {
+        Err(_) => {
             *count = 0;
             *id = 0;
             BAD_ARGUMENT
         }
-        DeviceTypeOf::Case(known) => {
-            let answer = seat::add_device(
-                control,
-                seat,
-                given == 1,
-                name,
-                known,
-                capabilities,
-                out,
-            );
-            let outcome = answer.outcome;
-            *count = answer.count;
-            *id = answer_numbers::value(outcome);
-            answer_numbers::status(outcome)
+        Ok(known) => {
+            let name = answers::if_given(given == 1, name);
+            let answer = seat::add_device(control, seat, name, known, capabilities, out);
+            *count = answer_numbers::count(answer);
+            *id = answer_numbers::value(answer);
+            answer_numbers::status(answer)
         }
     }
 }
@@ -96,9 +88,8 @@ pub extern "C" fn bozterrun_remove_seat(
     ensures { Sent (PromiseRows control words reals out (Plain.remove_seat seat)) result count }
 {
     let answer = seat::remove_seat(control, words, reals, seat, out);
-    let outcome = answer.outcome;
-    *count = answer.count;
-    answer_numbers::status(outcome)
+    *count = answer_numbers::count(answer);
+    answer_numbers::status(answer)
 }
 
 #[unsafe(no_mangle)]
@@ -113,9 +104,8 @@ pub extern "C" fn bozterrun_remove_device(
     ensures { Sent (PromiseRows control words reals out (Plain.remove_device device)) result count }
 {
     let answer = device::remove_device(control, words, reals, device, out);
-    let outcome = answer.outcome;
-    *count = answer.count;
-    answer_numbers::status(outcome)
+    *count = answer_numbers::count(answer);
+    answer_numbers::status(answer)
 }
 
 #[unsafe(no_mangle)]
@@ -128,9 +118,8 @@ pub extern "C" fn bozterrun_resumed(
     ensures { Sent (Promise control out (Plain.resumed device)) result count }
 {
     let answer = device::resumed(control, device, out);
-    let outcome = answer.outcome;
-    *count = answer.count;
-    answer_numbers::status(outcome)
+    *count = answer_numbers::count(answer);
+    answer_numbers::status(answer)
 }
 
 #[unsafe(no_mangle)]
@@ -143,9 +132,8 @@ pub extern "C" fn bozterrun_paused(
     ensures { Sent (Promise control out (Plain.paused device)) result count }
 {
     let answer = device::paused(control, device, out);
-    let outcome = answer.outcome;
-    *count = answer.count;
-    answer_numbers::status(outcome)
+    *count = answer_numbers::count(answer);
+    answer_numbers::status(answer)
 }
 
 #[unsafe(no_mangle)]
@@ -159,9 +147,8 @@ pub extern "C" fn bozterrun_start_emulating(
     ensures { Sent (Promise control out (Plain.start_emulating device sequence)) result count }
 {
     let answer = device::start_emulating(control, device, sequence, out);
-    let outcome = answer.outcome;
-    *count = answer.count;
-    answer_numbers::status(outcome)
+    *count = answer_numbers::count(answer);
+    answer_numbers::status(answer)
 }
 
 #[unsafe(no_mangle)]
@@ -174,9 +161,8 @@ pub extern "C" fn bozterrun_stop_emulating(
     ensures { Sent (Promise control out (Plain.stop_emulating device)) result count }
 {
     let answer = device::stop_emulating(control, device, out);
-    let outcome = answer.outcome;
-    *count = answer.count;
-    answer_numbers::status(outcome)
+    *count = answer_numbers::count(answer);
+    answer_numbers::status(answer)
 }
 
 #[unsafe(no_mangle)]
@@ -190,9 +176,8 @@ pub extern "C" fn bozterrun_frame(
     ensures { Sent (Promise control out (Plain.frame device time)) result count }
 {
     let answer = device::frame(control, device, time, out);
-    let outcome = answer.outcome;
-    *count = answer.count;
-    answer_numbers::status(outcome)
+    *count = answer_numbers::count(answer);
+    answer_numbers::status(answer)
 }
 
 // The explanation counts where `given` is 1.
@@ -215,24 +200,16 @@ pub extern "C" fn bozterrun_disconnected(
         *count = 0;
         return BAD_ARGUMENT;
     }
-    match DisconnectReason::parse(reason) {
-        DisconnectReasonOf::InvalidVariant(_) => {
+    match DisconnectReason::try_from(reason) {
+        Err(_) => {
             *count = 0;
             BAD_ARGUMENT
         }
-        DisconnectReasonOf::Case(known) => {
-            let answer = connection::disconnected(
-                control,
-                words,
-                reals,
-                known,
-                given == 1,
-                explanation,
-                out,
-            );
-            let outcome = answer.outcome;
-            *count = answer.count;
-            answer_numbers::status(outcome)
+        Ok(known) => {
+            let explanation = answers::if_given(given == 1, explanation);
+            let answer = connection::disconnected(control, words, reals, known, explanation, out);
+            *count = answer_numbers::count(answer);
+            answer_numbers::status(answer)
         }
     }
 }
@@ -242,9 +219,8 @@ pub extern "C" fn bozterrun_last_serial(control: &[u64], serial: &mut u64) -> u3
     ensures { Valued (Reply control Plain.last_serial) result serial }
 {
     let answer = connection::last_serial(control);
-    let outcome = answer.outcome;
-    *serial = answer_numbers::value(outcome);
-    answer_numbers::status(outcome)
+    *serial = answer_numbers::value(answer);
+    answer_numbers::status(answer)
 }
 
 // 1 where the interface was negotiated, else 0.
@@ -253,9 +229,8 @@ pub extern "C" fn bozterrun_has_interface(control: &[u64], name: &[u8], truth: &
     ensures { Valued (Reply control (Plain.has_interface name.now)) result truth }
 {
     let answer = connection::has_interface(control, name);
-    let outcome = answer.outcome;
-    *truth = answer_numbers::value(outcome);
-    answer_numbers::status(outcome)
+    *truth = answer_numbers::value(answer);
+    answer_numbers::status(answer)
 }
 
 #[unsafe(no_mangle)]
@@ -267,9 +242,8 @@ pub extern "C" fn bozterrun_interface_version(
     ensures { Valued (Reply control (Plain.interface_version name.now)) result version }
 {
     let answer = connection::interface_version(control, name);
-    let outcome = answer.outcome;
-    *version = answer_numbers::value(outcome);
-    answer_numbers::status(outcome)
+    *version = answer_numbers::value(answer);
+    answer_numbers::status(answer)
 }
 
 // 1 where the device lists an interface for the capability, which is told by its mask, else 0.
@@ -284,15 +258,14 @@ pub extern "C" fn bozterrun_has_capability(
     ensures value { NoCapability capability → (result ≡ bad_argument) × (truth.new ≡ 0) }
 {
     match DeviceCapability::from_mask(capability) {
-        DeviceCapabilityOf::Unknown => {
+        None => {
             *truth = 0;
             BAD_ARGUMENT
         }
-        DeviceCapabilityOf::Case(known) => {
+        Some(known) => {
             let answer = device::has_capability(control, device, known);
-            let outcome = answer.outcome;
-            *truth = answer_numbers::value(outcome);
-            answer_numbers::status(outcome)
+            *truth = answer_numbers::value(answer);
+            answer_numbers::status(answer)
         }
     }
 }

@@ -1,5 +1,7 @@
 -- Reads and messages among the other calls: each read is its single calls, one after another, each message its request or nothing, and what is seen of them all is
 -- what the definitions say. Assumes nothing.
+use Rattle.answers.specs.declared.Error.{Error}
+use Rattle.std.specs.Prelude.{Result, Ok, Err}
 use Prim.Native.Nat.{ℕ, ◌+◌}
 use mathlib.Core.Path.{◌≡◌, refl, sym, ap, ap₂, ◌∙◌}
 use mathlib.Core.Bool.{Bool, true, false, false≢true}
@@ -11,7 +13,8 @@ use Rattle.wire.specs.Bits.{splice}
 use Rattle.model.specs.Call.{Input, Load, Call, split}
 use Rattle.wire.specs.declared.ParseError.{ParseError}
 use Rattle.model.specs.Session.{Queued, Session, view}
-use Rattle.model.specs.Plan.{Result, records}
+use Rattle.model.specs.Plan.{records}
+use Rattle.model.specs.Plan as plan
 use Rattle.model.specs.Step.{run, step}
 use Rattle.model.specs.Demand3.{Observed, observed, items_of}
 use Rattle.model.specs.Reachable.{session_after}
@@ -69,20 +72,20 @@ is_handed Received.NoObject = false
 is_handed (Received.Malformed p) = false
 is_handed (Received.Handed a n) = true
 
-not-wait : {a : Answer} {n : ℕ} → Received.Wait ≡ Received.Handed a n → ⊥
+not-wait : {a : Result Answer Error} {n : ℕ} → Received.Wait ≡ Received.Handed a n → ⊥
 unfolding is_handed
 not-wait e = false≢true (ap is_handed e)
 
-not-no_object : {a : Answer} {n : ℕ} → Received.NoObject ≡ Received.Handed a n → ⊥
+not-no_object : {a : Result Answer Error} {n : ℕ} → Received.NoObject ≡ Received.Handed a n → ⊥
 unfolding is_handed
 not-no_object e = false≢true (ap is_handed e)
 
-not-malformed : {p : ParseError} {a : Answer} {n : ℕ} → Received.Malformed p ≡ Received.Handed a n → ⊥
+not-malformed : {p : ParseError} {a : Result Answer Error} {n : ℕ} → Received.Malformed p ≡ Received.Handed a n → ⊥
 unfolding is_handed
 not-malformed e = false≢true (ap is_handed e)
 
 -- on a session that is not damaged, what the model says is what is promised of every call
-handled-answered : (s e : Store) (out later : List ℕ) (call : Call Input) (clock : ℕ) (answer : Answer) → is_whole s ≡ true → Handled s e out later call clock answer
+handled-answered : (s e : Store) (out later : List ℕ) (call : Call Input) (clock : ℕ) (answer : Result Answer Error) → is_whole s ≡ true → Handled s e out later call clock answer
     → Answered Lending.all s e out later call clock answer
 unfolding is_intact
 handled-answered s e out later call clock answer whole h = record { damaged = λ d. absurd (false≢true (sym d ∙ whole)); handled = λ _ _. h }
@@ -101,19 +104,19 @@ turns : {clock : ℕ} {s e : Store} {out later : List ℕ} {es : List (Entry (Ca
 unfolding slices_after delivered_to
 turns Others.none Singly.none = record { singles = []; in_turn = InTurn.none; calls = Calls.none; after = refl; none_given = refl }
 turns (Others.bad_part os) Singly.bad_part = record { singles = []; in_turn = InTurn.bad_part; calls = Calls.none; after = refl; none_given = refl }
-turns {clock} {e = e} {out = out} {later = later} (Others.request {call = call} other os) (Singly.refused {answer = answer} a o) =
+turns {clock} {e = e} {out = out} {later = later} (Others.request {call = call} other os) (Singly.refused {error = error} a) =
     record {
-      singles = Exchange.called call other clock out later answer e ∷ [];
-      in_turn = InTurn.refused o;
+      singles = Exchange.called call other clock out later (Err error) e ∷ [];
+      in_turn = InTurn.refused;
       calls = Calls.called a Calls.none;
       after = refl;
       none_given = refl;
     }
-turns {clock} {s = s} {out = out} (Others.request {call = call} other os) (Singly.accepted {m = m} {mid = mid} {answer = answer} a o rest) =
+turns {clock} {s = s} {out = out} (Others.request {call = call} other os) (Singly.accepted {m = m} {mid = mid} {answer = answer} a rest) =
     let t = turns {s = m} os rest in
     record {
-      singles = Exchange.called call other clock out mid answer m ∷ t.singles;
-      in_turn = InTurn.accepted o t.in_turn;
+      singles = Exchange.called call other clock out mid (Ok answer) m ∷ t.singles;
+      in_turn = InTurn.accepted t.in_turn;
       calls = Calls.called a t.calls;
       after = t.after;
       none_given = t.none_given;
@@ -146,7 +149,7 @@ reads_are_singles s (Made.read rs lent clock out later answer e ∷ xs) whole (M
 reads_are_singles s (Made.message bytes clock out later received e ∷ xs) whole (MadeCalls.message h rest) =
     by_reading (reading (view (session s)) bytes) refl (h.read whole) (λ w. reads_are_singles e xs w rest)
   where
-    told : (answer : Received) → ((a : Answer) (n : ℕ) → answer ≡ Received.Handed a n → ⊥) → Told s e out later answer received
+    told : (answer : Received) → ((a : Result Answer Error) (n : ℕ) → answer ≡ Received.Handed a n → ⊥) → Told s e out later answer received
         → (is_whole e ≡ true → Replaced e xs) → Replaced s (Made.message bytes clock out later received e ∷ xs)
     told answer other t later_ones =
         let r = later_ones (rw t.1.0 whole) in
@@ -209,7 +212,7 @@ message-seen s e bytes clock out later received whole (Reading.request call n) q
     let other = message-other (view (session s)) bytes q in
     let x = Exchange.called call other clock out later t.answer e in
     let c : Calls s (x ∷ []) = Calls.called (handled-answered s e out later call clock t.answer whole t.handled) Calls.none in (
-      ap (received_seen later e) t.told ∙ ap₂ (λ (o : Observed) (k : ℕ). Reading.request o k) (one_seen s x whole c) (ap (λ (o : Result). taken_of o n) t.handled.outcome),
+      ap (received_seen later e) t.told ∙ ap₂ (λ (o : Observed) (k : ℕ). Reading.request o k) (one_seen s x whole c) (ap (λ (o : plan.Result). taken_of o n) t.handled.outcome),
       (t.handled.view, whole_is e t.handled.whole),
     )
 

@@ -12,9 +12,10 @@ use Rattle.model.specs.Session.{View}
 use Rattle.model.specs.Live.{Object, live}
 use Rattle.model_reads.specs.Read.{Entry}
 use Rattle.model_reads.specs.Message.{Reading}
-use Rattle.parse.specs.First.{first_of}
+use Rattle.std.specs.Prelude.{Ok, Err, Some}
+use Rattle.std.specs.Prelude as rust
+use Rattle.parse.specs.First.{ReadFirst, first_of}
 use Rattle.parse.specs.Parse.{le64}
-use Rattle.parse.specs.declared.First.{First}
 use Rattle.messages.specs.Reading.{request_in, call_in, read_as, reading_on, reading_of, reading}
 use Rattle.requests.specs.declared.eis.HandshakeRequest.{HandshakeRequest}
 use Rattle.requests.specs.declared.eis.ConnectionRequest.{ConnectionRequest}
@@ -121,12 +122,13 @@ call-asked : (b : Bool) (c d : Call Input) → is_next c ≡ false → is_next d
 call-asked true c d p q = p
 call-asked false c d p q = q
 
-first-asked : (object version : ℕ) (m : List ℕ) (f : First) → asked_in (read_as object version m f) ≡ false
+first-asked : (object version : ℕ) (m : List ℕ) (f : ReadFirst) → asked_in (read_as object version m f) ≡ false
 unfolding read_as call_in asked_in is_next
-first-asked object version m First.Wait = refl
-first-asked object version m (First.Malformed e) = refl
-first-asked object version m (First.Read a n) =
-    call-asked (eqb a.request 5) _ _ refl (asks-not (request_in a) object version (take a.length (drop a.start (take n m))))
+first-asked object version m (Ok rust.None) = refl
+first-asked object version m (Err e) = refl
+first-asked object version m (Ok (Some f)) =
+    let a = f.arguments in
+    call-asked (eqb a.request 5) _ _ refl (asks-not (request_in a) object version (take a.length (drop a.start (take f.length m))))
 
 object-asked : (object : ℕ) (o : Option Object) (m : List ℕ) → asked_in (reading_of object o m) ≡ false
 unfolding reading_of reading_on asked_in

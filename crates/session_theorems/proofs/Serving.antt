@@ -5,17 +5,18 @@ use mathlib.Core.Bool.{true, false≢true}
 use mathlib.Core.List.{List, [], ◌∷◌, ◌++◌, map}
 use lib.ListN.{length, take}
 use Rattle.handshake.specs.Handshake as paper
-use Rattle.handshake.specs.View.{view_of, is_sound, request_of, is_finished, versions_of, outcome_of, response_of, Meets}
+use Rattle.std.specs.Prelude.{Some, None, Ok, Err}
+use Rattle.std.specs.Prelude as rust
+use Rattle.handshake.specs.View.{view_of, is_sound, request_of, HandshakeOutcome, is_finished, versions_of, outcome_of, response_of, Meets}
+use Rattle.handshake.specs.View as view
 use Rattle.handshake.specs.declared.handshake.EisHandshaker.{EisHandshaker}
-use Rattle.handshake.specs.declared.handshake.EisHandshakeResp.{EisHandshakeResp}
 use Rattle.handshake.specs.declared.handshake.HandshakeAnswer.{HandshakeAnswer}
-use Rattle.handshake.specs.declared.handshake.HandshakeOutcome.{HandshakeOutcome}
 use Rattle.handshake.proofs.Runs.{response_in, request_settles}
 use Rattle.handshake_messages.specs.Reading.{request_in, handshake_reading, Nothing, Follows}
 use Rattle.handshake_messages.specs.Run as handshake
 use Rattle.handshake_messages.specs.Run.{TurnSeen, step_in, HandshakeTurn, answer_of, Turned, HandshakeTurns}
 use Rattle.handshake_messages.specs.declared.Reading.{Reading}
-use Rattle.handshake_messages.specs.declared.Told.{Told}
+use Rattle.handshake_messages.specs.declared.Unhanded.{Unhanded}
 use Rattle.handshake_messages.specs.declared.HandshakeReceived.{HandshakeReceived}
 use Rattle.handshake_messages.proofs.Runs.{meets-seen, turning, equal_turns}
 use Rattle.model.specs.Call.{Load}
@@ -34,34 +35,31 @@ last_on : (h : EisHandshaker) (xs : List HandshakeTurn) (x : HandshakeTurn) → 
 last_on h [] x sound (HandshakeTurns.next a rest) = record { handshaker = h; sound = sound; turned = a }
 last_on h (y ∷ ys) x sound (HandshakeTurns.next a rest) = last_on (answer_of y).handshaker ys x (turning h y sound a).sound rest
 
-finished-told : (o : HandshakeOutcome) (r : EisHandshakeResp) → is_finished o ≡ true → outcome_of o r ≡ paper.Result.finished (response_of r)
+finished-told : (o : HandshakeOutcome) → is_finished o ≡ true → outcome_of o ≡ paper.Result.finished (response_of (view.response_in o))
 unfolding outcome_of
-finished-told HandshakeOutcome.Accepted r h = absurd (false≢true h)
-finished-told HandshakeOutcome.Finished r h = refl
-finished-told (HandshakeOutcome.Refused e) r h = absurd (false≢true h)
+finished-told (Ok None) h = absurd (false≢true h)
+finished-told (Ok (Some s)) h = refl
+finished-told (Err e) h = absurd (false≢true h)
 
 -- a call that finishes settles what the handshake has: a message that is not handed on finishes nothing
 settles_met : (h : EisHandshaker) (m : paper.Message) {out later : List ℕ} (r : HandshakeAnswer) → is_finished r.outcome ≡ true
-    → Meets out later (paper.handle_request (view_of h) m (length out)) r → response_of r.response ≡ paper.settled (view_of h)
-settles_met h m {out} r f a = (request_settles (view_of h) m (length out)).is (response_of r.response) (sym a.outcome ∙ finished-told r.outcome r.response f)
+    → Meets out later (paper.handle_request (view_of h) m (length out)) r → response_of (view.response_in r.outcome) ≡ paper.settled (view_of h)
+settles_met h m {out} r f a = (request_settles (view_of h) m (length out)).is (response_of (view.response_in r.outcome)) (sym a.outcome ∙ finished-told r.outcome f)
 
 settles : (h : EisHandshaker) (x : HandshakeTurn) → is_sound h ≡ true → Turned h x → is_finished (answer_of x).outcome ≡ true
-    → response_of (answer_of x).response ≡ paper.settled (view_of h)
+    → response_of (view.response_in (answer_of x).outcome) ≡ paper.settled (view_of h)
 settles h (HandshakeTurn.request x) sound a f = settles_met h (request_of x.request x.text) x.answer f (a.done sound).meets
 settles h (HandshakeTurn.message x) sound a f = go (handshake_reading (view_of h) x.bytes) (a.received sound)
   where
-    not : {told : Told} → Nothing h x.out x.later told x.received → {P : Type 0} → P
+    not : {why : Unhanded} → Nothing h x.out x.later why x.received → {P : Type 0} → P
     not n = absurd (false≢true (sym (ap (λ (r : HandshakeReceived). is_finished r.answer.outcome) n.0) ∙ f))
 
-    go : (g : Reading) → Follows g h x.bytes x.out x.later x.received → response_of x.received.answer.response ≡ paper.settled (view_of h)
-    go Reading.Wait n = not n
-    go Reading.NoObject n = not n
-    go (Reading.Malformed e) n = not n
-    go Reading.InvalidId n = not n
-    go (Reading.Request b k) on = settles_met h (request_in b (take k x.bytes)) x.received.answer f on.done.meets
+    go : (g : rust.Result Reading Unhanded) → Follows g h x.bytes x.out x.later x.received → response_of (view.response_in x.received.answer.outcome) ≡ paper.settled (view_of h)
+    go (Ok g) on = settles_met h (request_in g.arguments (take g.length x.bytes)) x.received.answer f on.done.meets
+    go (Err why) n = not n
 
 -- what the Finish settles goes on after the connection's id
-next_is : (x : Served) → Serves x → (finish_of x).response.next ≡ (finish_of x).response.connection + 1
+next_is : (x : Served) → Serves x → (view.response_in (finish_of x).outcome).next ≡ (view.response_in (finish_of x).outcome).connection + 1
 unfolding response_of paper.settled
 next_is x h =
     let l = last_on x.started.handshaker x.turns x.finish h.starts.sound h.shakes in
@@ -71,7 +69,7 @@ next_is x h =
 pub from_finish : FromFinish
 from_finish x h =
     let b = h.begins.begun h.control_long x.slices.words x.slices.reals x.slices.texts h.words_long h.reals_long h.texts_long in
-    let r = (finish_of x).response in
+    let r = view.response_in (finish_of x).outcome in
     record {
       whole = whole_is x.slices b.0;
       starts = b.1 ∙ ap (λ (n : ℕ). fresh r.connection r.serial n (versions_of r.interfaces)) (next_is x h);
@@ -90,7 +88,7 @@ unfolding last_of
 last_is s [] x = refl
 last_is s (y ∷ ys) x = last_is (step_in (handshake.seen_of y)) ys x
 
-outcome-seen : (x : HandshakeTurn) → (step_in (handshake.seen_of x)).outcome ≡ outcome_of (answer_of x).outcome (answer_of x).response
+outcome-seen : (x : HandshakeTurn) → (step_in (handshake.seen_of x)).outcome ≡ outcome_of (answer_of x).outcome
 outcome-seen (HandshakeTurn.request x) = refl
 outcome-seen (HandshakeTurn.message x) = refl
 
@@ -109,7 +107,7 @@ module _ (x y : Served) (hx : Serves x) (hy : Serves y) (e : SameHandshake x y) 
       λ i. (first i, turns-equal i)
 
   -- the Finish settles the same
-  settled-equal : response_of (finish_of x).response ≡ response_of (finish_of y).response
+  settled-equal : response_of (view.response_in (finish_of x).outcome) ≡ response_of (view.response_in (finish_of y).outcome)
   unfolding last_of response_in
   settled-equal =
       let a = finish_of x in
@@ -117,12 +115,12 @@ module _ (x y : Served) (hx : Serves x) (hy : Serves y) (e : SameHandshake x y) 
       let none = paper.start 0 0 in
       let last : step_in (handshake.seen_of x.finish) ≡ step_in (handshake.seen_of y.finish) =
       sym (last_is none x.turns x.finish) ∙ ap (last_of none) turns-equal ∙ last_is none y.turns y.finish in
-      ap (response_in (response_of a.response))
-      (sym (finished-told a.outcome a.response hx.finished)
+      ap (response_in (response_of (view.response_in a.outcome)))
+      (sym (finished-told a.outcome hx.finished)
       ∙ sym (outcome-seen x.finish)
       ∙ ap (λ (s : paper.Step). s.outcome) last
       ∙ outcome-seen y.finish
-      ∙ finished-told b.outcome b.response hy.finished)
+      ∙ finished-told b.outcome hy.finished)
 
 -- the fresh session of what a Finish settled
 abbrev fresh_of : paper.Response → Session Load
@@ -136,7 +134,7 @@ equal_sessions x y hx hy e =
 pub equal_served : EqualServed
 unfolding response_of
 equal_served x y hx hy e matched =
-    let r = (finish_of x).response in
+    let r = view.response_in (finish_of x).outcome in
     let fx = from_finish x hx in
     let fy = from_finish y hy in (
       handshakes_equal x y hx hy e,

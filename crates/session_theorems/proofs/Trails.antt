@@ -1,4 +1,6 @@
 -- Each call of the code is a step of the definitions, so a list of calls is a run of them. Assumes nothing.
+use Rattle.answers.specs.declared.Error.{Error}
+use Rattle.std.specs.Prelude.{Some, None, Result, Ok, Err}
 use Prim.Native.Nat.{ℕ, ◌+◌}
 use mathlib.Core.Path.{◌≡◌, refl, sym, ap, ap₂, ◌∙◌}
 use mathlib.Core.Bool.{true, false, ◌&&◌, false≢true}
@@ -24,13 +26,13 @@ use Rattle.model.proofs.Released.{release_is_removal}
 use Rattle.model.proofs.Refusals.{own_refusals}
 use Rattle.session.specs.View.{Store, session, is_whole}
 use Rattle.session.proofs.Views.{whole_is}
-use Rattle.answers.specs.Answer.{error_of, outcome_of}
+use Rattle.answers.specs.Answer.{error_of, ending_of, outcome_of}
+use Rattle.answers.specs.Answer as tells
 use Rattle.answers.specs.Meets.{Meets, turn, Handled}
 use Rattle.answers.specs.declared.Outcome.{Outcome}
 use Rattle.answers.specs.declared.Answer.{Answer}
 use Rattle.answers.proofs.Meetings.{answered-handled, error_refuses}
-use Rattle.converter.specs.Next.{next_outcome, given_in}
-use Rattle.converter.specs.declared.request.NextRequest.{NextRequest}
+use Rattle.converter.specs.Next.{next_outcome, given_in, NextRequest}
 use Rattle.session_theorems.specs.Trail.{Exchange, turn_of, Calls, slices_after, serial_in, seen, SeenIsRun, all_of_session, Never21, FreshCalls, delivered_to, given_to, AlwaysGivenInOrder, SeenNothingLost, Told, SeenLives, SeenReleaseIsRemoval}
 use Rattle.session_theorems.proofs.Deliveries.{is_given, step-gave, step-quiet, asked-silent}
 
@@ -39,7 +41,7 @@ abbrev run_of : List Exchange → Session Load → List (Step Load)
 run_of xs t = run (map split (map turn_of xs)) t
 
 -- the bytes at the start of `out`, as many as the count says, are the step's
-bytes_are : {s e : Store} (out : List ℕ) {later : List ℕ} {T : Type 0} {to : Step Load} {r : Answer} → Meets s e out later T to r → take r.count later ≡ records to.events
+bytes_are : {s e : Store} (out : List ℕ) {later : List ℕ} {T : Type 0} {to : Step Load} {r : Result Answer Error} → Meets s e out later T to r → take (tells.count_of r) later ≡ records to.events
 unfolding splice
 bytes_are out {to = to} m = rw (m.count, m.bytes) (take-append_seam (records to.events) (drop (0 + length (records to.events)) out))
 
@@ -61,20 +63,23 @@ refused-not-given (plan.Result.truth b) h = refl
 refused-not-given plan.Result.none h = refl
 refused-not-given plan.Result.given h = absurd (false≢true h)
 
-outcome-not-given : (o : Outcome) → is_given (outcome_of o) ≡ false
+ending-not-given : (o : Outcome) → is_given (ending_of o) ≡ false
 unfolding is_given
-outcome-not-given Outcome.Accepted = refl
-outcome-not-given (Outcome.Refused e) = refused-not-given (error_of e) (error_refuses e)
-outcome-not-given (Outcome.Seat id) = refl
-outcome-not-given (Outcome.Device id) = refl
-outcome-not-given (Outcome.Value n) = refl
-outcome-not-given (Outcome.Truth b) = refl
-outcome-not-given Outcome.None = refl
+ending-not-given Outcome.Accepted = refl
+ending-not-given (Outcome.Seat id) = refl
+ending-not-given (Outcome.Device id) = refl
+ending-not-given (Outcome.Value n) = refl
+ending-not-given (Outcome.Truth b) = refl
+ending-not-given Outcome.None = refl
+
+outcome-not-given : (r : Result Answer Error) → is_given (outcome_of r) ≡ false
+outcome-not-given (Ok a) = ending-not-given a.outcome
+outcome-not-given (Err e) = refused-not-given (error_of e) (error_refuses e)
 
 -- no call but `next_request` gives a request
-call-gave : (call : Call Input) (clock : ℕ) {s e : Store} (out : List ℕ) {later : List ℕ} {answer : Answer} → Handled s e out later call clock answer
+call-gave : (call : Call Input) (clock : ℕ) {s e : Store} (out : List ℕ) {later : List ℕ} {answer : Result Answer Error} → Handled s e out later call clock answer
     → (step (split (turn call clock out)) (session s)).gave ≡ []
-call-gave call clock {s = s} out {answer = answer} m = step-gave (split (turn call clock out)) (session s) (ap is_given (sym m.outcome) ∙ outcome-not-given answer.outcome)
+call-gave call clock {s = s} out {answer = answer} m = step-gave (split (turn call clock out)) (session s) (ap is_given (sym m.outcome) ∙ outcome-not-given answer)
 
 -- and that one writes no event
 asked-quiet : (clock : ℕ) (buffer : List ℕ) (s : Session Load) → (step (split (turn (Call.plain Plain.next_request) clock buffer)) s).events ≡ []
@@ -84,7 +89,7 @@ asked-quiet clock buffer s = step-quiet (split (turn (Call.plain Plain.next_requ
 -- ---- what is seen
 
 -- of one call, with any step in the place of the model's
-called-seen : (call : Call Input) (other : call ≡ Call.plain Plain.next_request → ⊥) (clock : ℕ) {s e : Store} (out : List ℕ) {later : List ℕ} {T : Type 0} {to : Step Load} {answer : Answer}
+called-seen : (call : Call Input) (other : call ≡ Call.plain Plain.next_request → ⊥) (clock : ℕ) {s e : Store} (out : List ℕ) {later : List ℕ} {T : Type 0} {to : Step Load} {answer : Result Answer Error}
     → Meets s e out later T to answer → to.gave ≡ [] → seen (Exchange.called call other clock out later answer e) ≡ observed to
 unfolding observed
 called-seen call other clock {e = e} out m g =
@@ -183,9 +188,9 @@ seen_nothing_lost c n i vs s xs d f stands =
 -- `next_request` tells no id
 asked_no_ids : (r : NextRequest) → new_ids (next_outcome r) [] ≡ []
 unfolding new_ids
-asked_no_ids (NextRequest.Given r) = refl
-asked_no_ids NextRequest.None = refl
-asked_no_ids (NextRequest.Refused e) = refusal-ids (error_of e) (error_refuses e)
+asked_no_ids (Ok (Some r)) = refl
+asked_no_ids (Ok None) = refl
+asked_no_ids (Err e) = refusal-ids (error_of e) (error_refuses e)
 
 told_is : (s : Store) (xs : List Exchange) → is_whole s ≡ true → Calls s xs → Told xs (ids_in (run_of xs (session s))) (destroyed_in (run_of xs (session s)))
 unfolding ids_in destroyed_in destroyed_of run

@@ -1,6 +1,6 @@
 -- EACH PRESS IN ONE FRAME, told of the code: of calls, whole reads and messages on slices that hold a fresh session, and of a connection from its handshake's first call
 -- on. model/specs/Framed has the statement's words. proofs/Framed.antt proves the statements. Assumes nothing.
-use Rattle.std.specs.Prelude.{ℕ, ◌+◌, ◌≡◌, true, false, List, [], ◌∷◌, ◌++◌, map}
+use Rattle.std.specs.Prelude.{ℕ, ◌+◌, ◌≡◌, true, false, List, [], ◌∷◌, ◌++◌, map, Result}
 use Rattle.std.proofs.Math.Option.{Option}
 use Rattle.model.specs.Call.{Load, Plain, Call}
 use Rattle.model.specs.Session.{Untimed, Device, fresh}
@@ -11,7 +11,8 @@ use Rattle.session.specs.View.{Store, session, Lending}
 use Rattle.answers.specs.Answer.{outcome_of}
 use Rattle.answers.specs.Meets.{Answered}
 use Rattle.answers.specs.declared.Answer.{Answer}
-use Rattle.handshake.specs.View.{versions_of}
+use Rattle.answers.specs.declared.Error.{Error}
+use Rattle.handshake.specs.View.{response_in, versions_of}
 use Rattle.session_theorems.specs.Trail.{Exchange, turn_of, slices_after, serial_in}
 use Rattle.session_theorems.specs.Made.{Made, after_made, FreshMade, delivered_in, Replaced}
 use Rattle.session_theorems.specs.Served.{Served, finish_of, Serves}
@@ -42,7 +43,7 @@ AlwaysEachPressSeen = (c n i : ℕ) (vs : List (Option ℕ)) (s : Store) (xs : L
 abbrev pub AlwaysEachPressServed : Type 0
 AlwaysEachPressServed =
     (x : Served) → Serves x →
-    let settled = (finish_of x).response in
+    let settled = response_in (finish_of x).outcome in
     EachPressSeen settled.connection settled.serial (settled.connection + 1) (versions_of settled.interfaces) x.slices x.calls
 
 -- A request that closes the frame of a device that stands, on the slices that such calls left, and is not refused: all that was pending on the device is queued in one
@@ -51,6 +52,6 @@ abbrev pub SeenFrameTakesAll : Type 0
 SeenFrameTakesAll =
     (c n i : ℕ) (vs : List (Option ℕ)) (s : Store) (xs : List Made) → FreshMade c n i vs s xs →
     let before = after_made s xs in
-    (l : Lending) (e : Store) (out later : List ℕ) (request : Plain) (clock : ℕ) (answer : Answer) (device serial time : ℕ) (behind : List Untimed) →
+    (l : Lending) (e : Store) (out later : List ℕ) (request : Plain) (clock : ℕ) (answer : Result Answer Error) (device serial time : ℕ) (behind : List Untimed) →
     Answered l before e out later (Call.plain request) clock answer → Closes device (serial_in before) clock request serial time behind →
-    stands device (session before).devices ≡ true → refuses (outcome_of answer.outcome) ≡ false → Closed device serial time behind (session before) (session e)
+    stands device (session before).devices ≡ true → refuses (outcome_of answer) ≡ false → Closed device serial time behind (session before) (session e)

@@ -2,7 +2,7 @@
 -- that a read is its requests handed in singly, and a message its request or nothing, so that all that Trail.antt says of single calls is said of them.
 -- proofs/Making.antt proves the statements.
 -- "Every session call that these requests add joins those of demand 3." Assumes nothing.
-use Rattle.std.specs.Prelude.{ℕ, suc, ◌+◌, ◌≡◌, true, List, [], ◌∷◌, ◌++◌, map, length, take, drop}
+use Rattle.std.specs.Prelude.{ℕ, suc, ◌+◌, ◌≡◌, true, List, [], ◌∷◌, ◌++◌, map, length, take, drop, Some, Result, Ok, Err}
 use Rattle.std.proofs.Math.Option.{Option}
 use Rattle.model.specs.Call.{Input, Load, Plain, Call}
 use Rattle.model.specs.Session.{Item, Queued, fresh, view}
@@ -12,10 +12,9 @@ use Rattle.model_reads.specs.Message.{Reading, taken_of}
 use Rattle.model_reads.specs.Acts.{Act, map_act, ObservedAct, observed_acts, loaded_by, MatchedActs}
 use Rattle.session.specs.View.{Store, session, is_whole}
 use Rattle.answers.specs.declared.Error.{Error}
-use Rattle.answers.specs.declared.Outcome.{Outcome}
 use Rattle.answers.specs.declared.Answer.{Answer}
 use Rattle.answers.specs.Answer.{outcome_of}
-use Rattle.reads.specs.declared.First.{First}
+use Rattle.answers.specs.Answer as tells
 use Rattle.reads.specs.declared.ReadAnswer.{ReadAnswer}
 use Rattle.reads.specs.declared.record.RequestRecord.{RequestRecord}
 use Rattle.reads.specs.Record.{entry_of}
@@ -70,9 +69,9 @@ received_seen later e (Received.Malformed p) = Reading.malformed p
 received_seen later e (Received.Handed answer taken) =
     Reading.request
     (record {
-      outcome = outcome_of answer.outcome;
-      count = answer.count;
-      bytes = take answer.count later;
+      outcome = outcome_of answer;
+      count = tells.count_of answer;
+      bytes = take (tells.count_of answer) later;
       last_serial = serial_in e;
       given = [];
     })
@@ -116,17 +115,15 @@ EqualSeen =
 pub data InTurn (clock : ℕ) : (out later : List ℕ) → List (Entry (Call Input)) → ReadAnswer → List Exchange → Type 0 where
   none : {out : List ℕ} → InTurn clock out out [] (opened true) []
   bad_part : {out : List ℕ} {es : List (Entry (Call Input))}
-      → InTurn clock out out (Entry.bad_part ∷ es) (record { accepted = 0; count = 0; refusal = First.Refused Error.BadPart }) []
-  refused : {out later : List ℕ} {call : Call Input} {other : call ≡ Call.plain Plain.next_request → ⊥} {es : List (Entry (Call Input))} {answer : Answer} {error : Error}
-      {e : Store} → answer.outcome ≡ Outcome.Refused error
-      → InTurn clock out later (Entry.request call ∷ es) (record { accepted = 0; count = answer.count; refusal = First.Refused error })
-      (Exchange.called call other clock out later answer e ∷ [])
+      → InTurn clock out out (Entry.bad_part ∷ es) (record { accepted = 0; count = 0; refusal = Some Error.BadPart }) []
+  refused : {out later : List ℕ} {call : Call Input} {other : call ≡ Call.plain Plain.next_request → ⊥} {es : List (Entry (Call Input))} {error : Error}
+      {e : Store} → InTurn clock out later (Entry.request call ∷ es) (record { accepted = 0; count = 0; refusal = Some error })
+      (Exchange.called call other clock out later (Err error) e ∷ [])
   accepted : {out mid later : List ℕ} {call : Call Input} {other : call ≡ Call.plain Plain.next_request → ⊥} {es : List (Entry (Call Input))} {answer : Answer}
-      {others : ReadAnswer} {e : Store} {zs : List Exchange} → ((error : Error) → answer.outcome ≡ Outcome.Refused error → ⊥)
-      → InTurn clock (drop answer.count mid) later es others zs
+      {others : ReadAnswer} {e : Store} {zs : List Exchange} → InTurn clock (drop answer.count mid) later es others zs
       → InTurn clock out (take answer.count mid ++ later) (Entry.request call ∷ es)
       (record { accepted = suc others.accepted; count = answer.count + others.count; refusal = others.refusal })
-      (Exchange.called call other clock out mid answer e ∷ zs)
+      (Exchange.called call other clock out mid (Ok answer) e ∷ zs)
 
 -- Calls, reads and messages on the slices s, each read replaced by its single calls, and each message by the request that its bytes stand for in the session that the
 -- slices hold, or by nothing where they are none
@@ -135,12 +132,12 @@ pub data Singles : (s : Store) → List Made → List Exchange → Type 0 where
   one : {s : Store} {x : Exchange} {xs : List Made} {ys : List Exchange} → Singles (slices_after s (x ∷ [])) xs ys → Singles s (Made.one x ∷ xs) (x ∷ ys)
   read : {s : Store} {records : List RequestRecord} {lent : List ℕ} {clock : ℕ} {out later : List ℕ} {answer : ReadAnswer} {e : Store} {xs : List Made} {zs ys : List Exchange}
       → InTurn clock out later (entries_of records lent) answer zs → Singles e xs ys → Singles s (Made.read records lent clock out later answer e ∷ xs) (zs ++ ys)
-  handed : {s : Store} {bytes : List ℕ} {clock : ℕ} {out later : List ℕ} {call : Call Input} {n : ℕ} {other : call ≡ Call.plain Plain.next_request → ⊥} {answer : Answer} {e : Store}
+  handed : {s : Store} {bytes : List ℕ} {clock : ℕ} {out later : List ℕ} {call : Call Input} {n : ℕ} {other : call ≡ Call.plain Plain.next_request → ⊥} {answer : Result Answer Error} {e : Store}
       {xs : List Made} {ys : List Exchange} → reading (view (session s)) bytes ≡ Reading.request call n → Singles e xs ys
-      → Singles s (Made.message bytes clock out later (Received.Handed answer (taken_of (outcome_of answer.outcome) n)) e ∷ xs)
+      → Singles s (Made.message bytes clock out later (Received.Handed answer (taken_of (outcome_of answer) n)) e ∷ xs)
       (Exchange.called call other clock out later answer e ∷ ys)
   told : {s : Store} {bytes : List ℕ} {clock : ℕ} {out later : List ℕ} {received : Received} {e : Store} {xs : List Made} {ys : List Exchange}
-      → ((answer : Answer) (taken : ℕ) → received ≡ Received.Handed answer taken → ⊥) → Singles e xs ys → Singles s (Made.message bytes clock out later received e ∷ xs) ys
+      → ((answer : Result Answer Error) (taken : ℕ) → received ≡ Received.Handed answer taken → ⊥) → Singles e xs ys → Singles s (Made.message bytes clock out later received e ∷ xs) ys
 
 -- what `next_request` gave, and of it the timed requests of a device; a read gives none, and a message neither
 unfoldable pub delivered_in : List Made → List (Queued Load)

@@ -1,7 +1,7 @@
 -- A connection as the code serves it, from its handshake's first call on. proofs/Serving.antt proves the statements. Assumes nothing.
-use Rattle.std.specs.Prelude.{ℕ, ◌+◌, ◌≡◌, true, List, [], ◌∷◌, ◌++◌, map, length}
+use Rattle.std.specs.Prelude.{ℕ, ◌+◌, ◌≡◌, true, List, [], ◌∷◌, ◌++◌, map, length, Result}
 use Rattle.handshake.specs.Handshake.{Step, start}
-use Rattle.handshake.specs.View.{is_finished, versions_of, Meets}
+use Rattle.handshake.specs.View.{is_finished, response_in, versions_of, Meets}
 use Rattle.handshake.specs.Run.{seen_in}
 use Rattle.handshake.specs.declared.handshake.HandshakeAnswer.{HandshakeAnswer}
 use Rattle.handshake_messages.specs.Run as handshake
@@ -10,6 +10,7 @@ use Rattle.model_reads.specs.Acts.{MatchedActs}
 use Rattle.control.specs.Control.{control_length}
 use Rattle.session.specs.View.{Store, session, words_length, reals_length, texts_length}
 use Rattle.answers.specs.declared.Answer.{Answer}
+use Rattle.answers.specs.declared.Error.{Error}
 use Rattle.converter.specs.Next.{Begins}
 use Rattle.messages.specs.Reading.{reading}
 use Rattle.messages.specs.Same.{SameMessage}
@@ -28,7 +29,7 @@ pub record Served : Type 0 where
   -- `converter::request::new`: the control words before it, and the session's slices after it
   pub control : List ℕ
   pub slices : Store
-  pub begun : Answer
+  pub begun : Result Answer Error
   -- the session's calls, whole reads and messages among them
   pub calls : List Made
 
@@ -43,7 +44,7 @@ pub record Serves (x : Served) : Type 0 where
   pub starts : Meets x.out x.later (start x.serial (length x.out)) x.started
   pub shakes : HandshakeTurns x.started.handshaker (shaken x)
   pub finished : is_finished (finish_of x).outcome ≡ true
-  pub begins : Begins x.control x.slices.control (finish_of x).response x.begun
+  pub begins : Begins x.control x.slices.control (response_in (finish_of x).outcome) x.begun
   pub control_long : length x.control ≡ control_length
   pub words_long : length x.slices.words ≡ words_length
   pub reals_long : length x.slices.reals ≡ reals_length
@@ -55,7 +56,7 @@ pub record Serves (x : Served) : Type 0 where
 abbrev pub FromFinish : Type 0
 FromFinish =
     (x : Served) → Serves x →
-    let settled = (finish_of x).response in
+    let settled = response_in (finish_of x).outcome in
     FreshMade settled.connection settled.serial (settled.connection + 1) (versions_of settled.interfaces) x.slices x.calls
 
 -- "Two handshakes that get equal calls": equal requests and equal bytes, in buffers of equal lengths

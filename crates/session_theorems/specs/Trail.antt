@@ -1,6 +1,7 @@
 -- Lists of calls of the code, each as its contract has it, and what holds of them. Made.antt has the lists in which whole reads stand among them.
 -- proofs/Trails.antt proves the statements. Assumes nothing.
-use Rattle.std.specs.Prelude.{ℕ, ◌+◌, ◌≤◌, ◌<◌, ◌≡◌, Bool, true, ◌&&◌, List, [], ◌∷◌, ◌++◌, map, take}
+use Rattle.answers.specs.declared.Error.{Error}
+use Rattle.std.specs.Prelude.{ℕ, ◌+◌, ◌≤◌, ◌<◌, ◌≡◌, Bool, true, ◌&&◌, List, [], ◌∷◌, ◌++◌, map, take, Result}
 use Rattle.std.proofs.Math.Option.{Option, some}
 use Rattle.model.specs.Call.{Input, Load, Plain, Call, Turn, split}
 use Rattle.model.specs.Session.{Item, Queued, Seat, fresh, map_queued, blank, view}
@@ -14,15 +15,15 @@ use Rattle.model.specs.Kept.{pending_of}
 use Rattle.model.specs.Destroyed.{destroyed_of, standing}
 use Rattle.session.specs.View.{Store, session, is_whole, Lending}
 use Rattle.answers.specs.Answer.{outcome_of}
+use Rattle.answers.specs.Answer as tells
 use Rattle.answers.specs.Meets.{turn, Answered}
 use Rattle.answers.specs.declared.Answer.{Answer}
-use Rattle.converter.specs.Next.{next_outcome, given_in, Delivered}
-use Rattle.converter.specs.declared.request.NextRequest.{NextRequest}
+use Rattle.converter.specs.Next.{next_outcome, given_in, Delivered, NextRequest}
 
 -- A call that was made: what it was given, what it answered, its buffer before and after it, and the slices after it. `called` is a client's request or
 -- a station's call, `asked` is `next_request`, which is made in no other way
 pub data Exchange : Type 0 where
-  called : (call : Call Input) (other : call ≡ Call.plain Plain.next_request → ⊥) (clock : ℕ) (out later : List ℕ) (answer : Answer) (after : Store) → Exchange
+  called : (call : Call Input) (other : call ≡ Call.plain Plain.next_request → ⊥) (clock : ℕ) (out later : List ℕ) (answer : Result Answer Error) (after : Store) → Exchange
   asked : (clock : ℕ) (buffer later : List ℕ) (answer : NextRequest) (after : Store) → Exchange
 
 abbrev pub turn_of : Exchange → Turn
@@ -33,7 +34,7 @@ turn_of (Exchange.asked clock buffer later answer e) = turn (Call.plain Plain.ne
 pub data Calls : Store → List Exchange → Type 0 where
   none : {s : Store} → Calls s []
   -- whatever part of the session it is lent
-  called : {l : Lending} {s e : Store} {call : Call Input} {other : call ≡ Call.plain Plain.next_request → ⊥} {clock : ℕ} {out later : List ℕ} {answer : Answer}
+  called : {l : Lending} {s e : Store} {call : Call Input} {other : call ≡ Call.plain Plain.next_request → ⊥} {clock : ℕ} {out later : List ℕ} {answer : Result Answer Error}
       {xs : List Exchange} → Answered l s e out later call clock answer → Calls e xs → Calls s (Exchange.called call other clock out later answer e ∷ xs)
   asked : {s e : Store} {clock : ℕ} {buffer later : List ℕ} {answer : NextRequest} {xs : List Exchange} → Delivered s e buffer later answer
       → Calls e xs → Calls s (Exchange.asked clock buffer later answer e ∷ xs)
@@ -52,9 +53,9 @@ serial_in e = (session e).connection.last_serial
 abbrev pub seen : Exchange → Observed
 seen (Exchange.called call other clock out later answer e) =
     record {
-      outcome = outcome_of answer.outcome;
-      count = answer.count;
-      bytes = take answer.count later;
+      outcome = outcome_of answer;
+      count = tells.count_of answer;
+      bytes = take (tells.count_of answer) later;
       last_serial = serial_in e;
       given = [];
     }
@@ -116,9 +117,9 @@ SeenNothingLost =
 -- are the bytes that were written
 pub data Told : List Exchange → (given gone : List ℕ) → Type 0 where
   none : Told [] [] []
-  called : {call : Call Input} {other : call ≡ Call.plain Plain.next_request → ⊥} {clock : ℕ} {out later : List ℕ} {answer : Answer} {e : Store} {xs : List Exchange}
-      {given gone : List ℕ} (es : List Sent) → take answer.count later ≡ records es → Told xs given gone
-      → Told (Exchange.called call other clock out later answer e ∷ xs) (new_ids (outcome_of answer.outcome) es ++ given) (destroyed_of es ++ gone)
+  called : {call : Call Input} {other : call ≡ Call.plain Plain.next_request → ⊥} {clock : ℕ} {out later : List ℕ} {answer : Result Answer Error} {e : Store} {xs : List Exchange}
+      {given gone : List ℕ} (es : List Sent) → take (tells.count_of answer) later ≡ records es → Told xs given gone
+      → Told (Exchange.called call other clock out later answer e ∷ xs) (new_ids (outcome_of answer) es ++ given) (destroyed_of es ++ gone)
   asked : {clock : ℕ} {buffer later : List ℕ} {answer : NextRequest} {e : Store} {xs : List Exchange} {given gone : List ℕ} → Told xs given gone
       → Told (Exchange.asked clock buffer later answer e ∷ xs) given gone
 
@@ -140,15 +141,15 @@ SeenLives =
 
 -- A client's release of a seat that stands, and the station's removal of it, on the same slices with the same clock and `out`: the same session,
 -- outcome, count and bytes, refused or not
-pub record Same (e e' : Store) (later later' : List ℕ) (r r' : Answer) : Type 0 where
+pub record Same (e e' : Store) (later later' : List ℕ) (r r' : Result Answer Error) : Type 0 where
   pub view : session e ≡ session e'
-  pub outcome : outcome_of r.outcome ≡ outcome_of r'.outcome
-  pub count : r.count ≡ r'.count
+  pub outcome : outcome_of r ≡ outcome_of r'
+  pub count : tells.count_of r ≡ tells.count_of r'
   pub bytes : later ≡ later'
 
 abbrev pub SeenReleaseIsRemoval : Type 0
 SeenReleaseIsRemoval =
-    (l l' : Lending) (s e e' : Store) (out later later' : List ℕ) (clock seat : ℕ) (x : Seat) (r r' : Answer)
+    (l l' : Lending) (s e e' : Store) (out later later' : List ℕ) (clock seat : ℕ) (x : Seat) (r r' : Result Answer Error)
     → is_whole s ≡ true → seat_of seat (view (session s)) ≡ some x
     → Answered l s e out later (Call.plain (Plain.seat_release seat)) clock r → Answered l' s e' out later' (Call.plain (Plain.remove_seat seat)) clock r'
     → Same e e' later later' r r'

@@ -9,5 +9,5 @@ returns c =
       answer = c.sync-answer.result;
       promised = c.sync-answer.ensures;
       status_is = c.status.ensures;
-      rest = (refl, (ap (λ (v : RefusedVersion). v.interface) c.refused_version-refused.ensures, ap (λ (v : RefusedVersion). v.version) c.refused_version-refused.ensures));
+      rest = (c.count.ensures, (ap (λ (v : RefusedVersion). v.interface) c.refused_version-refused.ensures, ap (λ (v : RefusedVersion). v.version) c.refused_version-refused.ensures));
     }

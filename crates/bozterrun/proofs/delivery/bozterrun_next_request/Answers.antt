@@ -1,29 +1,29 @@
 -- What the call gives is what the numbers are. Assumes nothing.
-use mathlib.Core.Path.{refl, ap}
+use mathlib.Core.Path.{refl, ap, ◌∙◌}
 use Rattle.converter.specs.Next.{next_of}
-use Rattle.converter.specs.declared.request.NextCell.{NextCell}
+use Rattle.std.specs.Prelude.{Some, None, Ok, Err}
 use Rattle.converter.proofs.Given.{delivered_as}
 use Rattle.bozterrun.proofs.delivery.bozterrun_next_request.Goals as goal
 
-pub returns-in-Given : goal.returns-in-Given
-returns-in-Given c =
+pub returns-in-Ok-Some : goal.returns-in-Ok-Some
+returns-in-Ok-Some c =
     record {
-      next = NextCell.Given c.in-Given.given;
-      delivered = delivered_as (ap next_of c.in-Given.is) c.next_cell.ensures;
+      next = Ok (Some c.in-Ok-Some.given);
+      delivered = delivered_as (ap next_of (c.in-Ok-Some.is ∙ ap Ok c.in-Ok-Some.field-0-is)) c.next_cell.ensures;
       status_is = refl;
       numbers_are = c.put_numbers.ensures;
       coordinates_are = c.put_coordinates.ensures;
     }
 
-pub returns-in-None : goal.returns-in-None
-returns-in-None c =
-    record { next = NextCell.None; delivered = delivered_as (ap next_of c.in-None.is) c.next_cell.ensures; status_is = refl; numbers_are = refl; coordinates_are = refl }
+pub returns-in-Ok-None : goal.returns-in-Ok-None
+returns-in-Ok-None c =
+    record { next = Ok None; delivered = delivered_as (ap next_of (c.in-Ok-None.is ∙ ap Ok c.in-Ok-None.field-0-is)) c.next_cell.ensures; status_is = refl; numbers_are = refl; coordinates_are = refl }
 
-pub returns-in-Refused : goal.returns-in-Refused
-returns-in-Refused c =
+pub returns-in-Err : goal.returns-in-Err
+returns-in-Err c =
     record {
-      next = NextCell.Refused c.in-Refused.error;
-      delivered = delivered_as (ap next_of c.in-Refused.is) c.next_cell.ensures;
+      next = Err c.in-Err.error;
+      delivered = delivered_as (ap next_of c.in-Err.is) c.next_cell.ensures;
       status_is = c.number.ensures;
       numbers_are = refl;
       coordinates_are = refl;

@@ -1,30 +1,30 @@
 -- What the handshake holds of the client, as numbers. Assumes nothing.
 use mathlib.Core.Path.{refl, subst}
+use Rattle.std.specs.Prelude.{Ok, Err}
 use Rattle.lent_handshake.specs.Lent.{Named}
-use Rattle.lent_handshake.specs.declared.Client.{Client}
 use Rattle.answer_numbers.proofs.Truth.{as_number}
 use Rattle.bozterrun.proofs.handshakes.bozterrun_handshake_client.Goals as goal
 
-pub returns-in-Refused : goal.returns-in-Refused
-returns-in-Refused c =
+pub returns-in-Err : goal.returns-in-Err
+returns-in-Err c =
     let a = c.args in
     record {
-      client = Client.Refused c.in-Refused.error;
-      named = subst (Named a.words.now a.name.now) c.in-Refused.is c.who.ensures;
+      client = Err c.in-Err.error;
+      named = subst (Named a.words.now a.name.now) c.in-Err.is c.who.ensures;
       status_is = c.number.ensures;
       given_is = refl;
       length_is = refl;
       context_is = refl;
     }
 
-pub returns-in-Known : goal.returns-in-Known
-returns-in-Known c =
+pub returns-in-Ok : goal.returns-in-Ok
+returns-in-Ok c =
     let a = c.args in
     record {
-      client = Client.Known c.in-Known.said c.in-Known.named c.in-Known.stated;
-      named = subst (Named a.words.now a.name.now) c.in-Known.is c.who.ensures;
+      client = Ok c.in-Ok.client;
+      named = subst (Named a.words.now a.name.now) c.in-Ok.is c.who.ensures;
       status_is = refl;
-      given_is = as_number c.in-Known.named;
+      given_is = as_number c.in-Ok.client.given;
       length_is = refl;
       context_is = refl;
     }

@@ -3,17 +3,17 @@ use mathlib.Core.Path.{refl, sym, ◌∙◌}
 use Rattle.bozterrun.proofs.Cases.{context, one_case, not_none}
 use Rattle.bozterrun.proofs.handshakes.bozterrun_handshake_context_type.Goals as goal
 
-pub returns-in-InvalidVariant : goal.returns-in-InvalidVariant
-returns-in-InvalidVariant c =
-    let told = sym c.parse.ensures ∙ c.in-InvalidVariant.is in
+pub returns-in-Err : goal.returns-in-Err
+returns-in-Err c =
+    let told = sym c.try_from.ensures ∙ c.in-Err.is in
     record {
       says = λ k known. absurd (not_none context (sym known ∙ told) refl refl);
       by_index = λ n invalid. (refl, (refl, refl));
     }
 
-pub returns-in-Case : goal.returns-in-Case
-returns-in-Case c =
-    let told = sym c.parse.ensures ∙ c.in-Case.is in
+pub returns-in-Ok : goal.returns-in-Ok
+returns-in-Ok c =
+    let told = sym c.try_from.ensures ∙ c.in-Ok.is in
     record {
       says = λ k known. rw (one_case context (sym known ∙ told) refl refl) c.message.ensures;
       by_index = λ n invalid. absurd (not_none context (sym told ∙ invalid) refl refl);

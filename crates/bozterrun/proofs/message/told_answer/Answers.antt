@@ -2,4 +2,4 @@
 use Rattle.bozterrun.proofs.message.told_answer.Goals as goal
 
 pub returns : goal.returns
-returns c = rw (c.status.ensures, c.refused_version-refused.ensures)
+returns c = rw (c.status.ensures, c.count.ensures, c.refused_version-refused.ensures)

@@ -1,14 +1,8 @@
 -- What became of the bytes in a handshake, as numbers. Assumes nothing.
 use Rattle.bozterrun.proofs.message.told_handshake.Goals as goal
 
-pub returns-in-Wait : goal.returns-in-Wait
-returns-in-Wait c = rw (c.bare.ensures, c.in-Wait.is)
+pub returns-in-Ok : goal.returns-in-Ok
+returns-in-Ok c = rw (c.status.ensures, c.in-Ok.is)
 
-pub returns-in-NoObject : goal.returns-in-NoObject
-returns-in-NoObject c = rw (c.bare-in-NoObject.ensures, c.in-NoObject.is)
-
-pub returns-in-InvalidId : goal.returns-in-InvalidId
-returns-in-InvalidId c = rw (c.bare-in-InvalidId.ensures, c.in-InvalidId.is)
-
-pub returns-in-Handed : goal.returns-in-Handed
-returns-in-Handed c = rw (c.status.ensures, c.in-Handed.is)
+pub returns-in-Err : goal.returns-in-Err
+returns-in-Err c = rw (c.told_unhanded.ensures, c.in-Err.is)

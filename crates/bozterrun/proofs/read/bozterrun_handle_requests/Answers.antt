@@ -2,7 +2,9 @@
 use mathlib.Core.Path.{refl, sym, ap, ◌∙◌}
 use mathlib.Core.Bool.{false≢true}
 use borrow.Author.Tests.{not-true, not-false}
-use Rattle.answers.specs.declared.Outcome.{Outcome}
+use Rattle.std.specs.Prelude.{Result}
+use Rattle.answers.specs.declared.Answer.{Answer}
+use Rattle.answers.specs.declared.Error.{Error}
 use Rattle.answers.specs.Answer.{outcome_of}
 use Rattle.answer_numbers.specs.declared.RefusedVersion.{RefusedVersion}
 use Rattle.answer_numbers.specs.Numbers.{status_of, version_in}
@@ -20,12 +22,12 @@ returns-then-not-are_requests c =
 pub returns : goal.returns
 returns c =
     let passes = sym c.are_requests.ensures ∙ not-false _ (not_from_true _ c.if-not-are_requests.false) in
-    let version = c.refused_version-refused.ensures ∙ ap (λ (o : Outcome). version_in (outcome_of o)) c.first_outcome-outcome.ensures in
+    let version = c.refused_version-refused.ensures ∙ ap (λ (o : Result Answer Error). version_in (outcome_of o)) c.first_outcome-first.ensures in
     record {
       told_read = λ _. record {
         answer = c.handle_requests-answer.result;
         promised = c.handle_requests-answer.ensures;
-        status_is = c.status.ensures ∙ ap status_of c.first_outcome-outcome.ensures;
+        status_is = c.status.ensures ∙ ap status_of c.first_outcome-first.ensures;
         accepted_is = refl;
         count_is = refl;
         interface_is = ap (λ (v : RefusedVersion). v.interface) version;
