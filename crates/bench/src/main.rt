@@ -8,35 +8,21 @@ use session::{REALS_LENGTH, TEXTS_LENGTH, WORDS_LENGTH};
 use std::env::Env;
 use std::io;
 use std::io::Write;
-
-fn tell(to: &mut impl Write, given: u64) -> io::Result<()> {
-    writeln!(to, "{given}")
-}
+use turns::Session;
 
 fn main(rt: HostRuntime) -> io::Result<()> {
     let mut out = io::writer(&rt);
-    let mut control = [0u64; CONTROL_LENGTH];
-    let mut words = [0u64; WORDS_LENGTH];
-    let mut reals = [0.0f32; REALS_LENGTH];
-    let mut texts = [0u8; TEXTS_LENGTH];
+    let mut session = Session {
+        control: [0; CONTROL_LENGTH],
+        words: [0; WORDS_LENGTH],
+        reals: [0.0; REALS_LENGTH],
+        texts: [0; TEXTS_LENGTH],
+    };
     let mut word = [0u8; 16];
     let mut count = [0u8; 16];
     let _ = rt.arg(1, &mut word);
-    let m = match rt.arg(2, &mut count) {
-        Ok(m) => m,
-        Err(_) => 0,
-    };
-    let times = bench_calls::number(&count, m);
-    tell(
-        &mut out,
-        turns::run(
-            &mut control,
-            &mut words,
-            &mut reals,
-            &mut texts,
-            &word,
-            times,
-        ),
-    )?;
+    let digits = rt.arg(2, &mut count).unwrap_or(0);
+    let times = bench_calls::number(&count, digits);
+    writeln!(out, "{}", turns::run(&mut session, &word, times))?;
     out.flush()
 }

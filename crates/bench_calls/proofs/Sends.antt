@@ -6,7 +6,9 @@ use Rattle.session.specs.View.{Store}
 use Rattle.handlers.specs.Call.{call_of}
 use Rattle.eiproto.specs.declared.eiproto_enum.KeyState.{KeyState}
 use Rattle.converter.specs.Next.{Delivered}
-use Rattle.converter.specs.declared.request.NextRequest.{NextRequest}
+use Rattle.std.specs.Prelude.{Option, Some, None, Result, Ok, Err}
+use Rattle.answers.specs.declared.Error.{Error}
+use Rattle.requests.specs.declared.request.EisRequest.{EisRequest}
 use Rattle.bench_calls.specs.Sent.{Sent, device, key, presses, given_by, Asked}
 
 pub sent_join : {s m e : Store} {xs ys : List (Call Input)} → Sent s xs m → Sent m ys e → Sent s (xs ++ ys) e
@@ -28,13 +30,13 @@ pressed_all {s} {e} j p x = subst (λ (k : ℕ). Sent s (presses k) e) p x
 pub asked_all : {room given n : ℕ} {s e : Store} (j : ℕ) → j ≡ n → Asked room j s e given → Asked room n s e given
 asked_all {room} {given} {s = s} {e} j p x = subst (λ (k : ℕ). Asked room k s e given) p x
 
-given_one : (r : NextRequest) → given_by r ≤ 1
-given_one (NextRequest.Given r) = omega arith
-given_one NextRequest.None = omega arith
-given_one (NextRequest.Refused e) = omega arith
+given_one : (r : Result (Option EisRequest) Error) → given_by r ≤ 1
+given_one (Ok (Some r)) = omega arith
+given_one (Ok None) = omega arith
+given_one (Err e) = omega arith
 
 -- asked once more: what was given so far and what is given now is the sum that the code has, which does not wrap
-pub asked-more : {room times given now total : ℕ} {s m e : Store} {buffer later : List ℕ} (answer : NextRequest)
+pub asked-more : {room times given now total : ℕ} {s m e : Store} {buffer later : List ℕ} (answer : Result (Option EisRequest) Error)
     → times + 1 < 2 ^ 64 → given ≤ times → now ≡ given_by answer → total ≡ (given + now) % 2 ^ 64
     → Asked room times s m given → length buffer ≡ room → Delivered m e buffer later answer
     → (total ≤ times + 1) × Asked room (times + 1) s e total

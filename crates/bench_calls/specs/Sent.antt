@@ -1,5 +1,5 @@
 -- What the benchmark sends and takes: calls one after another, each as its contract has it, each on the slices that the one before left. Assumes nothing.
-use Rattle.std.specs.Prelude.{◌≡◌, ℕ, zero, suc, ◌+◌, ◌%◌, ◌^◌, List, [], ◌∷◌, ◌++◌, length, replicate, pos, from_bits}
+use Rattle.std.specs.Prelude.{◌≡◌, ℕ, zero, suc, ◌+◌, ◌%◌, ◌^◌, List, [], ◌∷◌, ◌++◌, length, replicate, pos, from_bits, Option, Some, None, Result, Ok, Err}
 use Rattle.std.specs.Float.{binary32}
 use Rattle.std.specs.Float.Ieee.{of_int}
 use Rattle.eiproto.specs.declared.eiproto_enum.KeyState.{KeyState}
@@ -8,13 +8,14 @@ use Rattle.session.specs.View.{Store, Lending}
 use Rattle.session.specs.Slices.{Numbers, Reals, before, after}
 use Rattle.answers.specs.Meets.{Answered}
 use Rattle.answers.specs.declared.Answer.{Answer}
+use Rattle.answers.specs.declared.Error.{Error}
 use Rattle.converter.specs.Next.{Delivered}
-use Rattle.converter.specs.declared.request.NextRequest.{NextRequest}
+use Rattle.requests.specs.declared.request.EisRequest.{EisRequest}
 
 -- a client's requests, at the clock 5, with 16 bytes lent for events
 pub data Sent : Store → List (Call Input) → Store → Type 0 where
   none : {s : Store} → Sent s [] s
-  sent : {s m e : Store} {call : Call Input} {calls : List (Call Input)} {later : List ℕ} {answer : Answer} → Answered Lending.all s m (replicate 16 0) later call 5 answer
+  sent : {s m e : Store} {call : Call Input} {calls : List (Call Input)} {later : List ℕ} {answer : Result Answer Error} → Answered Lending.all s m (replicate 16 0) later call 5 answer
       → Sent m calls e → Sent s (call ∷ calls) e
 
 -- the same, of the slices that a function is lent
@@ -47,13 +48,13 @@ presses zero = []
 presses (suc n) = presses n ++ (key (device + 1) n KeyState.Press ∷ [])
 
 -- whether `next_request` gave one
-abbrev pub given_by : NextRequest → ℕ
-given_by (NextRequest.Given r) = 1
-given_by NextRequest.None = 0
-given_by (NextRequest.Refused e) = 0
+abbrev pub given_by : Result (Option EisRequest) Error → ℕ
+given_by (Ok (Some r)) = 1
+given_by (Ok None) = 0
+given_by (Err e) = 0
 
 -- `next_request` asked so often, with a text buffer of so many bytes, and how many requests it gave
 pub data Asked (room : ℕ) : (times : ℕ) → Store → Store → (given : ℕ) → Type 0 where
   none : {s : Store} → Asked room 0 s s 0
-  asked : {times given : ℕ} {s m e : Store} {buffer later : List ℕ} {answer : NextRequest} → Asked room times s m given → length buffer ≡ room
+  asked : {times given : ℕ} {s m e : Store} {buffer later : List ℕ} {answer : Result (Option EisRequest) Error} → Asked room times s m given → length buffer ≡ room
       → Delivered m e buffer later answer → Asked room (times + 1) s e (given + given_by answer)

@@ -1,4 +1,5 @@
-// What a client sends in the turns of the benchmark, and what it sent, taken.
+// What a client sends in the turns of the benchmark, and what it sent, taken. Over slices, and no struct of arrays, since `Sends` and
+// `Asked` hold of slices of any length.
 ghost use Rattle.std.specs.Prelude.{◌≡◌, ◌%◌, [], ◌∷◌, length};
 ghost use Rattle.session.specs.View.{store};
 ghost use Rattle.handlers.specs.Call.{call_of};
@@ -6,12 +7,13 @@ ghost use Rattle.bench_calls.specs.Sent as said;
 ghost use Rattle.bench_calls.specs.Sent.{Sends, Asked, given_by};
 
 use crate::start::DEVICE;
+use answers::Error;
 use converter::request;
-use converter::request::NextRequest;
 use eiproto::eiproto_enum::KeyState;
 use requests::eis::{
     DeviceRequest, InterfaceRequest, KeyboardRequest, Request, TouchscreenRequest,
 };
+use requests::request::EisRequest;
 
 pub fn with_text(
     control: &mut [u64],
@@ -25,7 +27,7 @@ pub fn with_text(
     ensures { Sends control words reals texts (call_of r object 2 text.now ∷ []) }
 {
     let mut out = [0u8; 16];
-    request::handle_request(
+    let _ = request::handle_request(
         control, words, reals, texts, object, 2, r, text, 5, &mut out,
     );
 }
@@ -142,17 +144,15 @@ pub fn many_keys(
 )
     ensures { Sends control words reals texts (said.presses n) }
 {
-    let mut j: u32 = 0;
-    while j < n {
+    for code in 0..n {
         without_text(
             control,
             words,
             reals,
             texts,
             DEVICE + 1,
-            key(j, KeyState::Press),
+            key(code, KeyState::Press),
         );
-        j += 1;
     }
 }
 
@@ -167,22 +167,19 @@ fn next_in(
     ensures { Asked (length buffer.old) most (store control.old words.now reals.now texts.now) (store control.new words.now reals.now texts.now) result }
 {
     let mut given: u64 = 0;
-    let mut i: u64 = 0;
-    while i < most {
+    for _asked in 0..most {
         let answer = request::next_request(control, words, reals, texts, buffer);
-        given = std::num::wrapping_add_u64(given, count(answer));
-        i += 1;
+        given = given.wrapping_add(count(answer));
     }
     given
 }
 
-fn count(answer: NextRequest) -> u64
+fn count(answer: Result<Option<EisRequest>, Error>) -> u64
     ensures { result ≡ given_by answer }
 {
     match answer {
-        NextRequest::Given(_) => 1,
-        NextRequest::None => 0,
-        NextRequest::Refused(_) => 0,
+        Ok(Some(_)) => 1,
+        Ok(None) | Err(_) => 0,
     }
 }
 

@@ -1,9 +1,9 @@
 // The session that the turns of the benchmark begin with.
-ghost use Rattle.bench_calls.specs.Begun.{Knows, Shaken, Added, Begun};
+ghost use Rattle.bench_calls.specs.Begun.{Knows, Leaves, Shaken, Added, Begun};
 
 use converter::request;
 use eiproto::eiproto_enum::DeviceType;
-use handshake::handshake::{EisHandshaker, HandshakeMessage as Shake};
+use handshake::handshake::{EisHandshaker, HandshakeAnswer, HandshakeMessage as Shake};
 
 // The ids that the calls of `begin` give: the seat, then each device with its interfaces behind it.
 pub const SEAT: u64 = 0xff00000000000001;
@@ -14,8 +14,17 @@ fn negotiated(h: EisHandshaker, name: &[u8]) -> EisHandshaker
     ensures { Knows h name.now result }
 {
     let mut out = [0u8; 16];
-    let a = h.handle_request(Shake::InterfaceVersion { version: 9 }, name, &mut out);
-    a.handshaker
+    let message = Shake::InterfaceVersion { version: 9 };
+    h.handle_request(message, name, &mut out).handshaker
+}
+
+// The session begins where the handshake ends.
+fn open(control: &mut [u64], finished: HandshakeAnswer)
+    ensures { Leaves control.old control.new finished }
+{
+    if let Ok(Some(response)) = finished.outcome {
+        let _ = request::new(control, response);
+    }
 }
 
 // The handshake, in which the interfaces that a session needs are negotiated, and those that the benchmark's devices have.
@@ -32,24 +41,14 @@ fn shaken(control: &mut [u64])
     h = negotiated(h, b"ei_text");
     let mut reports = [0u8; 4096];
     let finished = h.handle_request(Shake::Finish, b"", &mut reports);
-    request::new(control, finished.response);
+    open(control, finished);
 }
 
 fn add_devices(control: &mut [u64], devices: u64, capabilities: u64, out: &mut [u8])
     ensures { Added capabilities devices control.old control.new }
 {
-    let mut i: u64 = 0;
-    while i < devices {
-        seat::add_device(
-            control,
-            SEAT,
-            false,
-            b"",
-            DeviceType::Virtual,
-            capabilities,
-            out,
-        );
-        i += 1;
+    for _added in 0..devices {
+        let _ = seat::add_device(control, SEAT, None, DeviceType::Virtual, capabilities, out);
     }
 }
 
@@ -59,6 +58,6 @@ pub fn begin(control: &mut [u64], devices: u64, capabilities: u64)
 {
     let mut out = [0u8; 4096];
     shaken(control);
-    connection::add_seat(control, false, b"", capabilities, &mut out);
+    let _ = connection::add_seat(control, None, capabilities, &mut out);
     add_devices(control, devices, capabilities, &mut out);
 }

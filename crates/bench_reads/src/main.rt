@@ -11,80 +11,67 @@ use std::env::Env;
 use std::io;
 use std::io::Write;
 
-fn tell(to: &mut impl Write, given: u64) -> io::Result<()> {
-    writeln!(to, "{given}")
+// The memory of a session.
+#[derive(Drop)]
+struct Session {
+    control: [u64; CONTROL_LENGTH],
+    words: [u64; WORDS_LENGTH],
+    reals: [f32; REALS_LENGTH],
+    texts: [u8; TEXTS_LENGTH],
 }
 
-// What a client sends in a turn.
-fn send(
-    control: &mut [u64],
-    words: &mut [u64],
-    reals: &mut [f32],
-    texts: &mut [u8],
-    whole: bool,
-    i: u64,
-) {
-    if whole {
-        read::keys(control, words, reals, texts, i);
-        return;
-    }
-    bench_calls::many_keys(control, words, reals, texts, 31);
-    bench_calls::without_text(
-        control,
-        words,
-        reals,
-        texts,
-        bench_calls::DEVICE,
-        bench_calls::frame(i),
-    );
-}
-
-// Turns, and how many requests they were given: each asks until none is left.
-fn repeat(
-    control: &mut [u64],
-    words: &mut [u64],
-    reals: &mut [f32],
-    texts: &mut [u8],
-    whole: bool,
-    times: u64,
-) -> u64 {
-    let mut given: u64 = 0;
-    let mut i: u64 = 0;
-    while i < times {
-        send(control, words, reals, texts, whole, i);
-        given = std::num::wrapping_add_u64(
-            given,
-            bench_calls::next(control, words, reals, texts, 33),
+impl Session {
+    // What a client sends in turn i: its requests in one read, or each on its own.
+    fn send(&mut self, whole: bool, i: u64) {
+        let control = &mut self.control;
+        let words = &mut self.words;
+        let reals = &mut self.reals;
+        let texts = &mut self.texts;
+        if whole {
+            return read::keys(control, words, reals, texts, i);
+        }
+        bench_calls::many_keys(control, words, reals, texts, 31);
+        bench_calls::without_text(
+            control,
+            words,
+            reals,
+            texts,
+            bench_calls::DEVICE,
+            bench_calls::frame(i),
         );
-        i += 1;
     }
-    given
+
+    // Turns, and how many requests they were given: each asks until none is left.
+    fn repeat(&mut self, whole: bool, times: u64) -> u64 {
+        let mut given: u64 = 0;
+        for i in 0..times {
+            self.send(whole, i);
+            given = given.wrapping_add(bench_calls::next(
+                &mut self.control,
+                &self.words,
+                &self.reals,
+                &self.texts,
+                33,
+            ));
+        }
+        given
+    }
 }
 
 fn main(rt: HostRuntime) -> io::Result<()> {
     let mut out = io::writer(&rt);
-    let mut control = [0u64; CONTROL_LENGTH];
-    let mut words = [0u64; WORDS_LENGTH];
-    let mut reals = [0.0f32; REALS_LENGTH];
-    let mut texts = [0u8; TEXTS_LENGTH];
+    let mut session = Session {
+        control: [0; CONTROL_LENGTH],
+        words: [0; WORDS_LENGTH],
+        reals: [0.0; REALS_LENGTH],
+        texts: [0; TEXTS_LENGTH],
+    };
     let mut word = [0u8; 16];
     let mut count = [0u8; 16];
     let _ = rt.arg(1, &mut word);
-    let m = match rt.arg(2, &mut count) {
-        Ok(m) => m,
-        Err(_) => 0,
-    };
-    bench_calls::begin(&mut control, 1, 4);
-    tell(
-        &mut out,
-        repeat(
-            &mut control,
-            &mut words,
-            &mut reals,
-            &mut texts,
-            word[0] == b'r',
-            bench_calls::number(&count, m),
-        ),
-    )?;
+    let digits = rt.arg(2, &mut count).unwrap_or(0);
+    let times = bench_calls::number(&count, digits);
+    bench_calls::begin(&mut session.control, 1, 4);
+    writeln!(out, "{}", session.repeat(word[0] == b'r', times))?;
     out.flush()
 }

@@ -27,10 +27,8 @@ pub fn keys(control: &mut [u64], words: &mut [u64], reals: &mut [f32], texts: &m
         length: 0,
     };
     let mut records = [frame; read_array::READ_LIMIT];
-    let mut k: usize = 0;
-    while k < 31 {
+    for k in 0..31 {
         records[k] = key(k as u32);
-        k += 1;
     }
     read_array::handle_array(control, words, reals, texts, records, 32, b"", 5, &mut out);
 }

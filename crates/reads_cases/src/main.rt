@@ -5,11 +5,10 @@
 use answers::Error;
 use control::{CONTROL_LENGTH, QUEUE_LIMIT};
 use converter::request;
-use converter::request::NextRequest;
 use eiproto::eiproto_enum::{DeviceType, KeyState};
 use handshake::handshake::{EisHandshaker, HandshakeMessage};
+use reads::ReadAnswer;
 use reads::record::RequestRecord;
-use reads::{First, ReadAnswer};
 use requests::eis::{
     ConnectionRequest, DeviceRequest, HandshakeRequest, InterfaceRequest, KeyboardRequest, Request,
     SeatRequest, TextRequest, TouchscreenRequest,
@@ -34,51 +33,50 @@ const TEXT: u64 = 0xff00_0000_0000_0009;
 
 // ---- the session
 
+// Its memory.
+#[derive(Drop)]
+struct Session {
+    control: [u64; CONTROL_LENGTH],
+    words: [u64; WORDS_LENGTH],
+    reals: [f32; REALS_LENGTH],
+    texts: [u8; TEXTS_LENGTH],
+}
+
 fn knows(shaking: EisHandshaker, name: &[u8], version: u32) -> EisHandshaker {
     let mut out = [0u8; 0];
     let message = HandshakeMessage::InterfaceVersion { version };
     shaking.handle_request(message, name, &mut out).handshaker
 }
 
-// The interfaces of the protocol itself, and those of a device.
-fn knows_all(shaking: EisHandshaker) -> EisHandshaker {
-    let mut h = shaking;
-    h = knows(h, b"ei_connection", 1);
-    h = knows(h, b"ei_callback", 1);
-    h = knows(h, b"ei_pingpong", 1);
-    h = knows(h, b"ei_seat", 2);
-    h = knows(h, b"ei_device", 3);
-    h
-}
-
-fn knows_devices(shaking: EisHandshaker) -> EisHandshaker {
-    let mut h = shaking;
-    h = knows(h, b"ei_pointer", 1);
-    h = knows(h, b"ei_pointer_absolute", 1);
-    h = knows(h, b"ei_scroll", 1);
-    h = knows(h, b"ei_button", 1);
-    h = knows(h, b"ei_keyboard", 1);
-    h = knows(h, b"ei_touchscreen", 2);
-    h = knows(h, b"ei_text", 1);
-    h
-}
+// The interfaces of the protocol itself, and those of a device, with their versions.
+const INTERFACES: [(&[u8], u32); 12] = [
+    (b"ei_connection", 1),
+    (b"ei_callback", 1),
+    (b"ei_pingpong", 1),
+    (b"ei_seat", 2),
+    (b"ei_device", 3),
+    (b"ei_pointer", 1),
+    (b"ei_pointer_absolute", 1),
+    (b"ei_scroll", 1),
+    (b"ei_button", 1),
+    (b"ei_keyboard", 1),
+    (b"ei_touchscreen", 2),
+    (b"ei_text", 1),
+];
 
 // The last serial is 7.
 fn begin(control: &mut [u64]) {
     let mut out = [0u8; 4096];
-    let shaking = knows_devices(knows_all(EisHandshaker::new(7, &mut out).handshaker));
+    let mut shaking = EisHandshaker::new(7, &mut out).handshaker;
+    for (name, version) in INTERFACES {
+        shaking = knows(shaking, name, version);
+    }
     let finished = shaking.handle_request(HandshakeMessage::Finish, b"", &mut out);
-    request::new(control, finished.response);
-    connection::add_seat(control, false, b"", 127, &mut out);
-    seat::add_device(
-        control,
-        SEAT,
-        false,
-        b"",
-        DeviceType::Virtual,
-        127,
-        &mut out,
-    );
+    if let Ok(Some(response)) = finished.outcome {
+        let _ = request::new(control, response);
+    }
+    let _ = connection::add_seat(control, None, 127, &mut out);
+    let _ = seat::add_device(control, SEAT, None, DeviceType::Virtual, 127, &mut out);
 }
 
 // ---- records: each without a part of the texts, or with this one
@@ -170,61 +168,32 @@ fn three(a: RequestRecord, b: RequestRecord, c: RequestRecord) -> [RequestRecord
 
 // ---- what is written
 
-fn write(to: &mut impl Write, text: &[u8]) -> io::Result<()> {
-    to.write_all(text)
-}
-
-fn number(to: &mut impl Write, n: u64) -> io::Result<()> {
-    write!(to, "{n}")
-}
-
-fn count(to: &mut impl Write, n: usize) -> io::Result<()> {
-    number(to, n as u64)
-}
-
-fn byte(to: &mut impl Write, b: u8) -> io::Result<()> {
-    write!(to, "{b:02x}")
-}
-
 // The first n bytes, in hexadecimal.
 fn hex(to: &mut impl Write, bytes: &[u8], n: usize) -> io::Result<()> {
-    let mut i = 0;
-    while i < bytes.len() {
-        if i < n {
-            byte(to, bytes[i])?;
-        }
-        i += 1;
+    for byte in bytes.iter().take(n) {
+        write!(to, "{byte:02x}")?;
     }
     Ok(())
 }
 
 fn refused(to: &mut impl Write, error: Error) -> io::Result<()> {
-    write(to, b", refused ")?;
-    number(to, error.number() as u64)?;
+    write!(to, ", refused {}", error.number())?;
     if let Error::InvalidInterfaceVersion { interface, version } = error {
-        write(to, b" interface ")?;
-        number(to, interface as u64)?;
-        write(to, b" version ")?;
-        number(to, version as u64)?;
+        write!(to, " interface {interface} version {version}")?;
     }
     Ok(())
 }
 
-fn answered(to: &mut impl Write, line: &[u8], r: ReadAnswer, out: &[u8]) -> io::Result<()> {
-    let refusal = r.refusal;
-    write(to, line)?;
-    write(to, b": accepted ")?;
-    count(to, r.accepted)?;
-    write(to, b", bytes ")?;
-    count(to, r.count)?;
-    if let First::Refused(error) = refusal {
+fn answered(to: &mut impl Write, line: &str, r: ReadAnswer, out: &[u8]) -> io::Result<()> {
+    write!(to, "{line}: accepted {}, bytes {}", r.accepted, r.count)?;
+    if let Some(error) = r.refusal {
         refused(to, error)?;
     }
     if 0 < r.count {
-        write(to, b": ")?;
+        write!(to, ": ")?;
         hex(to, out, r.count)?;
     }
-    write(to, b"\n")
+    writeln!(to)
 }
 
 fn act(to: &mut impl Write, given: EisRequest, text: &[u8]) -> io::Result<()> {
@@ -234,56 +203,38 @@ fn act(to: &mut impl Write, given: EisRequest, text: &[u8]) -> io::Result<()> {
             state,
             time,
             ..
-        } => {
-            write(to, b"    key ")?;
-            number(to, key as u64)?;
-            write(to, b" state ")?;
-            number(to, state.number() as u64)?;
-            write(to, b" time ")?;
-            number(to, time)?;
-        }
+        } => writeln!(to, "    key {key} state {} time {time}", state.number()),
         EisRequest::TextUtf8 { length, time, .. } => {
-            write(to, b"    text ")?;
+            write!(to, "    text ")?;
             hex(to, text, length as usize)?;
-            write(to, b" time ")?;
-            number(to, time)?;
+            writeln!(to, " time {time}")
         }
         EisRequest::Frame {
             last_serial,
             time,
             ..
-        } => {
-            write(to, b"    frame ")?;
-            number(to, last_serial as u64)?;
-            write(to, b" time ")?;
-            number(to, time)?;
-        }
-        _ => write(to, b"    another")?,
+        } => writeln!(to, "    frame {last_serial} time {time}"),
+        _ => writeln!(to, "    another"),
     }
-    write(to, b"\n")
 }
 
 // ---- reads
 
 // All that is queued, oldest first.
-fn take(
-    to: &mut impl Write,
-    control: &mut [u64],
-    words: &[u64],
-    reals: &[f32],
-    texts: &[u8],
-) -> io::Result<()> {
+fn take(to: &mut impl Write, session: &mut Session) -> io::Result<()> {
     let mut text = [0u8; 254];
-    let mut left = QUEUE_LIMIT;
-    while 0 < left {
-        match request::next_request(control, words, reals, texts, &mut text) {
-            NextRequest::Given(given) => act(to, given, &text)?,
-            _ => {
-                write(to, b"    none\n")?;
-                return Ok(());
-            }
+    for _ in 0..QUEUE_LIMIT {
+        let next = request::next_request(
+            &mut session.control,
+            &session.words,
+            &session.reals,
+            &session.texts,
+            &mut text,
+        );
+        match next {
+            Ok(Some(given)) => act(to, given, &text)?,
+            _ => return writeln!(to, "    none"),
         }
-        left -= 1;
     }
     Ok(())
 }
@@ -291,23 +242,25 @@ fn take(
 // A session with the first n of these records handed over, with these texts and so much of `out`; then a read of a frame at 500, and what is given.
 fn read(
     to: &mut impl Write,
-    line: &[u8],
+    line: &str,
     records: [RequestRecord; 32],
     n: usize,
     lent: &[u8],
     out: &mut [u8],
 ) -> io::Result<()> {
-    let mut control = [0u64; CONTROL_LENGTH];
-    let mut words = [0u64; WORDS_LENGTH];
-    let mut reals = [0.0f32; REALS_LENGTH];
-    let mut texts = [0u8; TEXTS_LENGTH];
+    let mut session = Session {
+        control: [0; CONTROL_LENGTH],
+        words: [0; WORDS_LENGTH],
+        reals: [0.0; REALS_LENGTH],
+        texts: [0; TEXTS_LENGTH],
+    };
     let mut none = [0u8; 0];
-    begin(&mut control);
+    begin(&mut session.control);
     let r = read_array::handle_array(
-        &mut control,
-        &mut words,
-        &mut reals,
-        &mut texts,
+        &mut session.control,
+        &mut session.words,
+        &mut session.reals,
+        &mut session.texts,
         records,
         n,
         lent,
@@ -316,23 +269,23 @@ fn read(
     );
     answered(to, line, r, out)?;
     read_array::handle_array(
-        &mut control,
-        &mut words,
-        &mut reals,
-        &mut texts,
+        &mut session.control,
+        &mut session.words,
+        &mut session.reals,
+        &mut session.texts,
         [frame(500); 32],
         1,
         b"",
         600,
         &mut none,
     );
-    take(to, &mut control, &words, &reals, &texts)
+    take(to, &mut session)
 }
 
 // With room enough, and the texts `abcd`.
 fn reads(
     to: &mut impl Write,
-    line: &[u8],
+    line: &str,
     records: [RequestRecord; 32],
     n: usize,
 ) -> io::Result<()> {
@@ -341,60 +294,48 @@ fn reads(
 }
 
 // The same of one record.
-fn one(to: &mut impl Write, line: &[u8], record: RequestRecord) -> io::Result<()> {
+fn one(to: &mut impl Write, line: &str, record: RequestRecord) -> io::Result<()> {
     reads(to, line, [record; 32], 1)
 }
 
 // The trial lines by their numbers.
 fn keys(to: &mut impl Write) -> io::Result<()> {
-    reads(to, b"1", [press(30); 32], 0)?;
-    reads(to, b"2", three(press(30), released(30), frame(500)), 3)?;
-    reads(to, b"3", three(press(30), bind(), press(31)), 3)?;
-    reads(to, b"8", two(bind(), utf8(TEXT, 5, 0)), 2)?;
-    reads(
-        to,
-        b"11",
-        three(press(30), release_keyboard(), press(31)),
-        3,
-    )
+    reads(to, "1", [press(30); 32], 0)?;
+    reads(to, "2", three(press(30), released(30), frame(500)), 3)?;
+    reads(to, "3", three(press(30), bind(), press(31)), 3)?;
+    reads(to, "8", two(bind(), utf8(TEXT, 5, 0)), 2)?;
+    reads(to, "11", three(press(30), release_keyboard(), press(31)), 3)
 }
 
 fn rooms(to: &mut impl Write) -> io::Result<()> {
     let mut short = [0u8; 18];
     let mut long = [0u8; 36];
-    read(
-        to,
-        b"4, 18 bytes",
-        two(sync(5), sync(6)),
-        2,
-        b"",
-        &mut short,
-    )?;
-    read(to, b"4, 36 bytes", two(sync(5), sync(6)), 2, b"", &mut long)
+    read(to, "4, 18 bytes", two(sync(5), sync(6)), 2, b"", &mut short)?;
+    read(to, "4, 36 bytes", two(sync(5), sync(6)), 2, b"", &mut long)
 }
 
 fn parts(to: &mut impl Write) -> io::Result<()> {
     let mut out = [0u8; 64];
     reads(
         to,
-        b"5",
+        "5",
         three(utf8(TEXT, 0, 2), utf8(TEXT, 1, 3), utf8(TEXT, 0, 4)),
         3,
     )?;
-    one(to, b"6, 3+2", utf8(TEXT, 3, 2))?;
-    one(to, b"6, 4+0", utf8(TEXT, 4, 0))?;
-    one(to, b"6, 5+0", utf8(TEXT, 5, 0))?;
+    one(to, "6, 3+2", utf8(TEXT, 3, 2))?;
+    one(to, "6, 4+0", utf8(TEXT, 4, 0))?;
+    one(to, "6, 5+0", utf8(TEXT, 5, 0))?;
     one(
         to,
-        b"6, 18446744073709551615+2",
+        "6, 18446744073709551615+2",
         utf8(TEXT, 18446744073709551615, 2),
     )?;
-    one(to, b"7, key 9+9", key_part(30, KeyState::Press, 9, 9))?;
-    one(to, b"7, on a keyboard 4+1", utf8(KEYBOARD, 4, 1))?;
-    one(to, b"7, on a keyboard 0+1", utf8(KEYBOARD, 0, 1))?;
+    one(to, "7, key 9+9", key_part(30, KeyState::Press, 9, 9))?;
+    one(to, "7, on a keyboard 4+1", utf8(KEYBOARD, 4, 1))?;
+    one(to, "7, on a keyboard 0+1", utf8(KEYBOARD, 0, 1))?;
     read(
         to,
-        b"7, on a keyboard, no UTF-8",
+        "7, on a keyboard, no UTF-8",
         [utf8(KEYBOARD, 0, 1); 32],
         1,
         b"\x80",
@@ -409,8 +350,8 @@ fn refusals(to: &mut impl Write) -> io::Result<()> {
         y: 0.0,
     };
     let cancel = TouchscreenRequest::Cancel { touchid: 1 };
-    reads(to, b"10", two(touch(2, down), touch(1, cancel)), 2)?;
-    one(to, b"11, name 0+1", name(0, 1))
+    reads(to, "10", two(touch(2, down), touch(1, cancel)), 2)?;
+    one(to, "11, name 0+1", name(0, 1))
 }
 
 fn main(rt: HostRuntime) -> io::Result<()> {

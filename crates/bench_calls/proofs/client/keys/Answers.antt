@@ -1,5 +1,4 @@
 -- A press, then a release. Assumes nothing.
-use Rattle.std.proofs.Common.{rules}
 use Rattle.bench_calls.proofs.Sends.{sent_join, sent_as}
 use Rattle.bench_calls.proofs.client.keys.Goals as goal
 

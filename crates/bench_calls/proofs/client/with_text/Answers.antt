@@ -1,5 +1,4 @@
 -- One call of `handle_request`. Assumes nothing.
-use Rattle.std.proofs.Common.{rules}
 use Rattle.bench_calls.specs.Sent.{Sent}
 use Rattle.bench_calls.proofs.client.with_text.Goals as goal
 

@@ -1,5 +1,4 @@
 -- The handshake, a seat, the devices. Assumes nothing.
-use Rattle.std.proofs.Common.{rules}
 use Rattle.bench_calls.specs.Begun.{Begun}
 use Rattle.bench_calls.proofs.start.begin.Goals as goal
 

@@ -1,7 +1,6 @@
 -- One message of the client. Assumes nothing.
-use Rattle.std.proofs.Common.{rules}
 use Rattle.bench_calls.specs.Begun.{Knows}
 use Rattle.bench_calls.proofs.start.negotiated.Goals as goal
 
 pub returns : goal.returns
-returns c = Knows.knows c.handle_request-a.ensures
+returns c = Knows.knows c.handle_request.ensures
