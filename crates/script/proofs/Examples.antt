@@ -7,7 +7,7 @@ use mathlib.Core.List.{[], ◌∷◌, map}
 use lib.Ieee.{nan, fin, inf}
 use lib.IntN.{pos, negsuc}
 use lib.ListN.{length}
-use Rattle.script.specs.declared.line.LineEnd.{LineEnd}
+use Rattle.std.specs.Prelude.{Some, None}
 use Rattle.script.specs.declared.verb.Verb.TheVariants.{Now, Out, Start, HandshakeInterfaceVersion, HandshakeFinish, SeatBind, KeyboardKey, ScrollScrollDiscrete, PointerMotionRelative, TextUtf8, AddSeat, AddDevice, Disconnected, HasCapability, Read, Message, WriteMessage, ReadMessage}
 use Rattle.eiproto.specs.Interface.{ascii}
 use Rattle.script.specs.Words.{words}
@@ -151,14 +151,14 @@ unfolding words ascii
 split = refl
 
 -- lines that end with a newline, with a carriage return before it, and not yet
-ends : line_end (0x61 ∷ 0x0a ∷ 0x62 ∷ 0x0d ∷ 0x0a ∷ 0x63 ∷ 0x0d ∷ []) 0 7 ≡ LineEnd.At 1 2
+ends : line_end (0x61 ∷ 0x0a ∷ 0x62 ∷ 0x0d ∷ 0x0a ∷ 0x63 ∷ 0x0d ∷ []) 0 7 ≡ Some (record { end = 1; next = 2 })
 unfolding line_end
 ends = refl
 
-returned : line_end (0x61 ∷ 0x0a ∷ 0x62 ∷ 0x0d ∷ 0x0a ∷ 0x63 ∷ 0x0d ∷ []) 2 7 ≡ LineEnd.At 3 5
+returned : line_end (0x61 ∷ 0x0a ∷ 0x62 ∷ 0x0d ∷ 0x0a ∷ 0x63 ∷ 0x0d ∷ []) 2 7 ≡ Some (record { end = 3; next = 5 })
 unfolding line_end
 returned = refl
 
-goes_on : line_end (0x61 ∷ 0x0a ∷ 0x62 ∷ 0x0d ∷ 0x0a ∷ 0x63 ∷ 0x0d ∷ []) 2 4 ≡ LineEnd.Nothing
+goes_on : line_end (0x61 ∷ 0x0a ∷ 0x62 ∷ 0x0d ∷ 0x0a ∷ 0x63 ∷ 0x0d ∷ []) 2 4 ≡ None
 unfolding line_end
 goes_on = refl

@@ -3,7 +3,9 @@ use Prim.Native.Nat.{ℕ, zero, suc, ◌+◌, ◌-◌, ◌≤◌, ◌<◌, min}
 use mathlib.Core.Path.{◌≡◌, refl, sym, ap, ap₂, ◌∙◌, subst}
 use mathlib.Core.Bool.{Bool, true, false, cond, ◌&&◌}
 use mathlib.Core.List.{List, [], ◌∷◌, ◌++◌}
-use mathlib.Core.Option.{Option, none, some}
+use mathlib.Core.Option as math
+use mathlib.Core.Option.{none, some}
+use Rattle.std.specs.Prelude.{Option, Some, None}
 use mathlib.Core.Logic.{dite}
 use native.Mathlib.Decide.{dec_lt}
 use native.Mathlib.Omega.{arith}
@@ -13,18 +15,16 @@ use lib.Dec.{eqb, ltb}
 use lib.ListN.{length, get_or, take, drop, length-take, length-drop, drop_of_length-le}
 use lib.Seq.{drop-cons, drop-drop, take_all, get_or-take, get_or-drop}
 use Rattle.script.specs.declared.verb.Kind.{Kind}
-use Rattle.script.specs.declared.verb.Slot.{Slot}
-use Rattle.script.specs.declared.verb.Slot.TheVariants.{Empty, Of}
 use Rattle.script.specs.declared.value.Value.{Value}
-use Rattle.script.specs.declared.line.Step.{Step}
+use Rattle.script.specs.declared.line.Args.{Args}
 use Rattle.script.specs.declared.line.LineEnd.{LineEnd}
 use Rattle.eiproto.specs.Interface.{same_bytes}
 use Rattle.script.specs.Words.{before, joined, words}
-use Rattle.script.specs.Verbs.{Entry, settings, row_at, kinds_of, lookup_from, lookup, table, slot_at}
+use Rattle.script.specs.Verbs.{Entry, settings, row_at, kinds_of, lookup_from, lookup, table, kind_at}
 use Rattle.script.specs.Script.{Arg, blank, setting, call, no_call, read_as, read_args, behind, first, is_blank, reading}
-use Rattle.script.specs.Told.{one, part, words_from, behind_space, present, Stepped}
+use Rattle.script.specs.Told.{one, part, words_from, behind_space, present, Stepped, value_told, Given}
 use Rattle.script.specs.Split.{filled, line_length, line_end}
-use Rattle.script.proofs.Words.{take-before, before-le}
+use Rattle.script.proofs.Words.{some_eq, none_some, take-before, before-le}
 use Rattle.script.proofs.Table.{row-kinds}
 
 -- ---- the first word of a line, and the others
@@ -68,62 +68,54 @@ module _ (line : List ℕ) where
 
 -- ---- the words behind the first, slot by slot
 
-module _ (rest : Option (List Arg)) where
-  first_some : (o : Option Arg) (xs : List Arg) → some xs ≡ one o → first o rest ≡ behind xs rest
+module _ (rest : math.Option (List Arg)) where
+  first_some : (o : math.Option Arg) (xs : List Arg) → some xs ≡ one o → first o rest ≡ behind xs rest
   first_some none xs e = absurd (let z : ◌≡◌ {A = ℕ} 0 1 = cc in omega arith)
   first_some (some x) xs e = let z : x ∷ [] ≡ xs = cc in ap (λ (l : List Arg). behind l rest) z
 
-  first-none : (o : Option Arg) → none ≡ one o → first o rest ≡ none
+  first-none : (o : math.Option Arg) → none ≡ one o → first o rest ≡ none
   first-none none e = refl
   first-none (some x) e = absurd (let z : ◌≡◌ {A = ℕ} 0 1 = cc in omega arith)
 
-pub one_value : (o : Option Arg) (xs : List Arg) → some xs ≡ one o → length xs ≡ 1
+pub one_value : (o : math.Option Arg) (xs : List Arg) → some xs ≡ one o → length xs ≡ 1
 one_value none xs e = absurd (let z : ◌≡◌ {A = ℕ} 0 1 = cc in omega arith)
 one_value (some x) xs e = let z : xs ≡ x ∷ [] = cc in ap length z
 
 module _ (line : List ℕ) (at : ℕ) where
-  pub slot-empty : (ks : List Kind) → read_args (present Empty ++ ks) (words_from at line) ≡ behind [] (read_args ks (words_from at line))
+  pub slot-empty : (ks : List Kind) → read_args (present None ++ ks) (words_from at line) ≡ behind [] (read_args ks (words_from at line))
   slot-empty ks = go (read_args ks (words_from at line))
     where
-      go : (o : Option (List Arg)) → o ≡ behind [] o
+      go : (o : math.Option (List Arg)) → o ≡ behind [] o
       go none = refl
       go (some xs) = refl
 
-  pub slot-missing : (k : Kind) → length line ≤ at → (ks : List Kind) → read_args (present (Of k) ++ ks) (words_from at line) ≡ none
+  pub slot-missing : (k : Kind) → length line ≤ at → (ks : List Kind) → read_args (present (Some k) ++ ks) (words_from at line) ≡ none
   unfolding read_args
   slot-missing k h ks = rw (words-none line at h)
 
   module _ (k : Kind) (end : ℕ) (h : at < length line) (e : end ≡ at + 1 + length (before 0x20 (drop (at + 1) line))) where
     pub slot_read : (xs : List Arg) → some xs ≡ one (read_as k (part (at + 1) end line)) → (ks : List Kind)
-        → read_args (present (Of k) ++ ks) (words_from at line) ≡ behind xs (read_args ks (words_from end line))
+        → read_args (present (Some k) ++ ks) (words_from at line) ≡ behind xs (read_args ks (words_from end line))
     unfolding read_args
     slot_read xs f ks =
         rw (words_at line at end h e) (first_some (read_args ks (words_from end line)) (read_as k (part (at + 1) end line)) xs f)
 
     pub slot-bad : none ≡ one (read_as k (part (at + 1) end line)) → (ks : List Kind)
-        → read_args (present (Of k) ++ ks) (words_from at line) ≡ none
+        → read_args (present (Some k) ++ ks) (words_from at line) ≡ none
     unfolding read_args
     slot-bad f ks = rw (words_at line at end h e) (first-none (read_args ks (words_from end line)) (read_as k (part (at + 1) end line)) f)
 
-  module _ (slot slot' : Slot) (q : slot ≡ slot') (s : Step) (is : Stepped line at slot s) where
-    pub stepped : (v : Value) (next : ℕ) → s ≡ Step.Read v next → Stepped line at slot' (Step.Read v next)
-    stepped v next e = subst (λ (x : Slot). Stepped line at x (Step.Read v next)) q (subst (λ (x : Step). Stepped line at slot x) e is)
-
-    pub stopped : s ≡ Step.Nothing → Stepped line at slot' Step.Nothing
-    stopped e = subst (λ (x : Slot). Stepped line at x Step.Nothing) q (subst (λ (x : Step). Stepped line at slot x) e is)
-
 -- the kinds of a row from a place on
-abbrev pub from1 : List Kind → List Kind
-from1 ks = present (slot_at 1 ks) ++ (present (slot_at 2 ks) ++ (present (slot_at 3 ks) ++ []))
+abbrev from1 : List Kind → List Kind
+from1 ks = present (kind_at 1 ks) ++ (present (kind_at 2 ks) ++ (present (kind_at 3 ks) ++ []))
 
-abbrev pub from2 : List Kind → List Kind
-from2 ks = present (slot_at 2 ks) ++ (present (slot_at 3 ks) ++ [])
+abbrev from2 : List Kind → List Kind
+from2 ks = present (kind_at 2 ks) ++ (present (kind_at 3 ks) ++ [])
 
-abbrev pub from3 : List Kind → List Kind
-from3 ks = present (slot_at 3 ks) ++ []
+abbrev from3 : List Kind → List Kind
+from3 ks = present (kind_at 3 ks) ++ []
 
-split : (ks : List Kind) → length ks ≤ 4 → ks ≡ present (slot_at 0 ks) ++ from1 ks
-unfolding slot_at
+split : (ks : List Kind) → length ks ≤ 4 → ks ≡ present (kind_at 0 ks) ++ from1 ks
 split [] h = refl
 split (a ∷ []) h = refl
 split (a ∷ b ∷ []) h = refl
@@ -132,25 +124,79 @@ split (a ∷ b ∷ c ∷ d ∷ []) h = refl
 split (a ∷ b ∷ c ∷ d ∷ e ∷ ks) h = absurd (omega arith)
 
 -- a row's slots are filled from the first on
-pub in_turn_lem : (k : ℕ) (ks : List Kind) → length (present (slot_at (suc k) ks)) ≤ length (present (slot_at k ks))
-unfolding slot_at
+in_turn_lem : (k : ℕ) (ks : List Kind) → length (present (kind_at (suc k) ks)) ≤ length (present (kind_at k ks))
 in_turn_lem zero [] = omega arith
 in_turn_lem zero (a ∷ []) = omega arith
 in_turn_lem zero (a ∷ b ∷ ks) = omega arith
 in_turn_lem (suc k) [] = omega arith
 in_turn_lem (suc k) (a ∷ ks) = in_turn_lem k ks
 
-pub row-split : (i : ℕ) (r : Bool) → i < 59 → kinds_of r (row_at i) ≡ present (slot_at 0 (kinds_of r (row_at i))) ++ from1 (kinds_of r (row_at i))
-row-split i r h = split (kinds_of r (row_at i)) (row-kinds i h r)
-
-module _ (line : List ℕ) (at : ℕ) where
-  pub args_end : length line ≤ at → read_args [] (words_from at line) ≡ some []
+-- the words behind the first, slot by slot: where one stops it, there are no arguments
+module _ (line : List ℕ) (at i : ℕ) (r : Bool) (h : i < 59) where
+  args_end : (u : ℕ) → length line ≤ u → read_args [] (words_from u line) ≡ math.some []
   unfolding read_args
-  args_end h = rw (words-none line at h)
+  args_end u h = rw (words-none line u h)
 
-  pub args_more : at < length line → read_args [] (words_from at line) ≡ none
+  args_more : (u : ℕ) → u < length line → read_args [] (words_from u line) ≡ math.none
   unfolding read_args
-  args_more h = rw (words_at line at (at + 1 + length (before 0x20 (drop (at + 1) line))) h refl)
+  args_more u h = rw (words_at line u (u + 1 + length (before 0x20 (drop (u + 1) line))) h refl)
+
+  begun : read_args (kinds_of r (row_at i)) (words_from at line) ≡ read_args (present (kind_at 0 (kinds_of r (row_at i))) ++ from1 (kinds_of r (row_at i))) (words_from at line)
+  begun = ap (λ (l : List Kind). read_args l (words_from at line)) (split (kinds_of r (row_at i)) (row-kinds i h r))
+
+  none_given : (q : Option Args) → q ≡ None → none ≡ read_args (kinds_of r (row_at i)) (words_from at line) → Given line at i r q
+  none_given q n e = subst (Given line at i r) (sym n) (record { reads = e; in_turn = tt })
+
+  pub none_a : (q : Option Args) → q ≡ None → Stepped line at (kind_at 0 (kinds_of r (row_at i))) None → Given line at i r q
+  none_a q n s = none_given q n (sym (begun ∙ s (from1 (kinds_of r (row_at i)))))
+
+  module _ (a : Value) (p : ℕ) (sa : Stepped line at (kind_at 0 (kinds_of r (row_at i))) (Some (a, p))) where
+    after_a : read_args (kinds_of r (row_at i)) (words_from at line) ≡ behind (value_told line a) (read_args (from1 (kinds_of r (row_at i))) (words_from p line))
+    after_a = begun ∙ sa.1.1 (from1 (kinds_of r (row_at i)))
+
+    pub none_b : (q : Option Args) → q ≡ None → Stepped line p (kind_at 1 (kinds_of r (row_at i))) None → Given line at i r q
+    none_b q n s = none_given q n (sym (after_a ∙ ap (behind (value_told line a)) (s (from2 (kinds_of r (row_at i))))))
+
+    module _ (b : Value) (q : ℕ) (sb : Stepped line p (kind_at 1 (kinds_of r (row_at i))) (Some (b, q))) where
+      after_b : read_args (kinds_of r (row_at i)) (words_from at line)
+          ≡ behind (value_told line a) (behind (value_told line b) (read_args (from2 (kinds_of r (row_at i))) (words_from q line)))
+      after_b = after_a ∙ ap (behind (value_told line a)) (sb.1.1 (from2 (kinds_of r (row_at i))))
+
+      pub none_c : (g : Option Args) → g ≡ None → Stepped line q (kind_at 2 (kinds_of r (row_at i))) None → Given line at i r g
+      none_c g n s =
+          none_given g n
+          (sym (after_b ∙ ap (λ (o : math.Option (List Arg)). behind (value_told line a) (behind (value_told line b) o)) (s (from3 (kinds_of r (row_at i))))))
+
+      module _ (c : Value) (t : ℕ) (sc : Stepped line q (kind_at 2 (kinds_of r (row_at i))) (Some (c, t))) where
+        abbrev three : math.Option (List Arg) → math.Option (List Arg)
+        three o = behind (value_told line a) (behind (value_told line b) (behind (value_told line c) o))
+
+        after_c : read_args (kinds_of r (row_at i)) (words_from at line) ≡ three (read_args (from3 (kinds_of r (row_at i))) (words_from t line))
+        after_c =
+            after_b
+            ∙ ap (λ (o : math.Option (List Arg)). behind (value_told line a) (behind (value_told line b) o)) (sc.1.1 (from3 (kinds_of r (row_at i))))
+
+        pub none_d : (g : Option Args) → g ≡ None → Stepped line t (kind_at 3 (kinds_of r (row_at i))) None → Given line at i r g
+        none_d g n s = none_given g n (sym (after_c ∙ ap three (s [])))
+
+        module _ (d : Value) (u : ℕ) (sd : Stepped line t (kind_at 3 (kinds_of r (row_at i))) (Some (d, u))) where
+          after_d : read_args (kinds_of r (row_at i)) (words_from at line) ≡ three (behind (value_told line d) (read_args [] (words_from u line)))
+          after_d = after_c ∙ ap three (sd.1.1 [])
+
+          pub more_args : u < length line → Given line at i r None
+          more_args m =
+              none_given None refl
+              (sym (after_d ∙ ap (λ (o : math.Option (List Arg)). three (behind (value_told line d) o)) (args_more u m)))
+
+          pub all_given : length line ≤ u → Given line at i r (Some (record { a = a; b = b; c = c; d = d }))
+          all_given e = record {
+            reads =
+                sym (after_d ∙ ap (λ (o : math.Option (List Arg)). three (behind (value_told line d) o)) (args_end u e));
+            in_turn = (
+              omega (arith, sa.1.0, sb.1.0, in_turn_lem 0 (kinds_of r (row_at i))),
+              (omega (arith, sb.1.0, sc.1.0, in_turn_lem 1 (kinds_of r (row_at i))), omega (arith, sc.1.0, sd.1.0, in_turn_lem 2 (kinds_of r (row_at i)))),
+            );
+          }
 
 -- ---- what a line is
 
@@ -192,6 +238,9 @@ module _ (r : Bool) (line w : List ℕ) (ws : List (List ℕ)) (b : is_blank lin
 
 -- ---- where a line ends
 
+abbrev ended : (end next : ℕ) → LineEnd
+ended end next = record { end = end; next = next }
+
 no_length : (l : List ℕ) → length l ≡ 0 → line_length l ≡ 0
 unfolding line_length
 no_length [] e = refl
@@ -215,7 +264,7 @@ module _ (buf : List ℕ) (from to stop : ℕ) (m : stop ≡ min to (length buf)
   length-filled : length (filled buf from to) ≡ stop - from
   length-filled = omega (arith, length-drop from (take to buf), length-take to buf)
 
-  pub end_empty : stop ≤ from → LineEnd.Nothing ≡ line_end buf from to
+  pub end_empty : stop ≤ from → None ≡ line_end buf from to
   unfolding line_end
   end_empty h = rw (le-ltb (length (before 0x0a (filled buf from to))) (length (filled buf from to)) (omega (arith, length-filled)))
 
@@ -226,22 +275,22 @@ module _ (buf : List ℕ) (from to stop : ℕ) (m : stop ≡ min to (length buf)
     pub end_below : r ≤ stop
     end_below = omega (arith, placed, before-le 0x0a (filled buf from to), length-filled)
 
-    pub end_none : r ≡ stop → LineEnd.Nothing ≡ line_end buf from to
+    pub end_none : r ≡ stop → None ≡ line_end buf from to
     unfolding line_end
     end_none q = rw (le-ltb (length (before 0x0a (filled buf from to))) (length (filled buf from to)) (omega (arith, length-filled, placed)))
 
     module _ (q : r ≡ stop → ⊥) where
-      at_end : (n : ℕ) → line_length (before 0x0a (filled buf from to)) ≡ n → LineEnd.At (from + n) (r + 1) ≡ line_end buf from to
+      at_end : (n : ℕ) → line_length (before 0x0a (filled buf from to)) ≡ n → Some (ended (from + n) (r + 1)) ≡ line_end buf from to
       unfolding line_end
       at_end n f =
           let k : length (before 0x0a (filled buf from to)) < length (filled buf from to) = omega (arith, end_below, length-filled, placed, q) in
           let g : from + length (before 0x0a (filled buf from to)) + 1 ≡ r + 1 = omega (arith, placed) in
           sym (rw (lt-ltb (length (before 0x0a (filled buf from to))) (length (filled buf from to)) k, f, g))
 
-      pub end_short : r ≡ from → LineEnd.At from (r + 1) ≡ line_end buf from to
+      pub end_short : r ≤ from → Some (ended r (r + 1)) ≡ line_end buf from to
       end_short g =
-          let z : from ≡ from + 0 = omega arith in
-          ap (λ (k : ℕ). LineEnd.At k (r + 1)) z
+          let z : r ≡ from + 0 = omega (arith, placed) in
+          ap (λ (k : ℕ). Some (ended k (r + 1))) z
           ∙ at_end 0 (no_length (before 0x0a (filled buf from to)) (omega (arith, placed)))
 
       -- the last byte before the newline
@@ -258,17 +307,17 @@ module _ (buf : List ℕ) (from to stop : ℕ) (m : stop ≡ min to (length buf)
           ∙ get_or-take to buf (from + k) 0 v
           ∙ ap (λ (y : ℕ). get_or buf y 0) x
 
-      pub end_return : (r ≡ from → ⊥) → get_or buf (r - 1) 0 ≡ 0x0d → LineEnd.At (r - 1) (r + 1) ≡ line_end buf from to
+      pub end_return : from < r → get_or buf (r - 1) 0 ≡ 0x0d → Some (ended (r - 1) (r + 1)) ≡ line_end buf from to
       end_return g f =
           let l = before 0x0a (filled buf from to) in
           let z : r - 1 ≡ from + (length l - 1) = omega (arith, placed, g) in
-          ap (λ (k : ℕ). LineEnd.At k (r + 1)) z ∙ at_end (length l - 1) (cut l (omega (arith, placed, g)) (last_byte (omega (arith, placed, g)) ∙ f))
+          ap (λ (k : ℕ). Some (ended k (r + 1))) z ∙ at_end (length l - 1) (cut l (omega (arith, placed, g)) (last_byte g ∙ f))
 
-      pub end-plain : (r ≡ from → ⊥) → (get_or buf (r - 1) 0 ≡ 0x0d → ⊥) → LineEnd.At r (r + 1) ≡ line_end buf from to
+      pub end-plain : from < r → (get_or buf (r - 1) 0 ≡ 0x0d → ⊥) → Some (ended r (r + 1)) ≡ line_end buf from to
       end-plain g f =
           let l = before 0x0a (filled buf from to) in
           let z : r ≡ from + length l = placed in
-          ap (λ (k : ℕ). LineEnd.At k (r + 1)) z ∙ at_end (length l) (whole l (omega (arith, placed, g)) (λ e. f (sym (last_byte (omega (arith, placed, g))) ∙ e)))
+          ap (λ (k : ℕ). Some (ended k (r + 1))) z ∙ at_end (length l) (whole l (omega (arith, placed, g)) (λ e. f (sym (last_byte g) ∙ e)))
 
 line_length_lem : (l : List ℕ) → line_length l ≤ length l
 unfolding line_length
@@ -279,23 +328,23 @@ line_length_lem l = go (ltb 0 (length l) && eqb (get_or l (length l - 1) 0) 0x0d
     go false = omega arith
 
 -- an end that is found lies in what is filled, and the next line begins behind it
-pub end_bounds : (buf : List ℕ) (from to end next : ℕ) → line_end buf from to ≡ LineEnd.At end next
-    → (from ≤ end) × ((end < next) × ((next ≤ to) × (next ≤ length buf)))
+pub end_bounds : (buf : List ℕ) (from to : ℕ) (r : LineEnd) → line_end buf from to ≡ Some r
+    → (from ≤ r.end) × ((r.end < r.next) × ((r.next ≤ to) × (r.next ≤ length buf)))
 unfolding line_end
-end_bounds buf from to end next e = go (ltb (length l) (length (filled buf from to))) refl e
+end_bounds buf from to r e = go (ltb (length l) (length (filled buf from to))) refl e
   where
     l : List ℕ
     l = before 0x0a (filled buf from to)
 
     go : (t : Bool) → ltb (length l) (length (filled buf from to)) ≡ t
-        → cond t (LineEnd.At (from + line_length l) (from + length l + 1)) LineEnd.Nothing ≡ LineEnd.At end next
-        → (from ≤ end) × ((end < next) × ((next ≤ to) × (next ≤ length buf)))
+        → cond t (Some (ended (from + line_length l) (from + length l + 1))) None ≡ Some r
+        → (from ≤ r.end) × ((r.end < r.next) × ((r.next ≤ to) × (r.next ≤ length buf)))
     go true q f =
-        let a : from + line_length l ≡ end = cc in
-        let b : from + length l + 1 ≡ next = cc in
+        let a : from + line_length l ≡ r.end = ap (λ (x : LineEnd). x.end) (some_eq f) in
+        let b : from + length l + 1 ≡ r.next = ap (λ (x : LineEnd). x.next) (some_eq f) in
         let h = ltb-true (length l) (length (filled buf from to)) q in
         let m = length-drop from (take to buf) in
         let n = length-take to buf in
         let s = line_length_lem l in
         (omega arith, (omega arith, (omega arith, omega arith)))
-    go false q f = absurd (let z : ◌≡◌ {A = ℕ} 0 1 = cc in omega arith)
+    go false q f = absurd (none_some f)

@@ -1,10 +1,10 @@
 -- Numbers read digit by digit. Assumes nothing.
-use Prim.Native.Nat.{ℕ, ◌+◌, ◌-◌, ◌*◌, ◌/◌, ◌^◌, ◌≤◌, ◌<◌}
+use Prim.Native.Nat.{ℕ, ◌+◌, ◌*◌, ◌^◌, ◌≤◌, ◌<◌}
 use mathlib.Core.Path.{◌≡◌, refl, sym, ap, ◌∙◌}
 use mathlib.Core.Bool.{Bool, true, false, cond}
 use mathlib.Core.List.{List, [], ◌∷◌}
 use mathlib.Core.Option.{none, some}
-use native.Mathlib.Nat.{le-div_iff_mul-le, div-lt_iff_lt-mul, mul-le-mul_left, mul-one}
+use native.Mathlib.Nat.{mul-le-mul_left, mul-one}
 use native.Mathlib.Omega.{arith}
 use native.Mathlib.Numerals.{add-one}
 use borrow.Author.Tests.{lt-ltb, le-ltb}
@@ -41,38 +41,39 @@ too_large base v (c ∷ l) b h =
     go true e = e
     go false e = refl
 
-module _ (base d v : ℕ) (b : 1 ≤ base) where
-  pub over : (2 ^ 64 - 1 - d) / base < v → d < 2 ^ 64 → 2 ^ 64 ≤ v * base + d
-  over h k = let g = (div-lt_iff_lt-mul b).0 h in omega (arith, g)
-
-  pub room : v ≤ (2 ^ 64 - 1 - d) / base → d < 2 ^ 64 → v * base + d < 2 ^ 64
-  room h k = let g = (le-div_iff_mul-le b).0 h in omega (arith, g)
-
-module _ (w : List ℕ) (from base : ℕ) where
-  pub digits-none : length w ≤ from → none ≡ that fits64 (digits base (drop from w))
+module _ (w : List ℕ) (base : ℕ) where
+  pub digits-none : length w ≡ 0 → none ≡ that fits64 (digits base w)
   unfolding digits
-  digits-none h = rw (drop_of_length-le w h)
+  digits-none h = go w h
+    where
+      go : (w : List ℕ) → length w ≡ 0 → none ≡ that fits64 (digits base w)
+      go [] h = refl
+      go (c ∷ l) h = absurd (omega arith)
 
-  pub digits-start : from < length w → digits base (drop from w) ≡ digits_from base 0 (drop from w)
+  pub digits-start : (length w ≡ 0 → ⊥) → digits base w ≡ digits_from base 0 w
   unfolding digits
-  digits-start h = rw (drop-cons w from 0 h)
+  digits-start h = go w h
+    where
+      go : (w : List ℕ) → (length w ≡ 0 → ⊥) → digits base w ≡ digits_from base 0 w
+      go [] h = absurd (h refl)
+      go (c ∷ l) h = refl
 
-  module _ (v i : ℕ) (inv : digits base (drop from w) ≡ digits_from base v (drop i w)) where
-    pub digits-end : length w ≤ i → v < 2 ^ 64 → some v ≡ that fits64 (digits base (drop from w))
+  module _ (n i : ℕ) (inv : digits base w ≡ digits_from base n (drop i w)) where
+    pub digits-end : length w ≤ i → n < 2 ^ 64 → some n ≡ that fits64 (digits base w)
     unfolding digits_from
-    digits-end h k = sym (rw (inv, drop_of_length-le w h, lt-ltb v (2 ^ 64) k))
+    digits-end h k = sym (rw (inv, drop_of_length-le w h, lt-ltb n (2 ^ 64) k))
 
     module _ (h : i < length w) where
-      pub digits-stop : base ≤ digit (get_or w i 0) → none ≡ that fits64 (digits base (drop from w))
+      pub digits-stop : base ≤ digit (get_or w i 0) → none ≡ that fits64 (digits base w)
       unfolding digits_from
       digits-stop k = sym (rw (inv, drop-cons w i 0 h, le-ltb (digit (get_or w i 0)) base k))
 
       pub digits_step : digit (get_or w i 0) < base
-          → digits base (drop from w) ≡ digits_from base (v * base + digit (get_or w i 0)) (drop (i + 1) w)
+          → digits base w ≡ digits_from base (n * base + digit (get_or w i 0)) (drop (i + 1) w)
       unfolding digits_from
       digits_step k = inv ∙ rw (drop-cons w i 0 h, lt-ltb (digit (get_or w i 0)) base k, add-one)
 
-      pub digits-over : 1 ≤ base → digit (get_or w i 0) < base → 2 ^ 64 ≤ v * base + digit (get_or w i 0)
-          → none ≡ that fits64 (digits base (drop from w))
+      pub digits-over : 1 ≤ base → digit (get_or w i 0) < base → 2 ^ 64 ≤ n * base + digit (get_or w i 0)
+          → none ≡ that fits64 (digits base w)
       digits-over b k o =
-          too_large base (v * base + digit (get_or w i 0)) (drop (i + 1) w) b o ∙ ap (that fits64) (sym (digits_step k))
+          too_large base (n * base + digit (get_or w i 0)) (drop (i + 1) w) b o ∙ ap (that fits64) (sym (digits_step k))

@@ -5,10 +5,11 @@ use mathlib.Core.Bool.{Bool, true, false, ◌&&◌, false≢true}
 use mathlib.Core.List.{List, [], ◌∷◌}
 use mathlib.Core.Option.{none, some}
 use native.Mathlib.Omega.{arith}
-use borrow.Author.Tests.{lt-ltb, le-ltb}
-use lib.Dec.{ltb}
-use lib.ListN.{length, get_or, take, drop, length-take, length-drop, drop_of_length-le}
-use lib.Seq.{drop-cons, drop-drop, take-nil, get_or-take, get_or-drop}
+use borrow.Author.Tests.{eq-eqb, ne_eqb}
+use lib.Dec.{ltb, eqb}
+use Rattle.std.specs.List.{list_all}
+use lib.ListN.{length, get_or, take, drop, length-take, length-drop}
+use lib.Seq.{drop-drop, take-nil, get_or-take, get_or-drop}
 use Rattle.script.specs.declared.text.Text.{Text}
 use Rattle.eiproto.specs.Interface.{ascii}
 use Rattle.script.specs.Words.{starts_with}
@@ -18,21 +19,33 @@ use Rattle.script.specs.Script.{text, text_of}
 use Rattle.script.specs.Told.{one, part}
 use Rattle.script.proofs.Words.{starts-length}
 
-two : (l : List ℕ) (i : ℕ) → i + 1 < length l → drop i l ≡ get_or l i 0 ∷ (get_or l (i + 1) 0 ∷ drop (i + 2) l)
-two l i h =
-    let a : i < length l = omega arith in
-    let b : suc i < length l = omega arith in
-    let c : suc i ≡ i + 1 = omega arith in
-    let d : suc (suc i) ≡ i + 2 = omega arith in
-    drop-cons l i 0 a ∙ rw (drop-cons l (suc i) 0 b, d, c)
-
 -- ---- whether a word is a text
 
-single : (l : List ℕ) → length l ≡ 1 → pairs l ≡ false
+pairs_all : (l : List ℕ) → pairs l ≡ (eqb (length l % 2) 0 && list_all (λ c. ltb (digit c) 16) l)
 unfolding pairs
-single [] h = absurd (omega arith)
-single (c ∷ []) h = refl
-single (c ∷ d ∷ l) h = absurd (omega arith)
+pairs_all [] = refl
+pairs_all (c ∷ []) = refl
+pairs_all (c ∷ d ∷ l) =
+    let n : length l % 2 ≡ suc (suc (length l)) % 2 = omega arith in
+    go (ltb (digit c) 16) (ltb (digit d) 16) (eqb (length l % 2) 0) (pairs_all l)
+    ∙ ap (λ (k : ℕ). eqb k 0 && (ltb (digit c) 16 && (ltb (digit d) 16 && list_all (λ c. ltb (digit c) 16) l))) n
+  where
+    go : (t u p : Bool) → pairs l ≡ (p && list_all (λ c. ltb (digit c) 16) l)
+        → (t && (u && pairs l)) ≡ (p && (t && (u && list_all (λ c. ltb (digit c) 16) l)))
+    go true true p e = e
+    go true false true e = refl
+    go true false false e = refl
+    go false u true e = refl
+    go false u false e = refl
+
+module _ (l : List ℕ) where
+  pub pairs_even : length l % 2 ≡ 0 → list_all (λ c. ltb (digit c) 16) l ≡ pairs l
+  pairs_even e = sym (pairs_all l ∙ ap (λ (t : Bool). t && list_all (λ c. ltb (digit c) 16) l) (eq-eqb (length l % 2) 0 e))
+
+  pub pairs_odd : (length l % 2 ≡ 0 → ⊥) → eqb (length l % 2) 0 ≡ pairs l
+  pairs_odd n =
+      let f : eqb (length l % 2) 0 ≡ false = ne_eqb (length l % 2) 0 n in
+      f ∙ sym (pairs_all l ∙ ap (λ (t : Bool). t && list_all (λ c. ltb (digit c) 16) l) f)
 
 module _ (w : List ℕ) where
   pub no_text : starts_with (ascii "t:") w ≡ false → false ≡ is_text w
@@ -42,32 +55,6 @@ module _ (w : List ℕ) where
   pub text_start_lem : starts_with (ascii "t:") w ≡ true → is_text w ≡ pairs (drop 2 w)
   unfolding is_text
   text_start_lem e = rw e
-
-  module _ (i : ℕ) where
-    pub pairs_end : length w ≤ i → pairs (drop i w) ≡ true
-    unfolding pairs
-    pairs_end h = rw (drop_of_length-le w h)
-
-    pub pairs_one : i < length w → length w - i < 2 → pairs (drop i w) ≡ false
-    pairs_one h k = single (drop i w) (omega (arith, length-drop i w))
-
-    module _ (h : i + 1 < length w) where
-      pub pairs_high : 15 < digit (get_or w i 0) → pairs (drop i w) ≡ false
-      unfolding pairs
-      pairs_high a = rw (two w i h, le-ltb (digit (get_or w i 0)) 16 a)
-
-      pub pairs-low : digit (get_or w i 0) ≤ 15 → 15 < digit (get_or w (i + 1) 0) → pairs (drop i w) ≡ false
-      unfolding pairs
-      pairs-low a b =
-          let a' : digit (get_or w i 0) < 16 = omega arith in
-          rw (two w i h, lt-ltb (digit (get_or w i 0)) 16 a', le-ltb (digit (get_or w (i + 1) 0)) 16 b)
-
-      pub pairs_on : digit (get_or w i 0) ≤ 15 → digit (get_or w (i + 1) 0) ≤ 15 → pairs (drop i w) ≡ pairs (drop (i + 2) w)
-      unfolding pairs
-      pairs_on a b =
-          let a' : digit (get_or w i 0) < 16 = omega arith in
-          let b' : digit (get_or w (i + 1) 0) < 16 = omega arith in
-          rw (two w i h, lt-ltb (digit (get_or w i 0)) 16 a', lt-ltb (digit (get_or w (i + 1) 0)) 16 b')
 
 -- ---- its bytes
 

@@ -10,15 +10,14 @@ use borrow.Author.Tests.{ltb-true, ltb-false, le-leb, lt-leb, leb-true, ne_eqb}
 use lib.Dec.{leb, ltb}
 use lib.Ieee.{nan, of_bits, binary32}
 use lib.IntN.{pos, neg_ℤ}
-use lib.ListN.{length, take, drop, length-drop, drop_of_length-le}
-use lib.Seq.{take_all}
+use lib.ListN.{length, take, drop, drop_of_length-le}
 use Rattle.script.specs.declared.verb.Kind.{Kind}
 use Rattle.eiproto.specs.Interface.{ascii, same_bytes}
 use Rattle.script.specs.Words.{starts_with, before}
 use Rattle.script.specs.Number.{digits, number, that, within, fits64}
 use Rattle.script.specs.Script.{Arg, signed, float, no_text, text_part, one_of_seven, signed_of, float_of, text_of, both_of, part_of, read_as}
 use Rattle.script.specs.Told.{one}
-use Rattle.script.proofs.Words.{take-before}
+use Rattle.script.proofs.Words.{take-before, rest}
 
 -- ---- tests on numbers
 
@@ -189,9 +188,6 @@ module _ (w : List ℕ) where
         let z : colon - 2 ≡ length (before 0x3a (drop 2 w)) = omega arith in
         ap (λ (n : ℕ). that fits64 (number (take n (drop 2 w)))) z ∙ ap (λ (l : List ℕ). that fits64 (number l)) (take-before 0x3a (drop 2 w))
 
-    rest : take (length w - (colon + 1)) (drop (colon + 1) w) ≡ drop (colon + 1) w
-    rest = take_all (length w - (colon + 1)) (drop (colon + 1) w) (omega (arith, length-drop (colon + 1) w))
-
     behind : that fits64 (number (drop (colon + 1) w)) ≡ that fits64 (number (drop (3 + length (before 0x3a (drop 2 w))) w))
     behind = let z : colon + 1 ≡ 3 + length (before 0x3a (drop 2 w)) = omega arith in ap (λ (n : ℕ). that fits64 (number (drop n w))) z
 
@@ -217,8 +213,8 @@ module _ (w : List ℕ) where
     pub part_length : none ≡ that fits64 (number (take (length w - (colon + 1)) (drop (colon + 1) w))) → none ≡ one (part_of w)
     part_length f =
         bad-length (that fits64 (number (take (colon - 2) (drop 2 w))))
-        ∙ ap (λ (o : Option ℕ). one (both_of (that fits64 (number (take (colon - 2) (drop 2 w)))) o)) (rw rest at f) ∙ is_part
+        ∙ ap (λ (o : Option ℕ). one (both_of (that fits64 (number (take (colon - 2) (drop 2 w)))) o)) (rw (rest (colon + 1) w) at f) ∙ is_part
 
     pub part-given : (m n : ℕ) → some m ≡ that fits64 (number (take (colon - 2) (drop 2 w))) → some n ≡ that fits64 (number (take (length w - (colon + 1)) (drop (colon + 1) w)))
         → some (text_part m n ∷ []) ≡ one (part_of w)
-    part-given m n f g = ap₂ (λ (o o' : Option ℕ). one (both_of o o')) f (rw rest at g) ∙ is_part
+    part-given m n f g = ap₂ (λ (o o' : Option ℕ). one (both_of o o')) f (rw (rest (colon + 1) w) at g) ∙ is_part

@@ -1,26 +1,17 @@
 -- What the code's answers say of a line. Assumes nothing.
-use Rattle.std.specs.Prelude.{ℕ, ◌-◌, ◌≤◌, ◌≡◌, Bool, List, [], ◌∷◌, ◌++◌, Float, ℤ, pos, length, take, drop}
-use Rattle.std.proofs.Math.Option.{Option, none, some}
+use Rattle.std.specs.Prelude.{ℕ, ◌-◌, ◌≤◌, ◌≡◌, Bool, List, [], ◌∷◌, ◌++◌, Float, ℤ, pos, length, take, drop, Option, Some, None}
+use Rattle.std.proofs.Math.Option as math
 use Rattle.std.specs.Float.{nan}
-use Rattle.script.specs.declared.word.Number.{Number}
 use Rattle.script.specs.declared.value.Value.{Value}
-use Rattle.script.specs.declared.value.Word.{Word}
 use Rattle.script.specs.declared.text.Text.{Text}
 use Rattle.script.specs.declared.text.Part.{Part}
 use Rattle.script.specs.declared.verb.Kind.{Kind}
-use Rattle.script.specs.declared.verb.Slot.{Slot}
 use Rattle.script.specs.declared.line.Args.{Args}
-use Rattle.script.specs.declared.line.Read.{Read}
-use Rattle.script.specs.declared.line.Step.{Step}
 use Rattle.script.specs.declared.line.Line.{Line}
 use Rattle.script.specs.Words.{words}
 use Rattle.script.specs.Text.{text_bytes}
 use Rattle.script.specs.Verbs.{row_at, kinds_of}
 use Rattle.script.specs.Script.{Arg, number64, number32, signed, float, text, no_text, text_part, Reading, blank, setting, call, no_call, read_args, behind, reading}
-
-abbrev pub number_told : Number → Option ℕ
-number_told (Number.Is n) = some n
-number_told Number.Nothing = none
 
 -- a text is told by its bytes
 unfoldable pub value_told : List ℕ → Value → List Arg
@@ -34,14 +25,14 @@ value_told line (Value.Text t) = text (text_bytes line t) ∷ []
 value_told line Value.NoText = no_text ∷ []
 value_told line (Value.Part p) = text_part p.start p.length ∷ []
 
-abbrev pub word_told : List ℕ → Word → Option (List Arg)
-word_told line (Word.Is v) = some (value_told line v)
-word_told line Word.Nothing = none
+abbrev pub word_told : List ℕ → Option Value → math.Option (List Arg)
+word_told line (Some v) = math.some (value_told line v)
+word_told line None = math.none
 
 -- an argument by itself
-abbrev pub one : Option Arg → Option (List Arg)
-one none = none
-one (some x) = some (x ∷ [])
+abbrev pub one : math.Option Arg → math.Option (List Arg)
+one math.none = math.none
+one (math.some x) = math.some (x ∷ [])
 
 -- a part of a line
 abbrev pub part : (from end : ℕ) → List ℕ → List ℕ
@@ -56,18 +47,18 @@ unfoldable pub words_from : ℕ → List ℕ → List (List ℕ)
 unfolding words
 words_from at line = behind_space (drop at line)
 
--- the kind of a slot
-abbrev pub present : Slot → List Kind
-present Slot.Empty = []
-present (Slot.Of k) = k ∷ []
+-- the kind that is asked for, if one is
+abbrev pub present : Option Kind → List Kind
+present None = []
+present (Some k) = k ∷ []
 
--- what reading a slot says: whether there is a value, and what the words from a place on are, whatever kinds are asked for behind it
-abbrev pub Stepped : List ℕ → ℕ → Slot → Step → Type 0
-Stepped line at slot (Step.Read v next) =
+-- what reading a word says: whether there is a value, and what the words from a place on are, whatever kinds are asked for behind it
+abbrev pub Stepped : List ℕ → ℕ → Option Kind → Option (Value × ℕ) → Type 0
+Stepped line at slot (Some (v, next)) =
     (next ≤ length line)
     × ((length (value_told line v) ≡ length (present slot))
     × ((ks : List Kind) → read_args (present slot ++ ks) (words_from at line) ≡ behind (value_told line v) (read_args ks (words_from next line))))
-Stepped line at slot Step.Nothing = (ks : List Kind) → read_args (present slot ++ ks) (words_from at line) ≡ none
+Stepped line at slot None = (ks : List Kind) → read_args (present slot ++ ks) (words_from at line) ≡ math.none
 
 abbrev pub args_told : List ℕ → Args → List Arg
 args_told line a = value_told line a.a ++ (value_told line a.b ++ (value_told line a.c ++ (value_told line a.d ++ [])))
@@ -78,16 +69,16 @@ InTurn line a =
     (length (value_told line a.b) ≤ length (value_told line a.a))
     × ((length (value_told line a.c) ≤ length (value_told line a.b)) × (length (value_told line a.d) ≤ length (value_told line a.c)))
 
-abbrev pub args_read : List ℕ → Read → Option (List Arg)
-args_read line (Read.Args a) = some (args_told line a)
-args_read line Read.Nothing = none
+abbrev pub args_read : List ℕ → Option Args → math.Option (List Arg)
+args_read line (Some a) = math.some (args_told line a)
+args_read line None = math.none
 
-abbrev pub ReadInTurn : List ℕ → Read → Type 0
-ReadInTurn line (Read.Args a) = InTurn line a
-ReadInTurn line Read.Nothing = Unit {0}
+abbrev pub ReadInTurn : List ℕ → Option Args → Type 0
+ReadInTurn line (Some a) = InTurn line a
+ReadInTurn line None = Unit {0}
 
 -- the words behind a word that ends at a place, read as the kinds of a row
-pub record Given (line : List ℕ) (at i : ℕ) (in_read : Bool) (r : Read) : Type 0 where
+pub record Given (line : List ℕ) (at i : ℕ) (in_read : Bool) (r : Option Args) : Type 0 where
   pub reads : args_read line r ≡ read_args (kinds_of in_read (row_at i)) (words_from at line)
   pub in_turn : ReadInTurn line r
 

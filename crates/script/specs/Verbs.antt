@@ -1,14 +1,12 @@
 -- The table of the format's page: the first word of each line, and what the words behind it are. Assumes nothing.
-use Rattle.std.specs.Prelude.{ℕ, ◌+◌, ◌-◌, Bool, true, false, cond, List, [], ◌∷◌, ◌++◌, map, eqb, get_or, length, replicate}
+use Rattle.std.specs.Prelude.{ℕ, ◌+◌, Bool, true, false, cond, List, [], ◌∷◌, ◌++◌, map, get_or, slice_get, Option as Maybe}
 use Prim.Native.String.{String}
+use Rattle.std.specs.Borrow.{Bor}
 use Rattle.std.proofs.Math.Option.{Option, none, some}
 use Rattle.script.specs.declared.verb.Verb.{Verb}
 use Rattle.script.specs.declared.verb.Verb.TheVariants.{Now, Out, Buffer, Start, HandshakeHandshakeVersion, HandshakeName, HandshakeContextType, HandshakeInterfaceVersion, HandshakeFinish, ConnectionSync, ConnectionDisconnect, PingpongDone, SeatRelease, SeatBind, SeatRequestDevice, DeviceRelease, DeviceStartEmulating, DeviceStopEmulating, DeviceFrame, DeviceReady, PointerRelease, PointerMotionRelative, PointerAbsoluteRelease, PointerAbsoluteMotionAbsolute, ScrollRelease, ScrollScroll, ScrollScrollDiscrete, ScrollScrollStop, ButtonRelease, ButtonButton, KeyboardRelease, KeyboardKey, TouchscreenRelease, TouchscreenDown, TouchscreenMotion, TouchscreenUp, TouchscreenCancel, TextRelease, TextKeysym, TextUtf8, NextRequest, AddSeat, AddDevice, RemoveSeat, RemoveDevice, Resumed, Paused, StartEmulating, StopEmulating, Frame, Disconnected, LastSerial, HasInterface, InterfaceVersion, HasCapability, Read, Message, WriteMessage, ReadMessage}
 use Rattle.script.specs.declared.verb.Kind.{Kind}
 use Rattle.script.specs.declared.verb.Kind.TheVariants.{U64, U32, I32, F32, Text, OptionalText, State, TypeNumber, Reason, Capability, Count, Part, Interface}
-use Rattle.script.specs.declared.verb.Slot.{Slot}
-use Rattle.script.specs.declared.verb.Slot.TheVariants.{Empty, Of}
-use Rattle.script.specs.declared.verb.Found.{Found}
 use Rattle.eiproto.specs.Interface.{ascii, same_bytes}
 
 -- a line of the table: the first word, its verb, and what the words behind it are, in their order
@@ -132,58 +130,15 @@ unfoldable pub lookup : List ℕ → Option ℕ
 unfolding lookup_from table
 lookup word = lookup_from 0 table word
 
--- what an answer of `find` says
-abbrev pub number_found : Found → Option ℕ
-number_found (Found.Row i) = some i
-number_found Found.Nothing = none
+-- the kind at a place, and none past the last
+abbrev pub kind_at : ℕ → List Kind → Maybe Kind
+kind_at i ks = slice_get ks i
 
 -- ---- the table as the code has it
 
--- the kind at a place, and nothing past the last
-unfoldable pub slot_at : ℕ → List Kind → Slot
-slot_at i ks = get_or (map Of ks) i Empty
+-- a row's first word, its verb, and what the words behind it are
+abbrev pub Row : Type 0
+Row = Bor (List ℕ) × Verb × Bor (List Kind)
 
-abbrev pub slot_within : (in_read : Bool) → Slot → Slot
-slot_within r Empty = Empty
-slot_within r (Of k) = Of (kind_in r k)
-
--- the letter of a kind
-abbrev pub letter : Kind → ℕ
-letter U64 = 0x71
-letter U32 = 0x75
-letter I32 = 0x69
-letter F32 = 0x66
-letter Text = 0x74
-letter OptionalText = 0x6f
-letter State = 0x73
-letter TypeNumber = 0x79
-letter Reason = 0x72
-letter Capability = 0x6d
-letter Count = 0x6e
-letter Part = 0x70
-letter Interface = 0x65
-
-abbrev pub kinds : List Kind
-kinds = U64 ∷ U32 ∷ I32 ∷ F32 ∷ Text ∷ OptionalText ∷ State ∷ TypeNumber ∷ Reason ∷ Capability ∷ Count ∷ Part ∷ Interface ∷ []
-
--- the kind of the list that has the letter, and nothing where there is none
-abbrev pub slot_in : List Kind → ℕ → Slot
-slot_in [] c = Empty
-slot_in (k ∷ ks) c = cond (eqb c (letter k)) (Of k) (slot_in ks c)
-
-unfoldable pub slot_of : ℕ → Slot
-slot_of c = slot_in kinds c
-
--- bytes with spaces behind them, so many in all
-unfoldable pub padded : ℕ → List ℕ → List ℕ
-padded n l = l ++ replicate (n - length l) 0x20
-
--- a line of the table in 37 bytes: the first word, and the letters
-unfoldable pub line : Entry → List ℕ
-unfolding padded
-line e = padded 33 e.name ++ padded 4 (map letter e.kinds)
-
-unfoldable pub lines : List Entry → List ℕ
-unfolding line
-lines [] = []
-lines (e ∷ es) = line e ++ lines es
+abbrev pub entry_of : Row → Entry
+entry_of r = record { name = r.0.now; verb = r.1; kinds = r.2.now }

@@ -1,15 +1,15 @@
 // Lines: where one ends, and what it is.
-ghost use Rattle.std.specs.Prelude.{◌≤◌, ◌<◌, min, ◌≡◌, length};
+ghost use Rattle.std.specs.Prelude.{◌≤◌, ◌<◌, ◌≡◌, length};
 ghost use Rattle.script.specs.Script.{is_blank};
 ghost use Rattle.script.specs.Told.{Stepped, Given, Parsed};
 ghost use Rattle.script.specs.Split.{line_end};
 
-use crate::value::{Value, Word};
-use crate::verb::{Found, Slot, Verb};
+use crate::value::Value;
+use crate::verb::{Kind, Verb};
 use crate::{value, verb, word};
 
 // What the words behind the first stand for, in their order.
-#[derive(Clone, Copy)]
+#[derive(Clone, Copy, Debug, PartialEq)]
 pub struct Args {
     pub a: Value,
     pub b: Value,
@@ -17,7 +17,7 @@ pub struct Args {
     pub d: Value,
 }
 
-#[derive(Clone, Copy)]
+#[derive(Clone, Copy, Debug, PartialEq)]
 pub enum Line {
     // An empty line, or a comment.
     Blank,
@@ -26,75 +26,41 @@ pub enum Line {
     NoCall,
 }
 
-#[derive(Clone, Copy)]
-enum Read {
-    Args(Args),
-    Nothing,
-}
-
-// What stands in a slot behind a word that ends at a place, and where that ends.
-#[derive(Clone, Copy)]
-enum Step {
-    Read { value: Value, next: usize },
-    Nothing,
-}
-
 fn is_blank(line: &[u8]) -> bool
     ensures { result ≡ is_blank line.now }
 {
-    if line.len() == 0 {
-        return true;
-    }
-    line[0] == b'#'
+    line.is_empty() || line[0] == b'#'
 }
 
-fn read_slot(line: &[u8], at: usize, slot: Slot) -> Step
+// What stands behind a word that ends at a place, read as a kind, if one is asked for, and where that ends.
+fn read_slot(line: &[u8], at: usize, slot: Option<Kind>) -> Option<(Value, usize)>
     requires { at ≤ length line.now }
     ensures { Stepped line.now at slot result }
 {
-    match slot {
-        Slot::Empty => Step::Read {
-            value: Value::Nothing,
-            next: at,
-        },
-        Slot::Of(kind) => {
-            if line.len() <= at {
-                return Step::Nothing;
-            }
-            let from = at + 1;
-            let end = word::find_byte(line, from, b' ');
-            match value::read(line, from, end, kind) {
-                Word::Is(v) => Step::Read {
-                    value: v,
-                    next: end,
-                },
-                Word::Nothing => Step::Nothing,
-            }
-        }
+    let Some(kind) = slot else {
+        return Some((Value::Nothing, at));
+    };
+    if line.len() <= at {
+        return None;
     }
+    let end = word::find_byte(line, at + 1, b' ');
+    let value = value::read(line, at + 1, end, kind)?;
+    Some((value, end))
 }
 
 // The words behind the first, which ends at a place, for the row of that.
-fn read_args(line: &[u8], at: usize, i: usize, within: bool) -> Read
+fn read_args(line: &[u8], at: usize, i: usize, within: bool) -> Option<Args>
     requires { (at ≤ length line.now) × (i < 59) }
     ensures { Given line.now at i within result }
 {
-    let Step::Read { value: a, next: p } = read_slot(line, at, verb::slot_at(i, 0, within)) else {
-        return Read::Nothing;
-    };
-    let Step::Read { value: b, next: q } = read_slot(line, p, verb::slot_at(i, 1, within)) else {
-        return Read::Nothing;
-    };
-    let Step::Read { value: c, next: r } = read_slot(line, q, verb::slot_at(i, 2, within)) else {
-        return Read::Nothing;
-    };
-    let Step::Read { value: d, next: s } = read_slot(line, r, verb::slot_at(i, 3, within)) else {
-        return Read::Nothing;
-    };
+    let (a, p) = read_slot(line, at, verb::kind_at(i, 0, within))?;
+    let (b, q) = read_slot(line, p, verb::kind_at(i, 1, within))?;
+    let (c, r) = read_slot(line, q, verb::kind_at(i, 2, within))?;
+    let (d, s) = read_slot(line, r, verb::kind_at(i, 3, within))?;
     if s < line.len() {
-        return Read::Nothing;
+        return None;
     }
-    Read::Args(Args { a, b, c, d })
+    Some(Args { a, b, c, d })
 }
 
 // What a line is, without its end; `within` a read it may be one of the read's records, which has a part for a text.
@@ -105,53 +71,45 @@ pub fn parse(line: &[u8], within: bool) -> Line
         return Line::Blank;
     }
     let end = word::find_byte(line, 0, b' ');
-    let Found::Row(i) = verb::find(&line[..end]) else {
+    let Some(i) = verb::find(&line[..end]) else {
         return Line::NoCall;
     };
-    let Read::Args(args) = read_args(line, end, i, within) else {
+    let Some(args) = read_args(line, end, i, within) else {
         return Line::NoCall;
     };
     let verb = verb::verb_at(i);
-    if i < 3 {
-        return Line::Setting { verb, args };
+    if i < verb::SETTINGS {
+        Line::Setting { verb, args }
+    } else {
+        Line::Call { verb, args }
     }
-    Line::Call { verb, args }
 }
 
-#[derive(Clone, Copy)]
-pub enum LineEnd {
-    // Where the line ends, and where the next begins.
-    At { end: usize, next: usize },
-    // The line goes on.
-    Nothing,
+// Where a line ends, and where the next begins.
+#[derive(Clone, Copy, Debug, PartialEq, Eq)]
+pub struct LineEnd {
+    pub end: usize,
+    pub next: usize,
 }
 
-fn least(a: usize, b: usize) -> usize
-    ensures { result ≡ min a b }
-{
-    if a < b { a } else { b }
-}
-
-// The end of the line that begins at `from`, where the buffer is filled up to `to`.
-pub fn line_end(buf: &[u8], from: usize, to: usize) -> LineEnd
+// The end of the line that begins at `from`, where the buffer is filled up to `to`; none where the line goes on.
+pub fn line_end(buf: &[u8], from: usize, to: usize) -> Option<LineEnd>
     ensures { result ≡ line_end buf.now from to }
 {
-    let stop = least(to, buf.len());
+    let stop = to.min(buf.len());
     if stop <= from {
-        return LineEnd::Nothing;
+        return None;
     }
-    let filled = &buf[..stop];
-    let newline = word::find_byte(filled, from, b'\n');
+    let newline = word::find_byte(&buf[..stop], from, b'\n');
     if newline == stop {
-        return LineEnd::Nothing;
+        return None;
     }
     let next = newline + 1;
-    if newline == from {
-        return LineEnd::At { end: from, next };
+    if from < newline && buf[newline - 1] == b'\r' {
+        return Some(LineEnd {
+            end: newline - 1,
+            next,
+        });
     }
-    let last = newline - 1;
-    if buf[last] == b'\r' {
-        return LineEnd::At { end: last, next };
-    }
-    LineEnd::At { end: newline, next }
+    Some(LineEnd { end: newline, next })
 }

@@ -1,55 +1,43 @@
 // Texts in hexadecimal. A text may be as long as its line, so it is told by where its digits stand there.
 ghost use Rattle.std.specs.Prelude.{◌≡◌, length, get_or};
-ghost use Rattle.script.specs.Text.{is_text, text_bytes, Copied};
+ghost use Rattle.script.specs.Text.{pairs, is_text, text_bytes, Copied};
 
 use crate::word;
 
 // Where the first digit stands in the line, and how many bytes the digits are.
-#[derive(Clone, Copy)]
+#[derive(Clone, Copy, Debug, PartialEq, Eq)]
 pub struct Text {
     pub start: usize,
     pub bytes: usize,
 }
 
 // A part of a read's texts: where it begins there, and how many bytes it has.
-#[derive(Clone, Copy)]
+#[derive(Clone, Copy, Debug, PartialEq, Eq)]
 pub struct Part {
     pub start: u64,
     pub length: u64,
+}
+
+// Whether these are hexadecimal digits, two for each byte.
+fn are_pairs(digits: &[u8]) -> bool
+    ensures { result ≡ pairs digits.now }
+{
+    digits.len() % 2 == 0 && digits.iter().all(|&c| word::value_of(c) < 16)
 }
 
 // Whether a word is `t:` and two digits for each byte.
 pub fn is_text(word: &[u8]) -> bool
     ensures { result ≡ is_text word.now }
 {
-    if !word::starts_with(word, b"t:") {
-        return false;
-    }
-    let mut i: usize = 2;
-    while i < word.len() {
-        if word.len() - i < 2 {
-            return false;
-        }
-        if 15 < word::value_of(word[i]) {
-            return false;
-        }
-        if 15 < word::value_of(word[i + 1]) {
-            return false;
-        }
-        i += 2;
-    }
-    true
+    word.starts_with(b"t:") && are_pairs(&word[2..])
 }
 
 // How many bytes the text has in this line.
 pub fn text_len(line: &[u8], t: Text) -> usize
     ensures { result ≡ length (text_bytes line.now t) }
 {
-    if line.len() < t.start {
-        return 0;
-    }
-    let room = (line.len() - t.start) / 2;
-    if room < t.bytes { room } else { t.bytes }
+    let room = line.len().saturating_sub(t.start) / 2;
+    room.min(t.bytes)
 }
 
 // The byte at a place of the text; 0 past its end.
@@ -70,14 +58,9 @@ pub fn text_byte(line: &[u8], t: Text, i: usize) -> u8
 pub fn text_into(line: &[u8], t: Text, out: &mut [u8]) -> usize
     ensures { Copied (text_bytes line.now t) out.old out.new result }
 {
-    let n = text_len(line, t);
-    let mut i: usize = 0;
-    while i < n {
-        if out.len() <= i {
-            return i;
-        }
+    let n = out.len().min(text_len(line, t));
+    for i in 0..n {
         out[i] = text_byte(line, t, i);
-        i += 1;
     }
-    i
+    n
 }

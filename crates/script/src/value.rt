@@ -6,10 +6,9 @@ ghost use Rattle.script.specs.Told.{word_told, one, part, u64_of, u32_of, i32_of
 
 use crate::text::{Part, Text};
 use crate::verb::Kind;
-use crate::word::Number;
 use crate::{text, word};
 
-#[derive(Clone, Copy)]
+#[derive(Clone, Copy, Debug, PartialEq)]
 pub enum Value {
     // There is no such word.
     Nothing,
@@ -23,145 +22,113 @@ pub enum Value {
     Part(Part),
 }
 
-// What a word is read as; nothing where it cannot be.
-#[derive(Clone, Copy)]
-pub enum Word {
-    Is(Value),
-    Nothing,
-}
-
-fn unsigned64(word: &[u8]) -> Word
+#[tactic(auto, unfolding(crate::specs::Told::value_told))]
+fn unsigned64(word: &[u8]) -> Option<Value>
     ensures { (l : List ℕ) → word_told l result ≡ one (unsigned_of number64 fits64 word.now) }
 {
-    match word::number_in(word) {
-        Number::Is(n) => Word::Is(Value::U64(n)),
-        Number::Nothing => Word::Nothing,
-    }
+    let n = word::number(word)?;
+    Some(Value::U64(n))
 }
 
-fn unsigned32(word: &[u8], least: u64, most: u64) -> Word
+#[tactic(auto, unfolding(crate::specs::Told::value_told))]
+fn unsigned32(word: &[u8], least: u64, most: u64) -> Option<Value>
     requires { most < 2 ^ 32 }
     ensures { (l : List ℕ) → word_told l result ≡ one (unsigned_of number32 (within least most) word.now) }
 {
-    match word::number_in(word) {
-        Number::Is(n) => {
-            if n < least {
-                return Word::Nothing;
-            }
-            if most < n {
-                return Word::Nothing;
-            }
-            Word::Is(Value::U32(n as u32))
-        }
-        Number::Nothing => Word::Nothing,
+    let n = word::number(word)?;
+    if n < least || most < n {
+        return None;
     }
+    Some(Value::U32(n as u32))
 }
 
-fn capability(word: &[u8]) -> Word
+#[tactic(auto, unfolding(crate::specs::Told::value_told))]
+fn capability(word: &[u8]) -> Option<Value>
     ensures { (l : List ℕ) → word_told l result ≡ one (unsigned_of number64 one_of_seven word.now) }
 {
-    match word::number_in(word) {
-        Number::Is(n) => match n {
-            1 | 2 | 4 | 8 | 16 | 32 | 64 => Word::Is(Value::U64(n)),
-            _ => Word::Nothing,
-        },
-        Number::Nothing => Word::Nothing,
+    let n = word::number(word)?;
+    match n {
+        1 | 2 | 4 | 8 | 16 | 32 | 64 => Some(Value::U64(n)),
+        _ => None,
     }
 }
 
-fn signed(word: &[u8]) -> Word
+fn signed(word: &[u8]) -> Option<Value>
     ensures { (l : List ℕ) → word_told l result ≡ one (signed_of word.now) }
 {
-    if word::starts_with(word, b"-") {
-        match word::digits_from(word, 1, 10) {
-            Number::Is(n) => {
-                if 2147483648 < n {
-                    return Word::Nothing;
-                }
-                Word::Is(Value::I32(word::negative(n)))
-            }
-            Number::Nothing => Word::Nothing,
+    if word.starts_with(b"-") {
+        let n = word::digits(&word[1..], 10)?;
+        if 0x80000000 < n {
+            return None;
         }
+        Some(Value::I32(word::negative(n)))
     } else {
-        match word::number_in(word) {
-            Number::Is(n) => {
-                if 2147483647 < n {
-                    return Word::Nothing;
-                }
-                Word::Is(Value::I32(n as i32))
-            }
-            Number::Nothing => Word::Nothing,
+        let n = word::number(word)?;
+        if 0x7fffffff < n {
+            return None;
         }
+        Some(Value::I32(n as i32))
     }
 }
 
-fn float(word: &[u8]) -> Word
+fn float(word: &[u8]) -> Option<Value>
     ensures { (l : List ℕ) → word_told l result ≡ one (float_of word.now) }
 {
-    if word::same(word, b"nan") {
-        return Word::Is(Value::F32(0.0 / 0.0));
+    if word == b"nan".as_slice() {
+        return Some(Value::F32(f32::NAN));
     }
-    if !word::starts_with(word, b"0x") {
-        return Word::Nothing;
+    if !word.starts_with(b"0x") {
+        return None;
     }
-    match word::number_in(word) {
-        Number::Is(n) => {
-            if 4294967295 < n {
-                return Word::Nothing;
-            }
-            Word::Is(Value::F32(word::of_bits(n as u32)))
-        }
-        Number::Nothing => Word::Nothing,
+    let n = word::number(word)?;
+    if 0xffffffff < n {
+        return None;
     }
+    Some(Value::F32(word::of_bits(n as u32)))
 }
 
 // The text in a part of a line.
-fn text_in(line: &[u8], from: usize, end: usize) -> Word
+fn text_in(line: &[u8], from: usize, end: usize) -> Option<Value>
     requires { (from ≤ end) × (end ≤ length line.now) }
     ensures { word_told line.now result ≡ one (text_of (part from end line.now)) }
 {
     if !text::is_text(&line[from..end]) {
-        return Word::Nothing;
+        return None;
     }
-    Word::Is(Value::Text(Text {
+    Some(Value::Text(Text {
         start: from + 2,
         bytes: (end - from - 2) / 2,
     }))
 }
 
-fn optional_text(line: &[u8], from: usize, end: usize) -> Word
+fn optional_text(line: &[u8], from: usize, end: usize) -> Option<Value>
     requires { (from ≤ end) × (end ≤ length line.now) }
     ensures { word_told line.now result ≡ one (read_as Kind.OptionalText (part from end line.now)) }
 {
-    if word::same(&line[from..end], b"none") {
-        return Word::Is(Value::NoText);
+    if &line[from..end] == b"none".as_slice() {
+        return Some(Value::NoText);
     }
     text_in(line, from, end)
 }
 
 // `p:`, a number, a colon and a number.
-fn part_of_texts(word: &[u8]) -> Word
+fn part_of_texts(word: &[u8]) -> Option<Value>
     ensures { (l : List ℕ) → word_told l result ≡ one (part_of word.now) }
 {
-    if !word::starts_with(word, b"p:") {
-        return Word::Nothing;
+    if !word.starts_with(b"p:") {
+        return None;
     }
     let colon = word::find_byte(word, 2, b':');
     if word.len() <= colon {
-        return Word::Nothing;
+        return None;
     }
-    let behind = colon + 1;
-    let Number::Is(start) = word::number_in(&word[2..colon]) else {
-        return Word::Nothing;
-    };
-    let Number::Is(length) = word::number_in(&word[behind..]) else {
-        return Word::Nothing;
-    };
-    Word::Is(Value::Part(Part { start, length }))
+    let start = word::number(&word[2..colon])?;
+    let length = word::number(&word[colon + 1..])?;
+    Some(Value::Part(Part { start, length }))
 }
 
-// The part of a line, read as a kind.
-pub fn read(line: &[u8], from: usize, end: usize, kind: Kind) -> Word
+// The part of a line, read as a kind; none where it cannot be.
+pub fn read(line: &[u8], from: usize, end: usize, kind: Kind) -> Option<Value>
     requires { (from ≤ end) × (end ≤ length line.now) }
     ensures { word_told line.now result ≡ one (read_as kind (part from end line.now)) }
 {
@@ -188,13 +155,8 @@ pub fn u64_of(v: Value) -> u64
 {
     match v {
         Value::U64(n) => n,
-        Value::U32(n) => n as u64,
-        Value::Nothing => 0,
-        Value::I32(_) => 0,
-        Value::F32(_) => 0,
-        Value::Text(_) => 0,
-        Value::NoText => 0,
-        Value::Part(_) => 0,
+        Value::U32(n) => u64::from(n),
+        _ => 0,
     }
 }
 
@@ -204,13 +166,7 @@ pub fn u32_of(v: Value) -> u32
 {
     match v {
         Value::U32(n) => n,
-        Value::U64(_) => 0,
-        Value::Nothing => 0,
-        Value::I32(_) => 0,
-        Value::F32(_) => 0,
-        Value::Text(_) => 0,
-        Value::NoText => 0,
-        Value::Part(_) => 0,
+        _ => 0,
     }
 }
 
@@ -220,13 +176,7 @@ pub fn i32_of(v: Value) -> i32
 {
     match v {
         Value::I32(z) => z,
-        Value::U64(_) => 0,
-        Value::U32(_) => 0,
-        Value::Nothing => 0,
-        Value::F32(_) => 0,
-        Value::Text(_) => 0,
-        Value::NoText => 0,
-        Value::Part(_) => 0,
+        _ => 0,
     }
 }
 
@@ -236,13 +186,7 @@ pub fn f32_of(v: Value) -> f32
 {
     match v {
         Value::F32(x) => x,
-        Value::U64(_) => 0.0 / 0.0,
-        Value::U32(_) => 0.0 / 0.0,
-        Value::I32(_) => 0.0 / 0.0,
-        Value::Nothing => 0.0 / 0.0,
-        Value::Text(_) => 0.0 / 0.0,
-        Value::NoText => 0.0 / 0.0,
-        Value::Part(_) => 0.0 / 0.0,
+        _ => f32::NAN,
     }
 }
 
@@ -252,13 +196,7 @@ pub fn text_of(v: Value) -> Text
 {
     match v {
         Value::Text(t) => t,
-        Value::U64(_) => Text { start: 0, bytes: 0 },
-        Value::U32(_) => Text { start: 0, bytes: 0 },
-        Value::I32(_) => Text { start: 0, bytes: 0 },
-        Value::F32(_) => Text { start: 0, bytes: 0 },
-        Value::Nothing => Text { start: 0, bytes: 0 },
-        Value::NoText => Text { start: 0, bytes: 0 },
-        Value::Part(_) => Text { start: 0, bytes: 0 },
+        _ => Text { start: 0, bytes: 0 },
     }
 }
 
@@ -268,31 +206,7 @@ pub fn part_of(v: Value) -> Part
 {
     match v {
         Value::Part(p) => p,
-        Value::U64(_) => Part {
-            start: 0,
-            length: 0,
-        },
-        Value::U32(_) => Part {
-            start: 0,
-            length: 0,
-        },
-        Value::I32(_) => Part {
-            start: 0,
-            length: 0,
-        },
-        Value::F32(_) => Part {
-            start: 0,
-            length: 0,
-        },
-        Value::Text(_) => Part {
-            start: 0,
-            length: 0,
-        },
-        Value::Nothing => Part {
-            start: 0,
-            length: 0,
-        },
-        Value::NoText => Part {
+        _ => Part {
             start: 0,
             length: 0,
         },

@@ -1,12 +1,15 @@
 // The first words of the lines of a call script, and what stands behind each: the table of the format's page.
-ghost use Rattle.std.specs.Prelude.{◌<◌, ◌≡◌};
-ghost use Rattle.eiproto.specs.Interface.{same_bytes};
-ghost use Rattle.script.specs.Verbs.{row_at, kind_in, kinds_of, slot_within, slot_at, slot_of, number_found, lookup};
+ghost use Rattle.std.specs.Prelude.{◌<◌, ◌≡◌, map, IfSome};
+ghost use Rattle.eiproto.specs.Told.{told};
+ghost use Rattle.script.specs.Verbs.{table, entry_of, row_at, kind_in, kinds_of, kind_at, lookup};
 
-use crate::word;
+use Kind::{
+    Capability, Count, F32, I32, Interface, OptionalText, Part, Reason, State, Text, TypeNumber,
+    U32, U64,
+};
 
 // The first word of a line, without its dots and underscores.
-#[derive(Clone, Copy)]
+#[derive(Clone, Copy, Debug, PartialEq, Eq)]
 pub enum Verb {
     Now,
     Out,
@@ -70,7 +73,7 @@ pub enum Verb {
 }
 
 // What a word is read as.
-#[derive(Clone, Copy)]
+#[derive(Clone, Copy, Debug, PartialEq, Eq)]
 pub enum Kind {
     U64,
     U32,
@@ -95,224 +98,177 @@ pub enum Kind {
     Interface,
 }
 
-// One of the four places for a word behind the first.
-#[derive(Clone, Copy)]
-pub enum Slot {
-    Empty,
-    Of(Kind),
-}
+// A first word, its verb, and what each word behind it is read as.
+type Row = (&'static [u8], Verb, &'static [Kind]);
 
-// A row for each first word, the settings first: 33 bytes for the word, and a letter for each word behind it.
-const ROWS: [u8; 2183] = *b"now                              q   \
-    out                              q   \
-    buffer                           q   \
-    start                            u   \
-    handshake.handshake_version      u   \
-    handshake.name                   t   \
-    handshake.context_type           y   \
-    handshake.interface_version      tu  \
-    handshake.finish                     \
-    connection.sync                  qu  \
-    connection.disconnect                \
-    pingpong.done                        \
-    seat.release                     q   \
-    seat.bind                        qq  \
-    seat.request_device              qq  \
-    device.release                   q   \
-    device.start_emulating           quu \
-    device.stop_emulating            qu  \
-    device.frame                     quq \
-    device.ready                     q   \
-    pointer.release                  q   \
-    pointer.motion_relative          qff \
-    pointer_absolute.release         q   \
-    pointer_absolute.motion_absolute qff \
-    scroll.release                   q   \
-    scroll.scroll                    qff \
-    scroll.scroll_discrete           qii \
-    scroll.scroll_stop               quuu\
-    button.release                   q   \
-    button.button                    qus \
-    keyboard.release                 q   \
-    keyboard.key                     qus \
-    touchscreen.release              q   \
-    touchscreen.down                 quff\
-    touchscreen.motion               quff\
-    touchscreen.up                   qu  \
-    touchscreen.cancel               quu \
-    text.release                     q   \
-    text.keysym                      qus \
-    text.utf8                        qt  \
-    next_request                         \
-    add_seat                         oq  \
-    add_device                       qoyq\
-    remove_seat                      q   \
-    remove_device                    q   \
-    resumed                          q   \
-    paused                           q   \
-    start_emulating                  qu  \
-    stop_emulating                   q   \
-    frame                            qq  \
-    disconnected                     ro  \
-    last_serial                          \
-    has_interface                    t   \
-    interface_version                t   \
-    has_capability                   qm  \
-    read                             nt  \
-    message                          t   \
-    write_message                    et  \
-    read_message                     et  ";
-
-const VERBS: [Verb; 59] = [
-    Verb::Now,
-    Verb::Out,
-    Verb::Buffer,
-    Verb::Start,
-    Verb::HandshakeHandshakeVersion,
-    Verb::HandshakeName,
-    Verb::HandshakeContextType,
-    Verb::HandshakeInterfaceVersion,
-    Verb::HandshakeFinish,
-    Verb::ConnectionSync,
-    Verb::ConnectionDisconnect,
-    Verb::PingpongDone,
-    Verb::SeatRelease,
-    Verb::SeatBind,
-    Verb::SeatRequestDevice,
-    Verb::DeviceRelease,
-    Verb::DeviceStartEmulating,
-    Verb::DeviceStopEmulating,
-    Verb::DeviceFrame,
-    Verb::DeviceReady,
-    Verb::PointerRelease,
-    Verb::PointerMotionRelative,
-    Verb::PointerAbsoluteRelease,
-    Verb::PointerAbsoluteMotionAbsolute,
-    Verb::ScrollRelease,
-    Verb::ScrollScroll,
-    Verb::ScrollScrollDiscrete,
-    Verb::ScrollScrollStop,
-    Verb::ButtonRelease,
-    Verb::ButtonButton,
-    Verb::KeyboardRelease,
-    Verb::KeyboardKey,
-    Verb::TouchscreenRelease,
-    Verb::TouchscreenDown,
-    Verb::TouchscreenMotion,
-    Verb::TouchscreenUp,
-    Verb::TouchscreenCancel,
-    Verb::TextRelease,
-    Verb::TextKeysym,
-    Verb::TextUtf8,
-    Verb::NextRequest,
-    Verb::AddSeat,
-    Verb::AddDevice,
-    Verb::RemoveSeat,
-    Verb::RemoveDevice,
-    Verb::Resumed,
-    Verb::Paused,
-    Verb::StartEmulating,
-    Verb::StopEmulating,
-    Verb::Frame,
-    Verb::Disconnected,
-    Verb::LastSerial,
-    Verb::HasInterface,
-    Verb::InterfaceVersion,
-    Verb::HasCapability,
-    Verb::Read,
-    Verb::Message,
-    Verb::WriteMessage,
-    Verb::ReadMessage,
+// A row for each first word, the settings first.
+static ROWS: [Row; 59] = [
+    (b"now", Verb::Now, &[U64]),
+    (b"out", Verb::Out, &[U64]),
+    (b"buffer", Verb::Buffer, &[U64]),
+    (b"start", Verb::Start, &[U32]),
+    (
+        b"handshake.handshake_version",
+        Verb::HandshakeHandshakeVersion,
+        &[U32],
+    ),
+    (b"handshake.name", Verb::HandshakeName, &[Text]),
+    (
+        b"handshake.context_type",
+        Verb::HandshakeContextType,
+        &[TypeNumber],
+    ),
+    (
+        b"handshake.interface_version",
+        Verb::HandshakeInterfaceVersion,
+        &[Text, U32],
+    ),
+    (b"handshake.finish", Verb::HandshakeFinish, &[]),
+    (b"connection.sync", Verb::ConnectionSync, &[U64, U32]),
+    (b"connection.disconnect", Verb::ConnectionDisconnect, &[]),
+    (b"pingpong.done", Verb::PingpongDone, &[]),
+    (b"seat.release", Verb::SeatRelease, &[U64]),
+    (b"seat.bind", Verb::SeatBind, &[U64, U64]),
+    (b"seat.request_device", Verb::SeatRequestDevice, &[U64, U64]),
+    (b"device.release", Verb::DeviceRelease, &[U64]),
+    (
+        b"device.start_emulating",
+        Verb::DeviceStartEmulating,
+        &[U64, U32, U32],
+    ),
+    (
+        b"device.stop_emulating",
+        Verb::DeviceStopEmulating,
+        &[U64, U32],
+    ),
+    (b"device.frame", Verb::DeviceFrame, &[U64, U32, U64]),
+    (b"device.ready", Verb::DeviceReady, &[U64]),
+    (b"pointer.release", Verb::PointerRelease, &[U64]),
+    (
+        b"pointer.motion_relative",
+        Verb::PointerMotionRelative,
+        &[U64, F32, F32],
+    ),
+    (
+        b"pointer_absolute.release",
+        Verb::PointerAbsoluteRelease,
+        &[U64],
+    ),
+    (
+        b"pointer_absolute.motion_absolute",
+        Verb::PointerAbsoluteMotionAbsolute,
+        &[U64, F32, F32],
+    ),
+    (b"scroll.release", Verb::ScrollRelease, &[U64]),
+    (b"scroll.scroll", Verb::ScrollScroll, &[U64, F32, F32]),
+    (
+        b"scroll.scroll_discrete",
+        Verb::ScrollScrollDiscrete,
+        &[U64, I32, I32],
+    ),
+    (
+        b"scroll.scroll_stop",
+        Verb::ScrollScrollStop,
+        &[U64, U32, U32, U32],
+    ),
+    (b"button.release", Verb::ButtonRelease, &[U64]),
+    (b"button.button", Verb::ButtonButton, &[U64, U32, State]),
+    (b"keyboard.release", Verb::KeyboardRelease, &[U64]),
+    (b"keyboard.key", Verb::KeyboardKey, &[U64, U32, State]),
+    (b"touchscreen.release", Verb::TouchscreenRelease, &[U64]),
+    (
+        b"touchscreen.down",
+        Verb::TouchscreenDown,
+        &[U64, U32, F32, F32],
+    ),
+    (
+        b"touchscreen.motion",
+        Verb::TouchscreenMotion,
+        &[U64, U32, F32, F32],
+    ),
+    (b"touchscreen.up", Verb::TouchscreenUp, &[U64, U32]),
+    (
+        b"touchscreen.cancel",
+        Verb::TouchscreenCancel,
+        &[U64, U32, U32],
+    ),
+    (b"text.release", Verb::TextRelease, &[U64]),
+    (b"text.keysym", Verb::TextKeysym, &[U64, U32, State]),
+    (b"text.utf8", Verb::TextUtf8, &[U64, Text]),
+    (b"next_request", Verb::NextRequest, &[]),
+    (b"add_seat", Verb::AddSeat, &[OptionalText, U64]),
+    (
+        b"add_device",
+        Verb::AddDevice,
+        &[U64, OptionalText, TypeNumber, U64],
+    ),
+    (b"remove_seat", Verb::RemoveSeat, &[U64]),
+    (b"remove_device", Verb::RemoveDevice, &[U64]),
+    (b"resumed", Verb::Resumed, &[U64]),
+    (b"paused", Verb::Paused, &[U64]),
+    (b"start_emulating", Verb::StartEmulating, &[U64, U32]),
+    (b"stop_emulating", Verb::StopEmulating, &[U64]),
+    (b"frame", Verb::Frame, &[U64, U64]),
+    (b"disconnected", Verb::Disconnected, &[Reason, OptionalText]),
+    (b"last_serial", Verb::LastSerial, &[]),
+    (b"has_interface", Verb::HasInterface, &[Text]),
+    (b"interface_version", Verb::InterfaceVersion, &[Text]),
+    (b"has_capability", Verb::HasCapability, &[U64, Capability]),
+    (b"read", Verb::Read, &[Count, Text]),
+    (b"message", Verb::Message, &[Text]),
+    (b"write_message", Verb::WriteMessage, &[Interface, Text]),
+    (b"read_message", Verb::ReadMessage, &[Interface, Text]),
 ];
 
-// The row of a first word, counted from 0.
-#[derive(Clone, Copy)]
-pub enum Found {
-    Row(usize),
-    Nothing,
+// How many rows are settings; behind them stand the calls.
+pub const SETTINGS: usize = 3;
+
+// The first and the last row of a client's requests.
+pub const FIRST_REQUEST: usize = 4;
+
+pub const LAST_REQUEST: usize = 39;
+
+// The row of a first word, whatever its length, counted from 0.
+pub fn find(word: &[u8]) -> Option<usize>
+    ensures row { told result ≡ lookup word.now }
+    ensures within { IfSome result (λ i. i < 59) }
+{
+    ROWS.iter().position(|row| row.0 == word)
 }
 
-// Whether the row is that of the word.
-fn is_verb(i: usize, word: &[u8]) -> bool
-    requires { i < 59 }
-    ensures { result ≡ same_bytes (row_at i).name word.now }
+// The row of a number.
+fn row(rows: &'static [Row], i: usize) -> &'static Row
+    requires { (map entry_of rows.now ≡ table) × (i < 59) }
+    ensures { entry_of result.now ≡ row_at i }
 {
-    let rows = ROWS;
-    let from = i * 37;
-    let end = from + 33;
-    let name = &rows[from..end];
-    let len = word::find_byte(name, 0, b' ');
-    word::same(&name[..len], word)
-}
-
-// The row of a first word, whatever its length.
-pub fn find(word: &[u8]) -> Found
-    ensures { number_found result ≡ lookup word.now }
-{
-    let mut i: usize = 0;
-    while i < 59 {
-        if is_verb(i, word) {
-            return Found::Row(i);
-        }
-        i += 1;
-    }
-    Found::Nothing
+    &rows[i]
 }
 
 pub fn verb_at(i: usize) -> Verb
     requires { i < 59 }
     ensures { result ≡ (row_at i).verb }
 {
-    VERBS[i]
-}
-
-// What a letter of the table stands for.
-fn slot_of(letter: u8) -> Slot
-    ensures { result ≡ slot_of letter }
-{
-    match letter {
-        b'q' => Slot::Of(Kind::U64),
-        b'u' => Slot::Of(Kind::U32),
-        b'i' => Slot::Of(Kind::I32),
-        b'f' => Slot::Of(Kind::F32),
-        b't' => Slot::Of(Kind::Text),
-        b'o' => Slot::Of(Kind::OptionalText),
-        b's' => Slot::Of(Kind::State),
-        b'y' => Slot::Of(Kind::TypeNumber),
-        b'r' => Slot::Of(Kind::Reason),
-        b'm' => Slot::Of(Kind::Capability),
-        b'n' => Slot::Of(Kind::Count),
-        b'p' => Slot::Of(Kind::Part),
-        b'e' => Slot::Of(Kind::Interface),
-        _ => Slot::Empty,
-    }
+    row(&ROWS, i).1
 }
 
 // In a read a part stands for a text.
 fn kind_in(kind: Kind, within: bool) -> Kind
     ensures { result ≡ kind_in within kind }
 {
-    if within {
-        if let Kind::Text = kind {
-            return Kind::Part;
-        }
-    }
-    kind
-}
-
-fn slot_in(slot: Slot, within: bool) -> Slot
-    ensures { result ≡ slot_within within slot }
-{
-    match slot {
-        Slot::Empty => Slot::Empty,
-        Slot::Of(kind) => Slot::Of(kind_in(kind, within)),
+    match kind {
+        Text if within => Part,
+        _ => kind,
     }
 }
 
-// What the word at a place behind the first is read as, in a read or outside of one.
-pub fn slot_at(i: usize, place: usize, within: bool) -> Slot
-    requires { (i < 59) × (place < 4) }
-    ensures { result ≡ slot_at place (kinds_of within (row_at i)) }
+// What the word at a place behind the first is read as, in a read or outside of one; none where no word stands there.
+pub fn kind_at(i: usize, place: usize, within: bool) -> Option<Kind>
+    requires { i < 59 }
+    ensures { result ≡ kind_at place (kinds_of within (row_at i)) }
 {
-    slot_in(slot_of(ROWS[i * 37 + 33 + place]), within)
+    let kinds = row(&ROWS, i).2;
+    if kinds.len() <= place {
+        return None;
+    }
+    Some(kind_in(kinds[place], within))
 }

@@ -1,52 +1,27 @@
-// Words: where they end, whether two are the same, and the numbers that they stand for.
-ghost use Rattle.std.specs.Prelude.{◌+◌, ◌^◌, ◌≤◌, ◌≡◌, length, drop, pos, neg_ℤ};
+// Words: where they end, and the numbers that they stand for.
+ghost use Rattle.std.specs.Prelude.{◌+◌, ◌^◌, ◌≤◌, ◌≡◌, eqb, length, drop, position, pos, neg_ℤ};
 ghost use Rattle.std.specs.Float.Ieee.{of_bits};
 ghost use Rattle.std.specs.Float.{binary32};
-ghost use Rattle.eiproto.specs.Interface.{same_bytes};
-ghost use Rattle.script.specs.Words.{starts_with, before};
+ghost use Rattle.eiproto.specs.Told.{told};
+ghost use Rattle.script.specs.Words.{before};
 ghost use Rattle.script.specs.Number.{digit, digits, number, that, fits64};
-ghost use Rattle.script.specs.Told.{number_told};
+
+// Where the first such byte is, if there is one.
+fn first(s: &[u8], b: u8) -> Option<usize>
+    ensures { result ≡ position (λ c. eqb c b) s.now }
+{
+    s.iter().position(|&c| c == b)
+}
 
 // Where the first such byte is, from a place on; the length where there is none.
 pub fn find_byte(s: &[u8], from: usize, b: u8) -> usize
     requires { from ≤ length s.now }
     ensures { result ≡ from + length (before b (drop from s.now)) }
 {
-    let mut i = from;
-    while i < s.len() {
-        if s[i] == b {
-            return i;
-        }
-        i += 1;
+    match first(&s[from..], b) {
+        Some(k) => from + k,
+        None => s.len(),
     }
-    i
-}
-
-// Whether two words are the same.
-pub fn same(a: &[u8], b: &[u8]) -> bool
-    ensures { result ≡ same_bytes a.now b.now }
-{
-    if a.len() != b.len() {
-        return false;
-    }
-    let mut k: usize = 0;
-    while k < a.len() {
-        if a[k] != b[k] {
-            return false;
-        }
-        k += 1;
-    }
-    true
-}
-
-pub fn starts_with(word: &[u8], prefix: &[u8]) -> bool
-    ensures { result ≡ starts_with prefix.now word.now }
-{
-    let n = prefix.len();
-    if word.len() < n {
-        return false;
-    }
-    same(prefix, &word[..n])
 }
 
 // The value of a digit, in small or in capital letters; 16 where the character is none.
@@ -61,51 +36,33 @@ pub fn value_of(c: u8) -> u8
     }
 }
 
-fn wide(x: u8) -> u64
-    ensures { result ≡ x }
+// The number of digits, if there is one digit at least, and 64 bits have room.
+pub fn digits(word: &[u8], base: u64) -> Option<u64>
+    requires { (1 ≤ base) × (base ≤ 16) }
+    ensures { told result ≡ that fits64 (digits base word.now) }
 {
-    x as u64
-}
-
-// A number of 64 bits, if there is one.
-#[derive(Clone, Copy)]
-pub enum Number {
-    Is(u64),
-    Nothing,
-}
-
-// The number of the digits from a place on.
-pub fn digits_from(word: &[u8], from: usize, base: u64) -> Number
-    requires { (from ≤ length word.now) × ((1 ≤ base) × (base ≤ 16)) }
-    ensures { number_told result ≡ that fits64 (digits base (drop from word.now)) }
-{
-    if word.len() <= from {
-        return Number::Nothing;
+    if word.is_empty() {
+        return None;
     }
-    let mut v: u64 = 0;
-    let mut i = from;
-    while i < word.len() {
-        let d = wide(value_of(word[i]));
+    let mut n: u64 = 0;
+    for &c in word {
+        let d = u64::from(value_of(c));
         if base <= d {
-            return Number::Nothing;
+            return None;
         }
-        if (u64::MAX - d) / base < v {
-            return Number::Nothing;
-        }
-        v = v * base + d;
-        i += 1;
+        n = n.checked_mul(base)?.checked_add(d)?;
     }
-    Number::Is(v)
+    Some(n)
 }
 
 // The number of a word, decimal or hexadecimal.
-pub fn number_in(word: &[u8]) -> Number
-    ensures { number_told result ≡ that fits64 (number word.now) }
+pub fn number(word: &[u8]) -> Option<u64>
+    ensures { told result ≡ that fits64 (number word.now) }
 {
-    if starts_with(word, b"0x") {
-        digits_from(word, 2, 16)
+    if word.starts_with(b"0x") {
+        digits(&word[2..], 16)
     } else {
-        digits_from(word, 0, 10)
+        digits(word, 10)
     }
 }
 
@@ -123,7 +80,7 @@ pub fn of_bits(bits: u32) -> f32
     ensures { result ≡ of_bits binary32 bits }
 {
     if 0x7f800000 < bits % 0x80000000 {
-        return 0.0 / 0.0;
+        return f32::NAN;
     }
     f32::from_bits(bits)
 }

@@ -1,15 +1,11 @@
 -- What a line asks for, by its first word and the words behind it. Assumes nothing.
-use Rattle.std.specs.Prelude.{ℕ}
+use Rattle.std.specs.Prelude.{ℕ, Option, Some, None, Result, Ok, Err}
 use Rattle.eiproto.specs.declared.eiproto_enum.ButtonState.{ButtonState}
-use Rattle.eiproto.specs.declared.eiproto_enum.ButtonStateOf.{ButtonStateOf}
 use Rattle.eiproto.specs.declared.eiproto_enum.DeviceType.{DeviceType}
-use Rattle.eiproto.specs.declared.eiproto_enum.DeviceTypeOf.{DeviceTypeOf}
 use Rattle.eiproto.specs.declared.eiproto_enum.DisconnectReason.{DisconnectReason}
-use Rattle.eiproto.specs.declared.eiproto_enum.DisconnectReasonOf.{DisconnectReasonOf}
 use Rattle.eiproto.specs.declared.eiproto_enum.KeyState.{KeyState}
-use Rattle.eiproto.specs.declared.eiproto_enum.KeyStateOf.{KeyStateOf}
+use Rattle.eiproto.specs.declared.eiproto_enum.InvalidVariant.{InvalidVariant}
 use Rattle.eiproto.specs.declared.event.DeviceCapability.{DeviceCapability}
-use Rattle.eiproto.specs.declared.event.DeviceCapabilityOf.{DeviceCapabilityOf}
 use Rattle.eiproto.specs.Enum.{button_state_of, device_type_of, disconnect_reason_of, key_state_of}
 use Rattle.eiproto.specs.Capability.{capability_mask, capability_by}
 use Rattle.requests.specs.declared.eis.HandshakeRequest.{HandshakeRequest}
@@ -41,37 +37,37 @@ use Rattle.script_asked.specs.declared.Asked.{Asked}
 -- ---- the words behind the first
 
 -- a press state, a device's type, a reason and a capability by their numbers; a line that has another number there is no call (`read_as` of script)
-abbrev pub key_case : KeyStateOf → KeyState
-key_case (KeyStateOf.Case s) = s
-key_case (KeyStateOf.InvalidVariant n) = KeyState.Released
+abbrev pub key_case : Result KeyState InvalidVariant → KeyState
+key_case (Ok s) = s
+key_case (Err n) = KeyState.Released
 
 abbrev pub key_state : Value → KeyState
 key_state v = key_case (key_state_of (u32_of v))
 
-abbrev pub button_case : ButtonStateOf → ButtonState
-button_case (ButtonStateOf.Case s) = s
-button_case (ButtonStateOf.InvalidVariant n) = ButtonState.Released
+abbrev pub button_case : Result ButtonState InvalidVariant → ButtonState
+button_case (Ok s) = s
+button_case (Err n) = ButtonState.Released
 
 abbrev pub button_state : Value → ButtonState
 button_state v = button_case (button_state_of (u32_of v))
 
-abbrev pub type_case : DeviceTypeOf → DeviceType
-type_case (DeviceTypeOf.Case t) = t
-type_case (DeviceTypeOf.InvalidVariant n) = DeviceType.Virtual
+abbrev pub type_case : Result DeviceType InvalidVariant → DeviceType
+type_case (Ok t) = t
+type_case (Err n) = DeviceType.Virtual
 
 abbrev pub device_type : Value → DeviceType
 device_type v = type_case (device_type_of (u32_of v))
 
-abbrev pub reason_case : DisconnectReasonOf → DisconnectReason
-reason_case (DisconnectReasonOf.Case r) = r
-reason_case (DisconnectReasonOf.InvalidVariant n) = DisconnectReason.Disconnected
+abbrev pub reason_case : Result DisconnectReason InvalidVariant → DisconnectReason
+reason_case (Ok r) = r
+reason_case (Err n) = DisconnectReason.Disconnected
 
 abbrev pub reason : Value → DisconnectReason
 reason v = reason_case (disconnect_reason_of (u32_of v))
 
-abbrev pub capability_case : DeviceCapabilityOf → DeviceCapability
-capability_case (DeviceCapabilityOf.Case c) = c
-capability_case DeviceCapabilityOf.Unknown = DeviceCapability.Pointer
+abbrev pub capability_case : Option DeviceCapability → DeviceCapability
+capability_case (Some c) = c
+capability_case None = DeviceCapability.Pointer
 
 abbrev pub capability : Value → DeviceCapability
 capability v = capability_case (capability_by capability_mask (u64_of v))

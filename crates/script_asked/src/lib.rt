@@ -5,11 +5,8 @@
 ghost use Rattle.std.specs.Prelude.{◌≡◌};
 ghost use Rattle.script_asked.specs.Asked.{asked, told, words_of, key_state, button_state, device_type, reason, capability};
 
-use eiproto::eiproto_enum::{
-    ButtonState, ButtonStateOf, DeviceType, DeviceTypeOf, DisconnectReason, DisconnectReasonOf,
-    KeyState, KeyStateOf,
-};
-use eiproto::event::{DeviceCapability, DeviceCapabilityOf};
+use eiproto::eiproto_enum::{ButtonState, DeviceType, DisconnectReason, KeyState};
+use eiproto::event::DeviceCapability;
 use requests::eis::{
     ButtonRequest, ConnectionRequest, DeviceRequest, HandshakeRequest, InterfaceRequest,
     KeyboardRequest, PointerAbsoluteRequest, PointerRequest, Request, ScrollRequest, SeatRequest,
@@ -103,36 +100,36 @@ pub enum Asked {
 fn key_state(v: Value) -> KeyState
     ensures { result ≡ key_state v }
 {
-    match KeyState::parse(script::u32_of(v)) {
-        KeyStateOf::Case(state) => state,
-        KeyStateOf::InvalidVariant(_) => KeyState::Released,
+    match KeyState::try_from(script::u32_of(v)) {
+        Ok(state) => state,
+        Err(_) => KeyState::Released,
     }
 }
 
 fn button_state(v: Value) -> ButtonState
     ensures { result ≡ button_state v }
 {
-    match ButtonState::parse(script::u32_of(v)) {
-        ButtonStateOf::Case(state) => state,
-        ButtonStateOf::InvalidVariant(_) => ButtonState::Released,
+    match ButtonState::try_from(script::u32_of(v)) {
+        Ok(state) => state,
+        Err(_) => ButtonState::Released,
     }
 }
 
 fn device_type(v: Value) -> DeviceType
     ensures { result ≡ device_type v }
 {
-    match DeviceType::parse(script::u32_of(v)) {
-        DeviceTypeOf::Case(kind) => kind,
-        DeviceTypeOf::InvalidVariant(_) => DeviceType::Virtual,
+    match DeviceType::try_from(script::u32_of(v)) {
+        Ok(kind) => kind,
+        Err(_) => DeviceType::Virtual,
     }
 }
 
 fn reason_of(v: Value) -> DisconnectReason
     ensures { result ≡ reason v }
 {
-    match DisconnectReason::parse(script::u32_of(v)) {
-        DisconnectReasonOf::Case(reason) => reason,
-        DisconnectReasonOf::InvalidVariant(_) => DisconnectReason::Disconnected,
+    match DisconnectReason::try_from(script::u32_of(v)) {
+        Ok(reason) => reason,
+        Err(_) => DisconnectReason::Disconnected,
     }
 }
 
@@ -140,8 +137,8 @@ fn capability_of(v: Value) -> DeviceCapability
     ensures { result ≡ capability v }
 {
     match DeviceCapability::from_mask(script::u64_of(v)) {
-        DeviceCapabilityOf::Case(capability) => capability,
-        DeviceCapabilityOf::Unknown => DeviceCapability::Pointer,
+        Some(capability) => capability,
+        None => DeviceCapability::Pointer,
     }
 }
 
@@ -171,10 +168,7 @@ pub struct Words {
 fn words_of(args: Args) -> Words
     ensures { result ≡ words_of args }
 {
-    let a = args.a;
-    let b = args.b;
-    let c = args.c;
-    let d = args.d;
+    let Args { a, b, c, d } = args;
     Words {
         a64: script::u64_of(a),
         a32: script::u32_of(a),
@@ -200,11 +194,6 @@ fn words_of(args: Args) -> Words
 fn told(verb: Verb, w: Words) -> Asked
     ensures { result ≡ told verb w }
 {
-    let key = w.key;
-    let button = w.button;
-    let kind = w.kind;
-    let reason = w.reason;
-    let capability = w.capability;
     match verb {
         Verb::Now => Asked::Now(w.a64),
         Verb::Out => Asked::Out(w.a64),
@@ -372,7 +361,7 @@ fn told(verb: Verb, w: Words) -> Asked
             version: 1,
             request: Request::Interface(InterfaceRequest::Button(ButtonRequest::Button {
                 button: w.b32,
-                state: button,
+                state: w.button,
             })),
         },
         Verb::KeyboardRelease => Asked::Client {
@@ -385,7 +374,7 @@ fn told(verb: Verb, w: Words) -> Asked
             version: 1,
             request: Request::Interface(InterfaceRequest::Keyboard(KeyboardRequest::Key {
                 key: w.b32,
-                state: key,
+                state: w.key,
             })),
         },
         Verb::TouchscreenRelease => Asked::Client {
@@ -437,7 +426,7 @@ fn told(verb: Verb, w: Words) -> Asked
             version: 1,
             request: Request::Interface(InterfaceRequest::Text(TextRequest::Keysym {
                 keysym: w.b32,
-                state: key,
+                state: w.key,
             })),
         },
         Verb::TextUtf8 => Asked::Client {
@@ -451,7 +440,7 @@ fn told(verb: Verb, w: Words) -> Asked
         })),
         Verb::AddDevice => Asked::Station(Station::Add(Add::Device {
             seat: w.a64,
-            kind,
+            kind: w.kind,
             capabilities: w.d64,
         })),
         Verb::RemoveSeat => Asked::Station(Station::Remove(Remove::Seat { seat: w.a64 })),
@@ -467,13 +456,13 @@ fn told(verb: Verb, w: Words) -> Asked
             device: w.a64,
             time: w.b64,
         })),
-        Verb::Disconnected => Asked::Station(Station::Remove(Remove::All { reason })),
+        Verb::Disconnected => Asked::Station(Station::Remove(Remove::All { reason: w.reason })),
         Verb::LastSerial => Asked::Station(Station::Ask(Ask::LastSerial)),
         Verb::HasInterface => Asked::Station(Station::Ask(Ask::HasInterface)),
         Verb::InterfaceVersion => Asked::Station(Station::Ask(Ask::InterfaceVersion)),
         Verb::HasCapability => Asked::Station(Station::Ask(Ask::HasCapability {
             device: w.a64,
-            capability,
+            capability: w.capability,
         })),
         Verb::Read => Asked::Read(w.a32),
         Verb::Message => Asked::Message,

@@ -1,9 +1,10 @@
 -- The calls of the model that the station's calls of a script are, and what is promised of them. Assumes nothing.
-use Rattle.std.specs.Prelude.{ℕ, Bool, List}
+use Rattle.std.specs.Prelude.{ℕ, Bool, List, Result}
 use Rattle.model.specs.Call.{Plain, Call}
 use Rattle.session.specs.View.{Lending}
 use Rattle.session.specs.Slices.{Numbers, SharedNumbers, Reals, rows_before, rows_after, optional}
 use Rattle.answers.specs.declared.Answer.{Answer}
+use Rattle.answers.specs.declared.Error.{Error}
 use Rattle.answers.specs.Meets.{Answered}
 use Rattle.script_asked.specs.declared.Add.{Add}
 use Rattle.script_asked.specs.declared.Remove.{Remove}
@@ -49,7 +50,7 @@ lending (Station.Tell a) = Lending.control
 lending (Station.Ask a) = Lending.control
 
 -- the call is made, and nothing else: at any clock and whatever the texts are
-abbrev pub PromiseStation : (control words : Numbers) (reals : Reals) (out : Numbers) → Station → (given : Bool) → (text : SharedNumbers) → Answer → Type 0
+abbrev pub PromiseStation : (control words : Numbers) (reals : Reals) (out : Numbers) → Station → (given : Bool) → (text : SharedNumbers) → Result Answer Error → Type 0
 PromiseStation c w r out a given text answer =
     (clock : ℕ) (t : List ℕ)
     → Answered (lending a) (rows_before c w r t) (rows_after c w r t) out.entry.now out.exit.now (Call.plain (station_call a given text.entry.now)) clock answer

@@ -5,20 +5,27 @@
 ghost use Rattle.answers.specs.Promise.{Promise, PromiseRows, Reply};
 ghost use Rattle.script_calls.specs.Station.{add_call, remove_call, tell_call, ask_call, PromiseStation};
 
-use answers::Answer;
+use answers::{Answer, Error};
 use script_asked::{Add, Ask, Remove, Station, Tell};
 
 // `given` tells whether the name is.
-fn add(control: &mut [u64], call: Add, given: bool, name: &[u8], out: &mut [u8]) -> Answer
+fn add(
+    control: &mut [u64],
+    call: Add,
+    given: bool,
+    name: &[u8],
+    out: &mut [u8],
+) -> Result<Answer, Error>
     ensures { Promise control out (add_call call given name.now) result }
 {
+    let name = answers::if_given(given, name);
     match call {
-        Add::Seat { capabilities } => connection::add_seat(control, given, name, capabilities, out),
+        Add::Seat { capabilities } => connection::add_seat(control, name, capabilities, out),
         Add::Device {
             seat,
             kind,
             capabilities,
-        } => seat::add_device(control, seat, given, name, kind, capabilities, out),
+        } => seat::add_device(control, seat, name, kind, capabilities, out),
     }
 }
 
@@ -31,7 +38,7 @@ fn remove(
     given: bool,
     explanation: &[u8],
     out: &mut [u8],
-) -> Answer
+) -> Result<Answer, Error>
     ensures { PromiseRows control words reals out (remove_call call given explanation.now) result }
 {
     match call {
@@ -42,14 +49,13 @@ fn remove(
             words,
             reals,
             reason,
-            given,
-            explanation,
+            answers::if_given(given, explanation),
             out,
         ),
     }
 }
 
-fn tell(control: &mut [u64], call: Tell, out: &mut [u8]) -> Answer
+fn tell(control: &mut [u64], call: Tell, out: &mut [u8]) -> Result<Answer, Error>
     ensures { Promise control out (tell_call call) result }
 {
     match call {
@@ -63,7 +69,7 @@ fn tell(control: &mut [u64], call: Tell, out: &mut [u8]) -> Answer
     }
 }
 
-fn ask(control: &[u64], call: Ask, name: &[u8]) -> Answer
+fn ask(control: &[u64], call: Ask, name: &[u8]) -> Result<Answer, Error>
     ensures { Reply control (ask_call call name.now) result }
 {
     match call {
@@ -85,7 +91,7 @@ pub fn make(
     given: bool,
     text: &[u8],
     out: &mut [u8],
-) -> Answer
+) -> Result<Answer, Error>
     ensures { PromiseStation control words reals out call given text result }
 {
     match call {

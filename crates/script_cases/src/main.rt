@@ -15,14 +15,7 @@ fn text(to: &mut impl Write, s: &[u8]) -> io::Result<()> {
 fn word_end(line: &[u8]) -> usize
     ensures { result ≤ length line.now }
 {
-    let mut i: usize = 0;
-    while i < line.len() {
-        if line[i] == b' ' {
-            return i;
-        }
-        i += 1;
-    }
-    i
+    line.iter().position(|&b| b == b' ').unwrap_or(line.len())
 }
 
 fn verb(to: &mut impl Write, line: &[u8]) -> io::Result<()> {
@@ -32,34 +25,28 @@ fn verb(to: &mut impl Write, line: &[u8]) -> io::Result<()> {
 
 fn answer(to: &mut impl Write, line: &[u8]) -> io::Result<()> {
     match script::parse(line, false) {
-        Line::Blank => text(to, b" blank\n")?,
-        Line::Setting { verb: _, args: _ } => text(to, b" setting\n")?,
-        Line::Call { verb: _, args: _ } => {
+        Line::Blank => text(to, b" blank\n"),
+        Line::Setting { .. } => text(to, b" setting\n"),
+        Line::Call { .. } => {
             text(to, b" call ")?;
             verb(to, line)?;
-            text(to, b"\n")?;
+            text(to, b"\n")
         }
-        Line::NoCall => text(to, b" no call\n")?,
+        Line::NoCall => text(to, b" no call\n"),
     }
-    Ok(())
 }
 
 // `cut` says that the line had more bytes than the buffer.
 fn say(to: &mut impl Write, number: u64, line: &[u8], cut: bool) -> io::Result<()> {
     write!(to, "{number}")?;
-    if cut {
-        text(to, b" no call\n")?;
-        return Ok(());
-    }
-    if 65536 < line.len() {
-        text(to, b" no call\n")?;
-        return Ok(());
+    if cut || 65536 < line.len() {
+        return text(to, b" no call\n");
     }
     answer(to, line)
 }
 
 // The line that is begun: where, its number, and whether its first bytes are gone.
-#[derive(Clone, Copy)]
+#[derive(Clone, Copy, Debug, PartialEq, Eq)]
 struct Begun {
     at: usize,
     number: u64,
@@ -82,13 +69,13 @@ fn lines(
     let mut gone = cut;
     while at < filled {
         match script::line_end(buf, at, filled) {
-            LineEnd::At { end, next } => {
+            Some(LineEnd { end, next }) => {
                 say(to, n, &buf[at..end], gone)?;
-                n = std::num::wrapping_add_u64(n, 1);
+                n = n.wrapping_add(1);
                 gone = false;
                 at = next;
             }
-            LineEnd::Nothing => {
+            None => {
                 return Ok(Begun {
                     at,
                     number: n,
@@ -108,15 +95,11 @@ fn lines(
 fn move_down(buf: &mut [u8], at: usize, filled: usize)
     requires { (at ≤ filled) × (filled ≤ length buf.old) }
 {
-    let mut i = at;
-    while i < filled {
-        buf[i - at] = buf[i];
-        i += 1;
-    }
+    buf.copy_within(at..filled, 0);
 }
 
 // How much of the buffer is filled, the number of the line that is begun, whether its first bytes are gone, and whether there is more to read.
-#[derive(Clone, Copy)]
+#[derive(Clone, Copy, Debug, PartialEq, Eq)]
 struct Progress {
     filled: usize,
     number: u64,
@@ -159,11 +142,7 @@ fn take_lines(
 fn finish(to: &mut impl Write, buf: &[u8], filled: usize, number: u64, cut: bool) -> io::Result<()>
     requires { filled ≤ length buf.now }
 {
-    if cut {
-        say(to, number, &buf[..filled], cut)?;
-        return Ok(());
-    }
-    if 0 < filled {
+    if cut || 0 < filled {
         say(to, number, &buf[..filled], cut)?;
     }
     Ok(())

@@ -2,7 +2,7 @@
 use Rattle.std.specs.Prelude.{ℕ, List}
 use Rattle.session.specs.Slices.{Numbers}
 use Rattle.event_messages.specs.declared.MessageError.{MessageError}
-use Rattle.event_messages.specs.declared.Written.{Written}
+use Rattle.event_messages.specs.Written.{Written}
 use Rattle.event_messages.specs.Stands.{Stands, Turned}
 use Rattle.script_asked.specs.declared.Event.{Event}
 use Rattle.script_session.specs.Lent.{InRoom}

@@ -2,7 +2,8 @@
 use Rattle.std.specs.Prelude.{ℕ, ◌+◌, Bool, true, cond, List, [], ◌∷◌, ◌++◌, take}
 use Rattle.model.specs.Plan.{Result}
 use Rattle.event_messages.specs.declared.MessageError.{MessageError}
-use Rattle.event_messages.specs.declared.Written.{Written}
+use Rattle.event_messages.specs.Written.{Written}
+use Rattle.std.specs.Prelude.{Ok, Err}
 use Rattle.script_asked.specs.declared.Event.{Event}
 use Rattle.script_pattern.specs.Pattern.{first_event, shown, bytes_of}
 use Rattle.script_pattern.specs.declared.table.Shown.{Shown}
@@ -21,13 +22,13 @@ event_pattern (Event.Write interface) = first_event
 event_pattern (Event.Read interface) = first_event + 1
 
 abbrev pub event_shown : (explained : Bool) → Event → Written → Shown
-event_shown x event (Written.Bytes n) = shown (event_pattern event) 0 0 0 0 0
-event_shown x event (Written.Refused e) = refused x e
+event_shown x event (Ok n) = shown (event_pattern event) 0 0 0 0 0
+event_shown x event (Err e) = refused x e
 
 -- how many bytes were written
 abbrev pub event_count : Written → ℕ
-event_count (Written.Bytes n) = n
-event_count (Written.Refused e) = 0
+event_count (Ok n) = n
+event_count (Err e) = 0
 
 -- a record in words, on a line of its own; a message has none
 abbrev pub event_words : Event → (bytes : List ℕ) → List ℕ

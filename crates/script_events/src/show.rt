@@ -3,7 +3,7 @@ ghost use Rattle.std.specs.Prelude.{◌≡◌, take};
 ghost use Rattle.script_pattern.specs.Put.{Puts};
 ghost use Rattle.script_events.specs.Shown.{refused, event_pattern, event_shown, event_count, event_words, event_line};
 
-use event_messages::{MessageError, Written};
+use event_messages::MessageError;
 use script_asked::Event;
 use script_pattern::table;
 use script_pattern::table::Shown;
@@ -22,27 +22,24 @@ fn event_pattern(event: Event) -> usize
     ensures { result ≡ event_pattern event }
 {
     match event {
-        Event::Write { interface: _ } => table::EVENT,
-        Event::Read { interface: _ } => table::EVENT + 1,
+        Event::Write { .. } => table::EVENT,
+        Event::Read { .. } => table::EVENT + 1,
     }
 }
 
-fn event_shown(event: Event, r: Written, explained: bool) -> Shown
+fn event_shown(event: Event, r: Result<usize, MessageError>, explained: bool) -> Shown
     ensures { result ≡ event_shown explained event r }
 {
     match r {
-        Written::Bytes(_) => table::single(event_pattern(event), 0),
-        Written::Refused(e) => refused(e, explained),
+        Ok(_) => table::single(event_pattern(event), 0),
+        Err(e) => refused(e, explained),
     }
 }
 
-fn event_count(r: Written) -> usize
+fn event_count(r: Result<usize, MessageError>) -> usize
     ensures { result ≡ event_count r }
 {
-    match r {
-        Written::Bytes(n) => n,
-        Written::Refused(_) => 0,
-    }
+    r.unwrap_or(0)
 }
 
 // The words of a record whose bytes begin `out`; a message has none.
@@ -50,19 +47,26 @@ fn event_words(line: &mut [u8], at: usize, event: Event, count: usize, out: &[u8
     ensures { Puts line at result (event_words event (take count out.now)) }
 {
     match event {
-        Event::Write { interface: _ } => at,
-        Event::Read { interface: _ } => script_show::in_words(line, at, count, out),
+        Event::Write { .. } => at,
+        Event::Read { .. } => script_show::in_words(line, at, count, out),
     }
 }
 
 // What a line is answered. The bytes that were written begin `out`.
-pub fn event_answer(line: &mut [u8], event: Event, r: Written, out: &[u8], explained: bool) -> usize
+pub fn event_answer(
+    line: &mut [u8],
+    event: Event,
+    r: Result<usize, MessageError>,
+    out: &[u8],
+    explained: bool,
+) -> usize
     ensures { Puts line 0 result (event_line event r out.now explained) }
 {
     let count = event_count(r);
     let next = script_show::ended_first(line, event_shown(event, r, explained), count, out);
     if explained {
-        return event_words(line, next, event, count, out);
+        event_words(line, next, event, count, out)
+    } else {
+        next
     }
-    next
 }

@@ -1,24 +1,25 @@
 -- What a client's line is to the handshake, and what is promised of it. Assumes nothing.
-use Rattle.std.specs.Prelude.{ℕ, ◌≡◌, true, false, List, length}
+use Rattle.std.specs.Prelude.{ℕ, ◌≡◌, true, false, List, length, Result, Ok, Err}
 use Rattle.eiproto.specs.Enum.{context_type_of}
 use Rattle.eiproto.specs.declared.eiproto_enum.ContextType.{ContextType}
-use Rattle.eiproto.specs.declared.eiproto_enum.ContextTypeOf.{ContextTypeOf}
+use Rattle.eiproto.specs.declared.eiproto_enum.InvalidVariant.{InvalidVariant}
 use Rattle.requests.specs.declared.eis.HandshakeRequest.{HandshakeRequest}
 use Rattle.requests.specs.declared.eis.Request.{Request}
 use Rattle.session.specs.Slices.{Numbers, SharedNumbers}
 use Rattle.handshake.specs.Handshake as paper
-use Rattle.handshake.specs.View.{request_of, is_finished, Meets, Handled}
+use Rattle.handshake.specs.View.{request_of, is_finished, response_in, Meets, Handled}
 use Rattle.handshake.specs.declared.handshake.EisHandshaker.{EisHandshaker}
 use Rattle.handshake.specs.declared.handshake.HandshakeMessage.{HandshakeMessage}
 use Rattle.handshake.specs.declared.handshake.HandshakeAnswer.{HandshakeAnswer}
 use Rattle.answers.specs.declared.Answer.{Answer}
+use Rattle.answers.specs.declared.Error.{Error}
 use Rattle.converter.specs.Next.{Begins}
 use Rattle.script_session.specs.Lent.{InRoom}
 
 -- a context type by its number; a line that has another number there is no call (`read_as` of script)
-abbrev pub context_case : ContextTypeOf → ContextType
-context_case (ContextTypeOf.Case c) = c
-context_case (ContextTypeOf.InvalidVariant n) = ContextType.Receiver
+abbrev pub context_case : Result ContextType InvalidVariant → ContextType
+context_case (Ok c) = c
+context_case (Err n) = ContextType.Receiver
 
 abbrev pub context_type : ℕ → ContextType
 context_type n = context_case (context_type_of n)
@@ -49,5 +50,5 @@ HandledIn h request text said out r = InRoom said out.entry.now out.exit.now (λ
 
 -- the control words c become those of a session that begins where a Finish succeeded, and are left alone otherwise
 pub record Opens (c d : List ℕ) (a : HandshakeAnswer) : Type 0 where
-  pub finished : is_finished a.outcome ≡ true → (r : Answer) × Begins c d a.response r
+  pub finished : is_finished a.outcome ≡ true → (r : Result Answer Error) × Begins c d (response_in a.outcome) r
   pub unfinished : is_finished a.outcome ≡ false → d ≡ c

@@ -5,17 +5,17 @@ ghost use Rattle.std.specs.Prelude.{◌≡◌};
 ghost use Rattle.handshake.specs.View.{is_finished};
 ghost use Rattle.script_handshake.specs.Shaken.{context_type, handshake_message, message_of, StartsIn, HandledIn, Opens};
 
-use eiproto::eiproto_enum::{ContextType, ContextTypeOf};
-use handshake::handshake::{EisHandshaker, HandshakeAnswer, HandshakeMessage, HandshakeOutcome};
+use eiproto::eiproto_enum::ContextType;
+use handshake::handshake::{EisHandshaker, HandshakeAnswer, HandshakeMessage};
 use requests::eis::{HandshakeRequest, Request};
 
 // A context type. A line that has another number there is no call.
 fn context_of(n: u32) -> ContextType
     ensures { result ≡ context_type n }
 {
-    match ContextType::parse(n) {
-        ContextTypeOf::Case(context) => context,
-        ContextTypeOf::InvalidVariant(_) => ContextType::Receiver,
+    match ContextType::try_from(n) {
+        Ok(context) => context,
+        Err(_) => ContextType::Receiver,
     }
 }
 
@@ -43,32 +43,22 @@ pub fn message_of(request: Request) -> HandshakeMessage
 {
     match request {
         Request::Handshake(r) => handshake_message(r),
-        Request::Connection(_) => HandshakeMessage::Other,
-        Request::PingpongDone => HandshakeMessage::Other,
-        Request::Seat(_) => HandshakeMessage::Other,
-        Request::Device(_) => HandshakeMessage::Other,
-        Request::Interface(_) => HandshakeMessage::Other,
+        _ => HandshakeMessage::Other,
     }
 }
 
 pub fn is_finished(a: HandshakeAnswer) -> bool
     ensures { result ≡ is_finished a.outcome }
 {
-    let outcome = a.outcome;
-    match outcome {
-        HandshakeOutcome::Accepted => false,
-        HandshakeOutcome::Finished => true,
-        HandshakeOutcome::Refused(_) => false,
-    }
+    matches!(a.outcome, Ok(Some(_)))
 }
 
 // A fresh handshake, lent so much of `out` as the script says.
 pub fn start(serial: u32, said: u64, out: &mut [u8]) -> HandshakeAnswer
     ensures { StartsIn serial said out result }
 {
-    let from: usize = 0;
     let n = script_session::room(said, out.len());
-    EisHandshaker::new(serial, &mut out[from..n])
+    EisHandshaker::new(serial, &mut out[..n])
 }
 
 // A request of the handshake.
@@ -81,17 +71,15 @@ pub fn take(
 ) -> HandshakeAnswer
     ensures { HandledIn h request text said out result }
 {
-    let from: usize = 0;
     let n = script_session::room(said, out.len());
-    h.handle_request(request, text, &mut out[from..n])
+    h.handle_request(request, text, &mut out[..n])
 }
 
 // The session begins where the handshake ends.
 pub fn open(control: &mut [u64], a: HandshakeAnswer)
     ensures { Opens control.old control.new a }
 {
-    if is_finished(a) {
-        let response = a.response;
-        converter::request::new(control, response);
+    if let Ok(Some(response)) = a.outcome {
+        let _ = converter::request::new(control, response);
     }
 }

@@ -4,13 +4,14 @@ use mathlib.Core.Bool.{true, false}
 use mathlib.Core.List.{[]}
 use Rattle.eiproto.specs.Interface.{ascii}
 use Rattle.answers.specs.declared.Error.{Error}
+use Rattle.std.specs.Prelude.{Ok, Err}
 use Rattle.answers.specs.declared.Outcome.{Outcome}
 use Rattle.wire.specs.declared.ParseError.{ParseError}
 use Rattle.messages.specs.declared.Received.{Received}
 use Rattle.script_pattern.specs.Digits.{decimal}
 use Rattle.script_message.specs.Shown.{message_line}
 
-taken : message_line (Received.Handed (record { outcome = Outcome.Accepted; count = 0 }) 24) [] false ≡ ascii "accepted taken 24\n"
+taken : message_line (Received.Handed (Ok (record { outcome = Outcome.Accepted; count = 0 })) 24) [] false ≡ ascii "accepted taken 24\n"
 unfolding message_line ascii decimal
 taken = refl
 
@@ -30,6 +31,6 @@ left_over : message_line (Received.Malformed (ParseError.MessageLength 32 28)) [
 unfolding message_line ascii decimal
 left_over = refl
 
-invalid_id : message_line (Received.Handed (record { outcome = Outcome.Refused Error.InvalidId; count = 0 }) 0) [] true ≡ ascii "refused 25 (invalid id)\n"
+invalid_id : message_line (Received.Handed (Err Error.InvalidId) 0) [] true ≡ ascii "refused 25 (invalid id)\n"
 unfolding message_line ascii decimal
 invalid_id = refl

@@ -1,11 +1,13 @@
 -- The lines of a trail that a client's bytes have. Assumes nothing.
-use Rattle.std.specs.Prelude.{ℕ, ◌+◌, Bool, cond, List, take}
+use Rattle.std.specs.Prelude.{ℕ, ◌+◌, Bool, cond, List, take, Ok, Err}
+use Rattle.std.specs.Prelude as rust
 use Rattle.model.specs.Plan.{Result}
-use Rattle.answers.specs.Answer.{error_of, outcome_of}
+use Rattle.answers.specs.Answer.{error_of, outcome_of, count_of}
 use Rattle.answers.specs.declared.Answer.{Answer}
+use Rattle.answers.specs.declared.Error.{Error}
 use Rattle.answers.specs.declared.Outcome.{Outcome}
 use Rattle.handshake.specs.declared.handshake.HandshakeAnswer.{HandshakeAnswer}
-use Rattle.handshake.specs.declared.handshake.HandshakeOutcome.{HandshakeOutcome}
+use Rattle.handshake.specs.View.{HandshakeOutcome}
 use Rattle.wire.specs.declared.ParseError.{ParseError}
 use Rattle.messages.specs.declared.Received.{Received}
 use Rattle.script_pattern.specs.Pattern.{first_message, first_malformed, shown}
@@ -27,33 +29,35 @@ malformed x (ParseError.MessageLength read header) = shown (malformed_at 5 x) 23
 malformed x ParseError.InvalidNull = shown (malformed_at 6 x) 23 0 0 0 0
 
 -- "`accepted taken 24`: of one that stands for a call that was accepted"; "the refusals of the call have no more than elsewhere"
-abbrev pub taken_outcome : (explained : Bool) → (taken : ℕ) → Outcome → Shown
-taken_outcome x n Outcome.Accepted = shown first_message n 0 0 0 0
-taken_outcome x n (Outcome.Refused e) = result_shown x (error_of e)
-taken_outcome x n (Outcome.Seat id) = result_shown x (Result.seat id)
-taken_outcome x n (Outcome.Device id) = result_shown x (Result.device id)
-taken_outcome x n (Outcome.Value m) = result_shown x (Result.value m)
-taken_outcome x n (Outcome.Truth b) = result_shown x (Result.truth b)
-taken_outcome x n Outcome.None = result_shown x Result.none
+abbrev pub taken_ending : (explained : Bool) → (taken : ℕ) → Outcome → Shown
+taken_ending x n Outcome.Accepted = shown first_message n 0 0 0 0
+taken_ending x n (Outcome.Seat id) = result_shown x (Result.seat id)
+taken_ending x n (Outcome.Device id) = result_shown x (Result.device id)
+taken_ending x n (Outcome.Value m) = result_shown x (Result.value m)
+taken_ending x n (Outcome.Truth b) = result_shown x (Result.truth b)
+taken_ending x n Outcome.None = result_shown x Result.none
+
+abbrev pub taken_outcome : (explained : Bool) → (taken : ℕ) → rust.Result Answer Error → Shown
+taken_outcome x n (Ok a) = taken_ending x n a.outcome
+taken_outcome x n (Err e) = result_shown x (error_of e)
 
 abbrev pub handshake_taken : (explained : Bool) → (taken : ℕ) → HandshakeOutcome → Shown
-handshake_taken x n HandshakeOutcome.Accepted = shown first_message n 0 0 0 0
-handshake_taken x n HandshakeOutcome.Finished = shown first_message n 0 0 0 0
-handshake_taken x n (HandshakeOutcome.Refused e) = handshake_outcome x (HandshakeOutcome.Refused e)
+handshake_taken x n (Ok s) = shown first_message n 0 0 0 0
+handshake_taken x n (Err e) = handshake_outcome x (Err e)
 
 -- "`wait`: of one not yet whole"; 24 is the number of an id that is not alive
 abbrev pub message_shown : (explained : Bool) → Received → Shown
 message_shown x Received.Wait = shown (first_message + 1) 0 0 0 0 0
 message_shown x Received.NoObject = result_shown x (Result.refused 24)
 message_shown x (Received.Malformed e) = malformed x e
-message_shown x (Received.Handed a n) = taken_outcome x n a.outcome
+message_shown x (Received.Handed a n) = taken_outcome x n a
 
 -- "Behind the bar its records"
 abbrev pub message_count : Received → ℕ
 message_count Received.Wait = 0
 message_count Received.NoObject = 0
 message_count (Received.Malformed e) = 0
-message_count (Received.Handed a n) = a.count
+message_count (Received.Handed a n) = count_of a
 
 -- WHAT A CLIENT'S BYTES ARE ANSWERED; the records begin `out`
 unfoldable pub message_line : Received → (out : List ℕ) → (explained : Bool) → List ℕ

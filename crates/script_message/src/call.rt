@@ -2,9 +2,9 @@
 ghost use Rattle.std.specs.Prelude.{◌≡◌};
 ghost use Rattle.script_message.specs.Lent.{ReceivesIn, ShakesIn, unhanded};
 
-use answers::{Answer, Error};
+use answers::Error;
 use handshake::handshake::EisHandshaker;
-use handshake_messages::{HandshakeReceived, Told};
+use handshake_messages::{HandshakeReceived, Unhanded};
 use messages::Received;
 
 // On the session, at this clock.
@@ -42,18 +42,17 @@ pub fn shake(h: EisHandshaker, message: &[u8], said: u64, out: &mut [u8]) -> Han
     handshake_messages::pending_request(h, message, &mut out[from..n])
 }
 
-// What is told of bytes that were not handed on to the handshake is what a session tells of such. Those that were have the handshake's answer.
-pub fn unhanded(told: Told) -> Received
-    ensures { result ≡ unhanded told }
+// What is told of bytes that were not handed on to the handshake is what a session tells of such.
+pub fn unhanded(why: Unhanded) -> Received
+    ensures { result ≡ unhanded why }
 {
-    match told {
-        Told::Wait => Received::Wait,
-        Told::NoObject => Received::NoObject,
-        Told::Malformed(e) => Received::Malformed(e),
-        Told::InvalidId => {
-            let answer = Answer::refused(Error::InvalidId);
-            Received::Handed { answer, taken: 0 }
-        }
-        Told::Handed => Received::Wait,
+    match why {
+        Unhanded::Wait => Received::Wait,
+        Unhanded::NoObject => Received::NoObject,
+        Unhanded::Malformed(e) => Received::Malformed(e),
+        Unhanded::InvalidId => Received::Handed {
+            answer: Err(Error::InvalidId),
+            taken: 0,
+        },
     }
 }

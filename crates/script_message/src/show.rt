@@ -3,8 +3,8 @@ ghost use Rattle.std.specs.Prelude.{◌≡◌, ◌+◌, ◌≤◌, cond};
 ghost use Rattle.script_pattern.specs.Put.{Puts};
 ghost use Rattle.script_message.specs.Shown.{malformed_at, malformed, taken_outcome, handshake_taken, message_shown, message_count, message_line, handshake_message_line};
 
-use answers::Outcome;
-use handshake::handshake::{HandshakeAnswer, HandshakeOutcome};
+use answers::{Answer, Error, Outcome};
+use handshake::handshake::{EisHandshakeResp, HandshakeAnswer, HandshakeError};
 use messages::Received;
 use script_pattern::table;
 use script_pattern::table::Shown;
@@ -66,22 +66,31 @@ fn malformed(e: ParseError, explained: bool) -> Shown
 }
 
 // A message that was accepted says what was taken; any other outcome is shown as elsewhere.
-fn taken_outcome(o: Outcome, taken: usize, explained: bool) -> Shown
-    ensures { result ≡ taken_outcome explained taken o }
+fn taken_outcome(a: Result<Answer, Error>, taken: usize, explained: bool) -> Shown
+    ensures { result ≡ taken_outcome explained taken a }
 {
-    if let Outcome::Accepted = o {
-        return table::single(table::MESSAGE, taken as u64);
+    match a {
+        Ok(
+            Answer {
+                outcome: Outcome::Accepted,
+                ..
+            },
+        ) => table::single(table::MESSAGE, taken as u64),
+        _ => script_show::outcome(a, explained),
     }
-    script_show::outcome(o, explained)
 }
 
-fn handshake_taken(o: HandshakeOutcome, taken: usize, explained: bool) -> Shown
+fn handshake_taken(
+    o: Result<Option<EisHandshakeResp>, HandshakeError>,
+    taken: usize,
+    explained: bool,
+) -> Shown
     ensures { result ≡ handshake_taken explained taken o }
 {
-    if let HandshakeOutcome::Refused(_) = o {
-        return script_show::handshake_outcome(o, explained);
+    match o {
+        Ok(_) => table::single(table::MESSAGE, taken as u64),
+        Err(_) => script_show::handshake_outcome(o, explained),
     }
-    table::single(table::MESSAGE, taken as u64)
 }
 
 fn message_shown(r: Received, explained: bool) -> Shown
@@ -91,10 +100,7 @@ fn message_shown(r: Received, explained: bool) -> Shown
         Received::Wait => table::single(table::MESSAGE + 1, 0),
         Received::NoObject => script_show::refusal(24, explained),
         Received::Malformed(e) => malformed(e, explained),
-        Received::Handed { answer, taken } => {
-            let o = answer.outcome;
-            taken_outcome(o, taken, explained)
-        }
+        Received::Handed { answer, taken } => { taken_outcome(answer, taken, explained) }
     }
 }
 
@@ -106,7 +112,7 @@ fn message_count(r: Received) -> usize
         Received::Wait => 0,
         Received::NoObject => 0,
         Received::Malformed(_) => 0,
-        Received::Handed { answer, taken: _ } => answer.count,
+        Received::Handed { answer, .. } => script_show::count(answer),
     }
 }
 

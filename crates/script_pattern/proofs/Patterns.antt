@@ -1,18 +1,18 @@
 -- Patterns: the bytes that are no marks, and a pattern from a place on. Assumes nothing.
-use Prim.Native.Nat.{ℕ, zero, suc, ◌+◌, ◌-◌, ◌*◌, ◌<◌, ◌≤◌}
-use Prim.Native.String.{String}
+use Prim.Native.Nat.{ℕ, zero, suc, ◌+◌, ◌<◌, ◌≤◌}
 use mathlib.Core.Path.{◌≡◌, refl, sym, ap, ◌∙◌}
 use mathlib.Core.Bool.{Bool, true, false, cond, ◌&&◌, false≢true}
-use mathlib.Core.List.{List, [], ◌∷◌, ◌++◌}
+use mathlib.Core.List.{List, [], ◌∷◌, ◌++◌, map}
 use native.Mathlib.Nat.{add-zero}
 use native.Mathlib.Numerals.{add-one}
 use native.Mathlib.Omega.{arith}
-use borrow.Author.Tests.{ne_eqb, leb-true}
-use lib.Dec.{eqb, leb}
-use lib.ListN.{length, get_or, drop, replicate, length-append, length-replicate, drop_of_length-le, get_or-eq_default, get_or-append}
-use lib.Seq.{drop-cons, drop-drop, drop-append-add, get_or-drop}
+use borrow.Author.Tests.{ne_eqb}
+use denote.Bor.{Bor}
+use lib.Dec.{eqb}
+use lib.ListN.{length, get_or, drop, length-map, get_or-map, drop_of_length-le, get_or-eq_default}
+use lib.Seq.{drop-cons, drop-drop, get_or-drop}
 use Rattle.eiproto.specs.Interface.{ascii, Row, row, table, row_of, interface_name}
-use Rattle.script_pattern.specs.Pattern.{Mark, marks, shows_in, takes_in, shows, takes, patterned, patterns, pattern_at, pattern_count, width, padded, rows}
+use Rattle.script_pattern.specs.Pattern.{Mark, marks, shows_in, takes_in, shows, takes, patterned, patterns, pattern_at}
 
 -- ---- a byte that is no mark, in the form in which the last arm of a `match` knows it
 
@@ -62,21 +62,6 @@ module _ (words vs t : List ℕ) (i k : ℕ) where
   unfolding patterned
   patterned-end h = rw (drop_of_length-le words h)
 
--- dots behind a pattern show nothing
-dots : (n : ℕ) (vs t : List ℕ) → patterned (replicate n 0x2e) vs t ≡ []
-unfolding patterned shows takes
-dots zero vs t = refl
-dots (suc n) vs t = dots n (drop 1 vs) t
-
-dotted : (p : List ℕ) (n : ℕ) (vs t : List ℕ) → patterned (p ++ replicate n 0x2e) vs t ≡ patterned p vs t
-unfolding patterned
-dotted [] n vs t = dots n vs t
-dotted (c ∷ p) n vs t = rw (dotted p n (drop (takes c) vs) t)
-
-pub patterned-padded : (p vs t : List ℕ) → patterned (padded p) vs t ≡ patterned p vs t
-unfolding padded
-patterned-padded p vs t = dotted p (width - length p) vs t
-
 -- ---- a number that is no interface's
 
 pub no_interface : (n : ℕ) → 12 < n → interface_name n ≡ []
@@ -89,44 +74,24 @@ pub both : (a b : Bool) → a && b ≡ true → (a ≡ true) × (b ≡ true)
 both true b e = (refl, e)
 both false b e = absurd (false≢true e)
 
--- every pattern has room in its row
-abbrev roomy : List String → Bool
-roomy [] = true
-roomy (s ∷ ss) = leb (length (ascii s)) width && roomy ss
+module _ (l : List (Bor (List ℕ))) (e : map (λ p. p.now) l ≡ map ascii patterns) (n : ℕ) where
+  pub pattern-past : length l ≤ n → [] ≡ pattern_at n
+  unfolding pattern_at ascii
+  pattern-past h =
+      let k : length patterns ≤ n = omega (arith, ap length e, length-map l (λ p. p.now), length-map patterns ascii) in
+      sym (ap ascii (get_or-eq_default patterns "" {n = n} k))
 
-tested : roomy patterns ≡ true
-unfolding patterns ascii
-tested = refl
-
-length-padded : (p : List ℕ) → length p ≤ width → length (padded p) ≡ width
-unfolding padded
-length-padded p h = omega (arith, length-append p (replicate (width - length p) 0x2e), length-replicate {A = ℕ} (width - length p) 0x2e)
-
--- the bytes from a row on
-rows_drop : (ss : List String) (i : ℕ) → roomy ss ≡ true → i < length ss → (length (ascii (get_or ss i "")) ≤ width) × (drop (i * width) (rows ss) ≡ padded (ascii (get_or ss i "")) ++ rows (drop (suc i) ss))
-unfolding rows
-rows_drop [] i t h = absurd (omega arith)
-rows_drop (s ∷ ss) zero t h = (leb-true (length (ascii s)) width (both (leb (length (ascii s)) width) (roomy ss) t).0, refl)
-rows_drop (s ∷ ss) (suc i) t h =
-    let b = both (leb (length (ascii s)) width) (roomy ss) t in
-    let l = length-padded (ascii s) (leb-true (length (ascii s)) width b.0) in
-    let n : suc i * width ≡ length (padded (ascii s)) + i * width = omega arith in
-    let r = rows_drop ss i b.1 (omega arith) in
-    (r.0, ap (λ (m : ℕ). drop m (padded (ascii s) ++ rows ss)) n ∙ drop-append-add (padded (ascii s)) (rows ss) (i * width) ∙ r.1)
-
-module _ (i : ℕ) (h : i < pattern_count) where
-  pub row-length : length (padded (pattern_at i)) ≡ width
+  pub pattern_is : (d : Bor (List ℕ)) → n < length l → (get_or l n d).now ≡ pattern_at n
   unfolding pattern_at
-  row-length = length-padded (ascii (get_or patterns i "")) (rows_drop patterns i tested h).0
-
-  pub row-byte : (k : ℕ) → k < width → get_or (rows patterns) (i * width + k) 0 ≡ get_or (padded (pattern_at i)) k 0
-  unfolding pattern_at
-  row-byte k l =
-      let n = row-length in
-      sym (get_or-drop (i * width) (rows patterns) k 0)
-      ∙ ap (λ (r : List ℕ). get_or r k 0) (rows_drop patterns i tested h).1
-      ∙ get_or-append (padded (pattern_at i)) (rows (drop (suc i) patterns)) 0 k (omega arith)
-
-pub no_pattern : (n : ℕ) (vs t : List ℕ) → pattern_count ≤ n → patterned (pattern_at n) vs t ≡ []
-unfolding pattern_at patterns patterned ascii
-no_pattern n vs t h = ap (λ (s : String). patterned (ascii s) vs t) (get_or-eq_default patterns "" {n = n} h)
+  pattern_is d h =
+      let k : n < length patterns = omega (arith, ap length e, length-map l (λ p. p.now), length-map patterns ascii) in
+      let m : n < length (map ascii patterns) = omega (arith, length-map patterns ascii) in
+      sym (get_or-map (λ (p : Bor (List ℕ)). p.now) l n d)
+      ∙ ap (λ (s : List (List ℕ)). get_or s n d.now) e
+      ∙ get_d_any (map ascii patterns) n d.now (ascii "") m
+      ∙ get_or-map ascii patterns n ""
+    where
+      get_d_any : {A : Type 0} (l : List A) (i : ℕ) (d e : A) → i < length l → get_or l i d ≡ get_or l i e
+      get_d_any [] i d e h = absurd (omega arith)
+      get_d_any (x ∷ l) zero d e h = refl
+      get_d_any (x ∷ l) (suc i) d e h = get_d_any l i d e (omega arith)

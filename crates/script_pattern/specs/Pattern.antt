@@ -1,5 +1,5 @@
 -- Patterns: the words of a line, with marks where values stand. Assumes nothing.
-use Rattle.std.specs.Prelude.{ℕ, ◌+◌, ◌-◌, ◌*◌, cond, List, [], ◌∷◌, ◌++◌, eqb, get_or, length, drop, replicate}
+use Rattle.std.specs.Prelude.{ℕ, cond, List, [], ◌∷◌, ◌++◌, eqb, get_or, drop}
 use Prim.Native.String.{String}
 use Rattle.eiproto.specs.Interface.{ascii, interface_name}
 use Rattle.script_pattern.specs.Digits.{hexadecimal, ident, decimal, escaped}
@@ -245,17 +245,3 @@ values s = s.a ∷ s.b ∷ s.c ∷ s.d ∷ s.e ∷ []
 unfoldable pub bytes_of : Shown → (text : List ℕ) → List ℕ
 unfolding pattern_at patterned
 bytes_of s text = patterned (pattern_at s.pattern) (values s) text
-
--- ---- the table as the code has it
-
--- a pattern in 66 bytes
-abbrev pub width : ℕ
-width = 66
-
-unfoldable pub padded : List ℕ → List ℕ
-padded p = p ++ replicate (width - length p) 0x2e
-
-unfoldable pub rows : List String → List ℕ
-unfolding ascii padded
-rows [] = []
-rows (s ∷ ss) = padded (ascii s) ++ rows ss

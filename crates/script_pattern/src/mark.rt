@@ -49,10 +49,8 @@ fn interface(line: &mut [u8], at: usize, n: u64) -> usize
     let number = n as u8;
     let count = eiproto_eis::name_len(number);
     let mut next = at;
-    let mut i: usize = 0;
-    while i < count {
+    for i in 0..count {
         next = put::byte(line, next, eiproto_eis::name_byte(number, i));
-        i += 1;
     }
     next
 }
@@ -94,23 +92,12 @@ fn explanation(line: &mut [u8], at: usize, n: u64, text: &[u8]) -> usize
     at
 }
 
-// How many values a byte of a pattern takes: a mark one.
+// How many values a byte of a pattern takes: a mark one. The marks stay bytes: an enum would have these twelve arms once more (no plainer).
 pub fn takes(c: u8) -> usize
     ensures { result ≡ takes c }
 {
     match c {
-        b'#' => 1,
-        b'$' => 1,
-        b'~' => 1,
-        b'+' => 1,
-        b'?' => 1,
-        b'&' => 1,
-        b'^' => 1,
-        b'!' => 1,
-        b'%' => 1,
-        b'*' => 1,
-        b';' => 1,
-        b'.' => 1,
+        b'#' | b'$' | b'~' | b'+' | b'?' | b'&' | b'^' | b'!' | b'%' | b'*' | b';' | b'.' => 1,
         _ => 0,
     }
 }

@@ -14,14 +14,13 @@ pub fn byte(line: &mut [u8], at: usize, b: u8) -> usize
     }
 }
 
+// `hexadecimal` and `escaped` are this walk too: one over a trait of three types would be longer than three loops of a line (no plainer).
 pub fn bytes(line: &mut [u8], at: usize, s: &[u8]) -> usize
     ensures { Puts line at result s.now }
 {
     let mut next = at;
-    let mut i: usize = 0;
-    while i < s.len() {
-        next = byte(line, next, s[i]);
-        i += 1;
+    for &b in s {
+        next = byte(line, next, b);
     }
     next
 }
@@ -56,10 +55,8 @@ pub fn hexadecimal(line: &mut [u8], at: usize, s: &[u8]) -> usize
     ensures { Puts line at result (hexadecimal s.now) }
 {
     let mut next = at;
-    let mut i: usize = 0;
-    while i < s.len() {
-        next = pair(line, next, s[i]);
-        i += 1;
+    for &b in s {
+        next = pair(line, next, b);
     }
     next
 }
@@ -79,11 +76,9 @@ pub fn decimal(line: &mut [u8], at: usize, n: u64) -> usize
 {
     let mut digits = [0u8; 20];
     let mut v = n;
-    let mut i: usize = 20;
-    while 0 < i {
-        i -= 1;
+    for i in (0..20).rev() {
         digits[i] = b'0' + (v % 10) as u8;
-        v = v / 10;
+        v /= 10;
         if v == 0 {
             return bytes(line, at, &digits[i..]);
         }
@@ -95,16 +90,10 @@ pub fn decimal(line: &mut [u8], at: usize, n: u64) -> usize
 fn is_plain(b: u8) -> bool
     ensures { result ≡ is_plain b }
 {
-    if b < 0x20 {
-        return false;
+    match b {
+        b'"' | b'\\' => false,
+        _ => b' ' <= b && b <= b'~',
     }
-    if 0x7e < b {
-        return false;
-    }
-    if b == b'"' {
-        return false;
-    }
-    b != b'\\'
 }
 
 // A byte of a text: itself, or `\x` and its two digits.
@@ -123,10 +112,8 @@ pub fn escaped(line: &mut [u8], at: usize, s: &[u8]) -> usize
     ensures { Puts line at result (escaped s.now) }
 {
     let mut next = at;
-    let mut i: usize = 0;
-    while i < s.len() {
-        next = escape(line, next, s[i]);
-        i += 1;
+    for &b in s {
+        next = escape(line, next, b);
     }
     next
 }

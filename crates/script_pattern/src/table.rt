@@ -1,12 +1,14 @@
 // The table of patterns, and what a pattern shows with its values.
-ghost use Rattle.std.specs.Prelude.{◌≡◌, ◌<◌, get_or};
+ghost use Rattle.std.specs.Prelude.{◌≡◌, get_or, map};
+ghost use Rattle.eiproto.specs.Interface.{ascii};
 ghost use Rattle.script_pattern.specs.Put.{Puts};
-ghost use Rattle.script_pattern.specs.Pattern.{shown, values, pattern_at, padded, bytes_of};
+ghost use Rattle.script_pattern.specs.Pattern.{shown, values, bytes_of};
+ghost use Rattle.script_pattern.specs.Pattern as spec;
 
 use crate::mark;
 
 // A pattern's number, and the values for its marks in their order.
-#[derive(Clone, Copy)]
+#[derive(Clone, Copy, Debug, PartialEq, Eq)]
 pub struct Shown {
     pub pattern: usize,
     pub a: u64,
@@ -16,7 +18,7 @@ pub struct Shown {
     pub e: u64,
 }
 
-// Where a group of patterns begins: outcomes, refusals by number, records by kind, other lines, reads, messages, malformed ones, events.
+// Where a group of patterns begins. They stay numbers (no plainer as an enum): the pattern of a refusal or a record is its own number behind these.
 pub const OUTCOME: usize = 23;
 
 pub const REFUSAL: usize = 30;
@@ -33,105 +35,116 @@ pub const MALFORMED: usize = 82;
 
 pub const EVENT: usize = 96;
 
-// A pattern in 66 bytes.
-const ROWS: [u8; 6468] = *b"Disconnect........................................................\
-    Bind seat=# capabilities=$........................................\
-    DeviceClosed device=#.............................................\
-    RequestDevice seat=# capabilities=$...............................\
-    Frame device=# last_serial=$ time=$...............................\
-    Ready device=#....................................................\
-    DeviceStartEmulating device=# last_serial=$ sequence=$............\
-    DeviceStopEmulating device=# last_serial=$........................\
-    PointerMotion device=# time=$ dx=~ dy=~...........................\
-    PointerMotionAbsolute device=# time=$ dx_absolute=~ dy_absolute=~.\
-    Button device=# time=$ button=$ state=$...........................\
-    ScrollDelta device=# time=$ dx=~ dy=~.............................\
-    ScrollStop device=# time=$ x=? y=?................................\
-    ScrollCancel device=# time=$ x=? y=?..............................\
-    ScrollDiscrete device=# time=$ discrete_dx=+ discrete_dy=+........\
-    KeyboardKey device=# time=$ key=$ state=$.........................\
-    TouchDown device=# time=$ touch_id=$ x=~ y=~......................\
-    TouchUp device=# time=$ touch_id=$................................\
-    TouchMotion device=# time=$ touch_id=$ x=~ y=~....................\
-    TouchCancel device=# time=$ touch_id=$............................\
-    TextKeysym device=# time=$ keysym=$ state=$.......................\
-    TextUtf8 device=# time=$ text=t:%.................................\
-    TextUtf8 device=# time=$ text=t:% \"*\".............................\
-    accepted..........................................................\
-    seat #............................................................\
-    device #..........................................................\
-    $.................................................................\
-    ?.................................................................\
-    none..............................................................\
-    refused $ interface=$ version=$...................................\
-    refused $.........................................................\
-    refused $ (unexpected handshake event)............................\
-    refused $ interface=$ version=$ (invalid interface version).......\
-    refused $ (invalid capabilities)..................................\
-    refused $ (too many touches)......................................\
-    refused $ (duplicated touch down).................................\
-    refused $ (invalid text length)...................................\
-    refused $ (non-handshake event)...................................\
-    refused $ (duplicate event).......................................\
-    refused $ (missing interface).....................................\
-    refused $ (bad UTF-8).............................................\
-    refused $ (name long).............................................\
-    refused $ (unknown handle)........................................\
-    refused $ (bad capabilities)......................................\
-    refused $ (full seats)............................................\
-    refused $ (full devices)..........................................\
-    refused $ (full pending)..........................................\
-    refused $ (full queue)............................................\
-    refused $ (full texts)............................................\
-    refused $ (short out).............................................\
-    refused $ (ids spent).............................................\
-    refused $ (bad state).............................................\
-    refused $ (bad part)..............................................\
-    refused $ (malformed).............................................\
-    refused $ (no object).............................................\
-    refused $ (invalid id)............................................\
-    refused $ (unsendable)............................................\
-    unknown record....................................................\
-    seat # version $..................................................\
-    name \"*\"..........................................................\
-    capability $ &....................................................\
-    done..............................................................\
-    destroyed, serial $...............................................\
-    device # version $................................................\
-    device type ^.....................................................\
-    interface # & version $...........................................\
-    resumed, serial $.................................................\
-    paused, serial $..................................................\
-    start emulating, serial $ sequence $..............................\
-    stop emulating, serial $..........................................\
-    frame, serial $ time $............................................\
-    disconnected, serial $ reason !;..................................\
-    callback done $...................................................\
-    handshake version $...............................................\
-    interface version & $.............................................\
-    connection # serial $ version $...................................\
-    error line $......................................................\
-    > *...............................................................\
-    \x20   #: ...........................................................\
-    accepted $........................................................\
-    accepted taken $..................................................\
-    wait..............................................................\
-    refused $ EndOfMessage............................................\
-    refused $ Utf8....................................................\
-    refused $ InvalidOpcode $ $.......................................\
-    refused $ InvalidVariant $........................................\
-    refused $ HeaderLength $..........................................\
-    refused $ MessageLength $ $.......................................\
-    refused $ InvalidNull.............................................\
-    refused $ EndOfMessage (malformed)................................\
-    refused $ Utf8 (malformed)........................................\
-    refused $ InvalidOpcode $ $ (malformed)...........................\
-    refused $ InvalidVariant $ (malformed)............................\
-    refused $ HeaderLength $ (malformed)..............................\
-    refused $ MessageLength $ $ (malformed)...........................\
-    refused $ InvalidNull (malformed).................................\
-    message t:%.......................................................\
-    record t:%........................................................";
+// The patterns, group by group.
+static PATTERNS: [&[u8]; 98] = [
+    // Delivered requests.
+    b"Disconnect",
+    b"Bind seat=# capabilities=$",
+    b"DeviceClosed device=#",
+    b"RequestDevice seat=# capabilities=$",
+    b"Frame device=# last_serial=$ time=$",
+    b"Ready device=#",
+    b"DeviceStartEmulating device=# last_serial=$ sequence=$",
+    b"DeviceStopEmulating device=# last_serial=$",
+    b"PointerMotion device=# time=$ dx=~ dy=~",
+    b"PointerMotionAbsolute device=# time=$ dx_absolute=~ dy_absolute=~",
+    b"Button device=# time=$ button=$ state=$",
+    b"ScrollDelta device=# time=$ dx=~ dy=~",
+    b"ScrollStop device=# time=$ x=? y=?",
+    b"ScrollCancel device=# time=$ x=? y=?",
+    b"ScrollDiscrete device=# time=$ discrete_dx=+ discrete_dy=+",
+    b"KeyboardKey device=# time=$ key=$ state=$",
+    b"TouchDown device=# time=$ touch_id=$ x=~ y=~",
+    b"TouchUp device=# time=$ touch_id=$",
+    b"TouchMotion device=# time=$ touch_id=$ x=~ y=~",
+    b"TouchCancel device=# time=$ touch_id=$",
+    b"TextKeysym device=# time=$ keysym=$ state=$",
+    b"TextUtf8 device=# time=$ text=t:%",
+    b"TextUtf8 device=# time=$ text=t:% \"*\"",
+    // Outcomes.
+    b"accepted",
+    b"seat #",
+    b"device #",
+    b"$",
+    b"?",
+    b"none",
+    b"refused $ interface=$ version=$",
+    // Refusals by number, then each with its name.
+    b"refused $",
+    b"refused $ (unexpected handshake event)",
+    b"refused $ interface=$ version=$ (invalid interface version)",
+    b"refused $ (invalid capabilities)",
+    b"refused $ (too many touches)",
+    b"refused $ (duplicated touch down)",
+    b"refused $ (invalid text length)",
+    b"refused $ (non-handshake event)",
+    b"refused $ (duplicate event)",
+    b"refused $ (missing interface)",
+    b"refused $ (bad UTF-8)",
+    b"refused $ (name long)",
+    b"refused $ (unknown handle)",
+    b"refused $ (bad capabilities)",
+    b"refused $ (full seats)",
+    b"refused $ (full devices)",
+    b"refused $ (full pending)",
+    b"refused $ (full queue)",
+    b"refused $ (full texts)",
+    b"refused $ (short out)",
+    b"refused $ (ids spent)",
+    b"refused $ (bad state)",
+    b"refused $ (bad part)",
+    b"refused $ (malformed)",
+    b"refused $ (no object)",
+    b"refused $ (invalid id)",
+    b"refused $ (unsendable)",
+    // Records by kind.
+    b"unknown record",
+    b"seat # version $",
+    b"name \"*\"",
+    b"capability $ &",
+    b"done",
+    b"destroyed, serial $",
+    b"device # version $",
+    b"device type ^",
+    b"interface # & version $",
+    b"resumed, serial $",
+    b"paused, serial $",
+    b"start emulating, serial $ sequence $",
+    b"stop emulating, serial $",
+    b"frame, serial $ time $",
+    b"disconnected, serial $ reason !;",
+    b"callback done $",
+    b"handshake version $",
+    b"interface version & $",
+    b"connection # serial $ version $",
+    // Other lines.
+    b"error line $",
+    b"> *",
+    b"    #: ",
+    // Reads.
+    b"accepted $",
+    // Messages.
+    b"accepted taken $",
+    b"wait",
+    // Malformed ones, then each with its name.
+    b"refused $ EndOfMessage",
+    b"refused $ Utf8",
+    b"refused $ InvalidOpcode $ $",
+    b"refused $ InvalidVariant $",
+    b"refused $ HeaderLength $",
+    b"refused $ MessageLength $ $",
+    b"refused $ InvalidNull",
+    b"refused $ EndOfMessage (malformed)",
+    b"refused $ Utf8 (malformed)",
+    b"refused $ InvalidOpcode $ $ (malformed)",
+    b"refused $ InvalidVariant $ (malformed)",
+    b"refused $ HeaderLength $ (malformed)",
+    b"refused $ MessageLength $ $ (malformed)",
+    b"refused $ InvalidNull (malformed)",
+    // Events.
+    b"message t:%",
+    b"record t:%",
+];
 
 // A pattern with one value or none.
 pub fn single(pattern: usize, a: u64) -> Shown
@@ -161,30 +174,33 @@ fn value(s: Shown, place: usize) -> u64
     }
 }
 
-// The byte at a place of a pattern's row.
-fn byte_of(pattern: usize, place: usize) -> u8
-    requires { (pattern < 98) × (place < 66) }
-    ensures { result ≡ get_or (padded (pattern_at pattern)) place 0 }
+// The pattern of a number; past the table, none.
+fn pattern_at(patterns: &'static [&'static [u8]], n: usize) -> &'static [u8]
+    requires { map (λ p. p.now) patterns.now ≡ map ascii spec.patterns }
+    ensures { result.now ≡ spec.pattern_at n }
 {
-    ROWS[pattern * 66 + place]
+    if patterns.len() <= n {
+        return b"";
+    }
+    patterns[n]
+}
+
+// A pattern with its values.
+fn patterned(line: &mut [u8], at: usize, pattern: &[u8], s: Shown, text: &[u8]) -> usize
+    ensures { Puts line at result (spec.patterned pattern.now (values s) text.now) }
+{
+    let mut next = at;
+    let mut place: usize = 0;
+    for &c in pattern {
+        next = mark::show(line, next, c, value(s, place), text);
+        place += mark::takes(c);
+    }
+    next
 }
 
 // What is shown, with the text that lies beside it.
 pub fn show(line: &mut [u8], at: usize, s: Shown, text: &[u8]) -> usize
     ensures { Puts line at result (bytes_of s text.now) }
 {
-    let pattern = s.pattern;
-    if 98 <= pattern {
-        return at;
-    }
-    let mut next = at;
-    let mut place: usize = 0;
-    let mut i: usize = 0;
-    while i < 66 {
-        let c = byte_of(pattern, i);
-        next = mark::show(line, next, c, value(s, place), text);
-        place += mark::takes(c);
-        i += 1;
-    }
-    next
+    patterned(line, at, pattern_at(&PATTERNS, s.pattern), s, text)
 }

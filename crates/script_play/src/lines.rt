@@ -91,12 +91,12 @@ fn end_of(buf: &[u8], at: usize, filled: usize, last: bool) -> Ended
     ensures { (at ≤ result.end) × ((result.end ≤ filled) × ((at < result.next) × (result.next ≤ filled))) }
 {
     match script::line_end(buf, at, filled) {
-        LineEnd::At { end, next } => Ended {
+        Some(LineEnd { end, next }) => Ended {
             found: true,
             end,
             next,
         },
-        LineEnd::Nothing => Ended {
+        None => Ended {
             found: last,
             end: bare_end(buf, at, filled),
             next: filled,

@@ -12,10 +12,7 @@ fn is_quiet(told: Told) -> bool {
         Told::Given(_) => false,
         Told::Begun(_) => false,
         Told::Gathered => false,
-        Told::Handed {
-            accepted: _,
-            answer: _,
-        } => false,
+        Told::Handed { .. } => false,
         Told::Received(_) => false,
         Told::ShakenBy(_) => false,
         Told::Turned {

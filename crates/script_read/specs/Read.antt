@@ -3,8 +3,6 @@ use Rattle.std.specs.Prelude.{ℕ, ◌+◌, ◌-◌, ◌*◌, ◌≤◌, ◌<◌
 use Rattle.requests.specs.declared.eis.Request.{Request}
 use Rattle.session.specs.View.{Store}
 use Rattle.session.specs.Slices.{Numbers, Reals, SharedNumbers, SharedReals, before, after}
-use Rattle.answers.specs.declared.Outcome.{Outcome}
-use Rattle.reads.specs.declared.First.{First}
 use Rattle.reads.specs.declared.ReadAnswer.{ReadAnswer}
 use Rattle.reads.specs.declared.record.RequestRecord.{RequestRecord}
 use Rattle.reads.specs.Record.{entry_of}
@@ -63,13 +61,9 @@ taken t g = record { took = t; reading = g }
 abbrev pub waiting : Run → Took
 waiting r = record { run = r; told = Told.Gathered }
 
-abbrev pub ending : First → Outcome
-ending First.None = Outcome.Accepted
-ending (First.Refused e) = Outcome.Refused e
-
 -- "the number accepted and, if there was one, the first refusal", with the bytes that the accepted ones wrote
 abbrev pub handed : ReadAnswer → Told
-handed a = Told.Handed a.accepted (record { outcome = ending a.refusal; count = a.count })
+handed a = Told.Handed a.accepted a.count a.refusal
 
 -- "A script that ends within a read ends with `error line N`, N being the line behind its last"
 abbrev pub closing : Run → Reading → Took

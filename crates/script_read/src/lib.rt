@@ -4,13 +4,12 @@
 
 ghost use Rattle.std.specs.Prelude.{◌≡◌, [], ◌∷◌, ◌++◌, ◌+◌, ◌≤◌, ◌<◌};
 ghost use Rattle.lent_read.specs.Numbers.{record_count};
-ghost use Rattle.script_read.specs.Read.{no_read, onward, gathered, Fits, ending, handed, as_record, closing};
+ghost use Rattle.script_read.specs.Read.{no_read, onward, gathered, Fits, handed, as_record, closing};
 ghost use Rattle.script_read.specs.Read.{HandsLent, SettlesLent, BeginsLent, OpensLent, GoesOnLent, TakesLent};
 
-use answers::{Answer, Outcome};
 use lent_read::record;
+use reads::ReadAnswer;
 use reads::record::RequestRecord;
-use reads::{First, ReadAnswer};
 use requests::eis::Request;
 use script::Part;
 use script_record::Record;
@@ -42,27 +41,14 @@ pub fn none() -> Reading
     }
 }
 
-fn ending(refusal: First) -> Outcome
-    ensures { result ≡ ending refusal }
-{
-    match refusal {
-        First::None => Outcome::Accepted,
-        First::Refused(e) => Outcome::Refused(e),
-    }
-}
-
 // What there is to tell of a read.
 fn handed(a: ReadAnswer) -> Told
     ensures { result ≡ handed a }
 {
-    let refusal = a.refusal;
-    let outcome = ending(refusal);
     Told::Handed {
         accepted: a.accepted as u64,
-        answer: Answer {
-            outcome,
-            count: a.count,
-        },
+        count: a.count,
+        refusal: a.refusal,
     }
 }
 

@@ -1,5 +1,5 @@
 -- What a line of a script does: to the run, to the session's slices, and to the buffer that calls are lent. Assumes nothing.
-use Rattle.std.specs.Prelude.{◌≡◌, ℕ, ◌+◌, ◌%◌, ◌^◌, Bool, true, false, List, length}
+use Rattle.std.specs.Prelude.{◌≡◌, ℕ, ◌+◌, ◌%◌, ◌^◌, Bool, true, false, List, length, Option, Result}
 use Rattle.model.specs.Call.{Call}
 use Rattle.requests.specs.declared.eis.Request.{Request}
 use Rattle.handshake.specs.Handshake as paper
@@ -7,16 +7,17 @@ use Rattle.handshake.specs.View.{request_of, is_finished, Meets, Handled}
 use Rattle.handshake.specs.declared.handshake.HandshakeAnswer.{HandshakeAnswer}
 use Rattle.session.specs.View.{Store, store, Lending}
 use Rattle.answers.specs.declared.Answer.{Answer}
+use Rattle.answers.specs.declared.Error.{Error}
 use Rattle.answers.specs.Meets.{Answered}
 use Rattle.handlers.specs.Call.{call_of}
-use Rattle.converter.specs.declared.request.NextRequest.{NextRequest}
+use Rattle.requests.specs.declared.request.EisRequest.{EisRequest}
 use Rattle.converter.specs.Next.{Delivered}
 use Rattle.messages.specs.declared.Received.{Received}
 use Rattle.messages.specs.Received.{ReceivedFrom}
 use Rattle.handshake_messages.specs.Reading as shaking
-use Rattle.handshake_messages.specs.declared.Told as handed
+use Rattle.std.specs.Prelude.{Ok, Err}
 use Rattle.handshake_messages.specs.declared.HandshakeReceived.{HandshakeReceived}
-use Rattle.event_messages.specs.declared.Written.{Written}
+use Rattle.event_messages.specs.Written.{Written}
 use Rattle.script_message.specs.Lent.{unhanded}
 use Rattle.script_events.specs.Lent.{EventTurned}
 use Rattle.script.specs.declared.line.Line.{Line}
@@ -69,10 +70,10 @@ quiet r = record { run = r; told = Told.Nothing }
 abbrev pub no_call : Why → Run → Took
 no_call why r = record { run = ended_run r; told = Told.Error why }
 
-abbrev pub answered : Answer → Run → Took
+abbrev pub answered : Result Answer Error → Run → Took
 answered a r = record { run = r; told = Told.Answered a }
 
-abbrev pub given : NextRequest → Run → Took
+abbrev pub given : Result (Option EisRequest) Error → Run → Took
 given n r = record { run = r; told = Told.Given n }
 
 abbrev pub begun : ℕ → Run → Took
@@ -85,12 +86,9 @@ abbrev pub received : Received → Run → Took
 received x r = record { run = r; told = Told.Received x }
 
 -- what is told of bytes on the handshake: its answer, or why they were not handed on
-abbrev pub told_by : handed.Told → (taken : ℕ) → Told
-told_by handed.Told.Wait n = Told.Received (unhanded handed.Told.Wait)
-told_by handed.Told.NoObject n = Told.Received (unhanded handed.Told.NoObject)
-told_by (handed.Told.Malformed e) n = Told.Received (unhanded (handed.Told.Malformed e))
-told_by handed.Told.InvalidId n = Told.Received (unhanded handed.Told.InvalidId)
-told_by handed.Told.Handed n = Told.ShakenBy n
+abbrev pub told_by : shaking.Told → (taken : ℕ) → Told
+told_by (Ok u) n = Told.ShakenBy n
+told_by (Err why) n = Told.Received (unhanded why)
 
 abbrev pub shaken_by : HandshakeReceived → Run → Took
 shaken_by x r = record { run = after_shaking x.answer r; told = told_by x.told x.taken }
@@ -119,7 +117,7 @@ pub record Shakes (run : Run) (request : Request) (text : List ℕ) (c d : List 
 
 -- a client's request on the session
 pub record Handles (run : Run) (object version : ℕ) (request : Request) (text : List ℕ) (s e : Store) (out later : List ℕ) (r : Took) : Type 0 where
-  pub answer : Answer
+  pub answer : Result Answer Error
   pub meets : InRoom run.out out later (λ lent after. Answered Lending.all s e lent after (call_of request object version text) run.clock answer)
   pub told : r ≡ answered answer run
 
@@ -144,13 +142,13 @@ pub record Turns (run : Run) (event : Event) (bytes : List ℕ) (out later : Lis
 
 -- next_request
 pub record Delivers (run : Run) (s e : Store) (out later : List ℕ) (r : Took) : Type 0 where
-  pub next : NextRequest
+  pub next : Result (Option EisRequest) Error
   pub meets : InRoom run.buffer out later (λ lent after. Delivered s e lent after next)
   pub told : r ≡ given next run
 
 -- a call of the station, at any clock
 pub record Makes (run : Run) (call : Station) (text_given : Bool) (text : List ℕ) (s e : Store) (out later : List ℕ) (r : Took) : Type 0 where
-  pub answer : Answer
+  pub answer : Result Answer Error
   pub meets : InRoom run.out out later (λ lent after. (clock : ℕ) → Answered (lending call) s e lent after (Call.plain (station_call call text_given text)) clock answer)
   pub told : r ≡ answered answer run
 

@@ -6,13 +6,13 @@ ghost use Rattle.script_run.specs.Line.{has_text, is_given, text_first, lent_tex
 ghost use Rattle.script_run.specs.Take.{quiet, no_call, answered, given, begun, shaken, received, told_by, shaken_by, turned, counted, at_clock, with_out, with_buffer, first};
 ghost use Rattle.script_run.specs.Take.{Starts, Shakes, ShakesBy, Receives, Turns, Handles, Delivers, Makes, Does, Takes};
 
-use answers::Answer;
-use converter::request::NextRequest;
-use event_messages::Written;
+use answers::{Answer, Error};
+use event_messages::MessageError;
 use handshake::handshake::{EisHandshaker, HandshakeAnswer};
-use handshake_messages::HandshakeReceived;
+use handshake_messages::{HandshakeReceived, Unhanded};
 use messages::Received;
 use requests::eis::Request;
+use requests::request::EisRequest;
 use script::{Args, Line, Text, Value};
 use script_asked::{Asked, Event, Station};
 
@@ -58,20 +58,27 @@ pub enum Told {
     Error(Why),
     // The handshake's answer, which the run has.
     Shaken,
-    Answered(Answer),
-    Given(NextRequest),
+    Answered(Result<Answer, Error>),
+    Given(Result<Option<EisRequest>, Error>),
     // A read begins, of so many records: there is no answer before the last of them.
     Begun(u32),
     // A record of a read that goes on.
     Gathered,
     // What a read is answered: how many of its records were accepted, and how it ended.
-    Handed { accepted: u64, answer: Answer },
+    Handed {
+        accepted: u64,
+        count: usize,
+        refusal: Option<Error>,
+    },
     // What a client's bytes came to, on the session; before it, where they were not handed on.
     Received(Received),
     // The handshake's answer to a message, which the run has, and how many bytes of it were taken.
     ShakenBy(usize),
     // What an event's record or message was turned into.
-    Turned { event: Event, written: Written },
+    Turned {
+        event: Event,
+        written: Result<usize, MessageError>,
+    },
 }
 
 #[derive(Clone, Copy)]
@@ -119,7 +126,7 @@ pub fn no_call(run: Run, why: Why) -> Took
     }
 }
 
-fn answered(run: Run, a: Answer) -> Took
+fn answered(run: Run, a: Result<Answer, Error>) -> Took
     ensures { result ≡ answered a run }
 {
     Took {
@@ -128,7 +135,7 @@ fn answered(run: Run, a: Answer) -> Took
     }
 }
 
-fn given(run: Run, next: NextRequest) -> Took
+fn given(run: Run, next: Result<Option<EisRequest>, Error>) -> Took
     ensures { result ≡ given next run }
 {
     Took {
@@ -175,13 +182,13 @@ fn received(run: Run, r: Received) -> Took
     }
 }
 
-fn told_by(told: handshake_messages::Told, taken: usize) -> Told
+fn told_by(told: Result<(), Unhanded>, taken: usize) -> Told
     ensures { result ≡ told_by told taken }
 {
-    if let handshake_messages::Told::Handed = told {
-        return Told::ShakenBy(taken);
+    match told {
+        Ok(()) => Told::ShakenBy(taken),
+        Err(why) => Told::Received(script_message::unhanded(why)),
     }
-    Told::Received(script_message::unhanded(told))
 }
 
 // The run after a message on the handshake, whose answer is that of one that changes nothing where the bytes were not handed on.
@@ -198,7 +205,7 @@ fn shaken_by(run: Run, r: HandshakeReceived) -> Took
     }
 }
 
-fn turned(run: Run, event: Event, written: Written) -> Took
+fn turned(run: Run, event: Event, written: Result<usize, MessageError>) -> Took
     ensures { result ≡ turned event written run }
 {
     Took {

@@ -1,11 +1,12 @@
 -- What is promised of a call that is lent the first bytes of a buffer, as many as the script says. Assumes nothing.
-use Rattle.std.specs.Prelude.{ℕ, min, ◌≡◌, Bool, List, ◌++◌, length, take, drop}
+use Rattle.std.specs.Prelude.{ℕ, min, ◌≡◌, Bool, List, ◌++◌, length, take, drop, Option, Result}
 use Rattle.model.specs.Call.{Input, Call}
 use Rattle.session.specs.View.{Lending, store}
 use Rattle.session.specs.Slices.{Numbers, SharedNumbers, Reals, SharedReals, before, after, rows_before, rows_after}
 use Rattle.answers.specs.declared.Answer.{Answer}
+use Rattle.answers.specs.declared.Error.{Error}
 use Rattle.answers.specs.Meets.{Answered}
-use Rattle.converter.specs.declared.request.NextRequest.{NextRequest}
+use Rattle.requests.specs.declared.request.EisRequest.{EisRequest}
 use Rattle.converter.specs.Next.{Delivered}
 use Rattle.script_asked.specs.declared.Station.{Station}
 use Rattle.script_calls.specs.Station.{lending, station_call}
@@ -21,17 +22,17 @@ pub record InRoom (said : ℕ) (out exit : List ℕ) (Holds : (lent later : List
   pub rest : exit ≡ later ++ drop (room said out) out
 
 -- a client's request
-abbrev pub PromiseIn : (control words : Numbers) (reals : Reals) (texts : Numbers) (said : ℕ) (out : Numbers) → Call Input → (clock : ℕ) → Answer → Type 0
+abbrev pub PromiseIn : (control words : Numbers) (reals : Reals) (texts : Numbers) (said : ℕ) (out : Numbers) → Call Input → (clock : ℕ) → Result Answer Error → Type 0
 PromiseIn c w r t said out call clock a =
     InRoom said out.entry.now out.exit.now (λ lent later. Answered Lending.all (before c w r t) (after c w r t) lent later call clock a)
 
 -- a call of the station, at any clock and whatever the texts are
-abbrev pub StationIn : (control words : Numbers) (reals : Reals) (said : ℕ) (out : Numbers) → Station → (given : Bool) → (text : SharedNumbers) → Answer → Type 0
+abbrev pub StationIn : (control words : Numbers) (reals : Reals) (said : ℕ) (out : Numbers) → Station → (given : Bool) → (text : SharedNumbers) → Result Answer Error → Type 0
 StationIn c w r said out call given text a =
     InRoom said out.entry.now out.exit.now
     (λ lent later. (clock : ℕ) (t : List ℕ) → Answered (lending call) (rows_before c w r t) (rows_after c w r t) lent later (Call.plain (station_call call given text.entry.now)) clock a)
 
 -- next_request
-abbrev pub DeliversIn : (control : Numbers) (words : SharedNumbers) (reals : SharedReals) (texts : SharedNumbers) (said : ℕ) (buffer : Numbers) → NextRequest → Type 0
+abbrev pub DeliversIn : (control : Numbers) (words : SharedNumbers) (reals : SharedReals) (texts : SharedNumbers) (said : ℕ) (buffer : Numbers) → Result (Option EisRequest) Error → Type 0
 DeliversIn c w r t said buffer a =
     InRoom said buffer.entry.now buffer.exit.now (λ lent later. Delivered (store c.entry.now w.entry.now r.entry.now t.entry.now) (store c.exit.now w.entry.now r.entry.now t.entry.now) lent later a)

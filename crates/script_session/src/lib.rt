@@ -5,9 +5,9 @@ ghost use Rattle.std.specs.Prelude.{◌≡◌, min};
 ghost use Rattle.handlers.specs.Call.{call_of};
 ghost use Rattle.script_session.specs.Lent.{PromiseIn, StationIn, DeliversIn};
 
-use answers::Answer;
-use converter::request::NextRequest;
+use answers::{Answer, Error};
 use requests::eis::Request;
+use requests::request::EisRequest;
 use script_asked::Station;
 
 // The length of a buffer that a call is lent: what the script says, within what the program has. No call writes so much.
@@ -34,7 +34,7 @@ pub fn handle(
     clock: u64,
     said: u64,
     out: &mut [u8],
-) -> Answer
+) -> Result<Answer, Error>
     ensures { PromiseIn control words reals texts said out (call_of request object version text.now) clock result }
 {
     let from: usize = 0;
@@ -63,7 +63,7 @@ pub fn make(
     text: &[u8],
     said: u64,
     out: &mut [u8],
-) -> Answer
+) -> Result<Answer, Error>
     ensures { StationIn control words reals said out call given text result }
 {
     let from: usize = 0;
@@ -79,7 +79,7 @@ pub fn next(
     texts: &[u8],
     said: u64,
     buffer: &mut [u8],
-) -> NextRequest
+) -> Result<Option<EisRequest>, Error>
     ensures { DeliversIn control words reals texts said buffer result }
 {
     let from: usize = 0;

@@ -5,11 +5,12 @@ use mathlib.Core.List.{List, [], ◌∷◌, ◌++◌}
 use native.Mathlib.Omega.{arith}
 use lib.ListN.{length, take, length-append, length-take}
 use Rattle.eiproto.specs.Interface.{ascii}
-use Rattle.answers.specs.Answer.{error_of, outcome_of}
+use Rattle.std.specs.Prelude.{Option, Some, None, Result, Ok, Err}
+use Rattle.answers.specs.Answer.{error_of, outcome_of, count_of}
 use Rattle.answers.specs.declared.Answer.{Answer}
-use Rattle.answers.specs.declared.Outcome.{Outcome}
-use Rattle.converter.specs.declared.request.NextRequest.{NextRequest}
+use Rattle.answers.specs.declared.Error.{Error}
 use Rattle.handshake.specs.declared.handshake.HandshakeAnswer.{HandshakeAnswer}
+use Rattle.requests.specs.declared.request.EisRequest.{EisRequest}
 use Rattle.script_pattern.specs.Digits.{hexadecimal, escaped}
 use Rattle.script_pattern.specs.Pattern.{bytes_of, first_line, first_read, shown}
 use Rattle.script_pattern.specs.declared.table.Shown.{Shown}
@@ -57,41 +58,36 @@ line_length_lem s l =
 
 -- ---- the lines, with the lent `out` of a script and a text of at most 255 bytes
 
-pub answer-fits : (a : Answer) (out : List ℕ) → length out ≤ 4096 → length (answer_line a out false) ≤ 65536
+pub answer-fits : (a : Result Answer Error) (out : List ℕ) → length out ≤ 4096 → length (answer_line a out false) ≤ 65536
 unfolding answer_line
 answer-fits a out h =
-    omega (arith, line_length_lem (result_shown false (outcome_of a.outcome)) (take a.count out), length-take a.count out)
+    omega (arith, line_length_lem (result_shown false (outcome_of a)) (take (count_of a) out), length-take (count_of a) out)
 
 pub handshake-fits : (a : HandshakeAnswer) (out : List ℕ) → length out ≤ 4096 → length (handshake_line a out false) ≤ 65536
 unfolding handshake_line
 handshake-fits a out h =
     omega (arith, line_length_lem (handshake_outcome false a.outcome) (take a.count out), length-take a.count out)
 
-refusal-length : (o : Outcome) → length (read_refusal false o) ≤ 161
-refusal-length Outcome.Accepted = omega arith
-refusal-length (Outcome.Refused e) = omega (arith, bytes-length 22 160 bare-within (result_shown false (error_of e)) [] (omega arith))
-refusal-length (Outcome.Seat id) = omega arith
-refusal-length (Outcome.Device id) = omega arith
-refusal-length (Outcome.Value n) = omega arith
-refusal-length (Outcome.Truth b) = omega arith
-refusal-length Outcome.None = omega arith
+refusal-length : (o : Option Error) → length (read_refusal false o) ≤ 161
+refusal-length None = omega arith
+refusal-length (Some e) = omega (arith, bytes-length 22 160 bare-within (result_shown false (error_of e)) [] (omega arith))
 
-pub read_fits : (n : ℕ) (a : Answer) (out : List ℕ) → length out ≤ 4096 → length (read_line n a out false) ≤ 65536
+pub read_fits : (n count : ℕ) (r : Option Error) (out : List ℕ) → length out ≤ 4096 → length (read_line n count r out false) ≤ 65536
 unfolding read_line
-read_fits n a out h =
+read_fits n count r out h =
     let s = shown first_read n 0 0 0 0 in
-    let l = take a.count out in
+    let l = take count out in
     omega (
       arith,
       bytes-length 22 160 bare-within s [] (omega arith),
-      refusal-length a.outcome,
+      refusal-length r,
       behind-length l,
-      length-take a.count out,
-      length-append (bytes_of s []) (read_refusal false a.outcome ++ behind_outcome l false),
-      length-append (read_refusal false a.outcome) (behind_outcome l false),
+      length-take count out,
+      length-append (bytes_of s []) (read_refusal false r ++ behind_outcome l false),
+      length-append (read_refusal false r) (behind_outcome l false),
     )
 
-pub next_fits : (n : NextRequest) (buffer : List ℕ) (explained : Bool) → next_length n ≤ 255 → length (next_line n buffer explained) ≤ 65536
+pub next_fits : (n : Result (Option EisRequest) Error) (buffer : List ℕ) (explained : Bool) → next_length n ≤ 255 → length (next_line n buffer explained) ≤ 65536
 unfolding next_line
 next_fits n buffer explained h =
     let t = take (next_length n) buffer in

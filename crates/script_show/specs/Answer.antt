@@ -1,14 +1,15 @@
 -- The lines of a trail. Assumes nothing.
 use Rattle.std.specs.Prelude.{ℕ, ◌+◌, Bool, true, cond, List, [], ◌∷◌, ◌++◌, take}
-use Rattle.answers.specs.Answer.{error_of, outcome_of}
+use Rattle.std.specs.Prelude as rust
+use Rattle.std.specs.Prelude.{Option, Some, None, Ok, Err}
+use Rattle.answers.specs.Answer.{error_of, outcome_of, count_of}
 use Rattle.answers.specs.declared.Answer.{Answer}
-use Rattle.answers.specs.declared.Outcome.{Outcome}
-use Rattle.converter.specs.declared.request.NextRequest.{NextRequest}
-use Rattle.handshake.specs.View.{number}
+use Rattle.answers.specs.declared.Error.{Error}
+use Rattle.handshake.specs.View.{number, HandshakeOutcome}
 use Rattle.handshake.specs.declared.handshake.HandshakeAnswer.{HandshakeAnswer}
-use Rattle.handshake.specs.declared.handshake.HandshakeOutcome.{HandshakeOutcome}
 use Rattle.model.specs.Plan.{Result}
 use Rattle.requests.specs.Request.{text_length}
+use Rattle.requests.specs.declared.request.EisRequest.{EisRequest}
 use Rattle.script_pattern.specs.Pattern.{first_outcome, first_refusal, first_line, first_read, shown, bytes_of}
 use Rattle.script_pattern.specs.Words.{truth_number}
 use Rattle.script_show.specs.Request.{delivered}
@@ -29,9 +30,8 @@ result_shown x (Result.refused_version i v) = shown (cond x (first_refusal + 2) 
 result_shown x Result.given = shown first_outcome 0 0 0 0 0
 
 abbrev pub handshake_outcome : (explained : Bool) → HandshakeOutcome → Shown
-handshake_outcome x HandshakeOutcome.Accepted = result_shown x Result.accepted
-handshake_outcome x HandshakeOutcome.Finished = result_shown x Result.accepted
-handshake_outcome x (HandshakeOutcome.Refused e) = result_shown x (Result.refused (number e))
+handshake_outcome x (Ok s) = result_shown x Result.accepted
+handshake_outcome x (Err e) = result_shown x (Result.refused (number e))
 
 -- behind the outcome of a call, the records that it wrote and the end of the line; explained, then a line for each record
 unfoldable pub behind_outcome : (records : List ℕ) → (explained : Bool) → List ℕ
@@ -43,9 +43,9 @@ unfolding bytes_of behind_outcome
 line_of s records x = bytes_of s [] ++ behind_outcome records x
 
 -- WHAT A CALL ON A SESSION IS ANSWERED; the records begin `out`
-unfoldable pub answer_line : Answer → (out : List ℕ) → (explained : Bool) → List ℕ
+unfoldable pub answer_line : rust.Result Answer Error → (out : List ℕ) → (explained : Bool) → List ℕ
 unfolding line_of
-answer_line a out x = line_of (result_shown x (outcome_of a.outcome)) (take a.count out) x
+answer_line a out x = line_of (result_shown x (outcome_of a)) (take (count_of a) out) x
 
 -- WHAT A CALL OF THE HANDSHAKE IS ANSWERED
 unfoldable pub handshake_line : HandshakeAnswer → (out : List ℕ) → (explained : Bool) → List ℕ
@@ -53,34 +53,29 @@ unfolding line_of
 handshake_line a out x = line_of (handshake_outcome x a.outcome) (take a.count out) x
 
 -- the refusal that ended a read, "as it is printed elsewhere"; nothing where there was none
-abbrev pub read_refusal : (explained : Bool) → Outcome → List ℕ
-read_refusal x Outcome.Accepted = []
-read_refusal x (Outcome.Refused e) = 0x20 ∷ bytes_of (result_shown x (error_of e)) []
-read_refusal x (Outcome.Seat id) = []
-read_refusal x (Outcome.Device id) = []
-read_refusal x (Outcome.Value n) = []
-read_refusal x (Outcome.Truth b) = []
-read_refusal x Outcome.None = []
+abbrev pub read_refusal : (explained : Bool) → Option Error → List ℕ
+read_refusal x None = []
+read_refusal x (Some e) = 0x20 ∷ bytes_of (result_shown x (error_of e)) []
 
 -- WHAT A READ IS ANSWERED: "the number accepted and, if there was one, the first refusal as it is printed elsewhere. Behind the bar the records of those
 -- accepted"
-unfoldable pub read_line : (accepted : ℕ) → Answer → (out : List ℕ) → (explained : Bool) → List ℕ
+unfoldable pub read_line : (accepted count : ℕ) → (refusal : Option Error) → (out : List ℕ) → (explained : Bool) → List ℕ
 unfolding bytes_of behind_outcome
-read_line n a out x = bytes_of (shown first_read n 0 0 0 0) [] ++ (read_refusal x a.outcome ++ behind_outcome (take a.count out) x)
+read_line n count refusal out x = bytes_of (shown first_read n 0 0 0 0) [] ++ (read_refusal x refusal ++ behind_outcome (take count out) x)
 
 -- what next_request gives, and how many bytes its text has
-abbrev pub next_shown : (explained : Bool) → NextRequest → Shown
-next_shown x (NextRequest.Given r) = delivered x r
-next_shown x NextRequest.None = result_shown x Result.none
-next_shown x (NextRequest.Refused e) = result_shown x (error_of e)
+abbrev pub next_shown : (explained : Bool) → rust.Result (Option EisRequest) Error → Shown
+next_shown x (Ok (Some r)) = delivered x r
+next_shown x (Ok None) = result_shown x Result.none
+next_shown x (Err e) = result_shown x (error_of e)
 
-abbrev pub next_length : NextRequest → ℕ
-next_length (NextRequest.Given r) = text_length r
-next_length NextRequest.None = 0
-next_length (NextRequest.Refused e) = 0
+abbrev pub next_length : rust.Result (Option EisRequest) Error → ℕ
+next_length (Ok (Some r)) = text_length r
+next_length (Ok None) = 0
+next_length (Err e) = 0
 
 -- WHAT next_request IS ANSWERED; a text begins the buffer
-unfoldable pub next_line : NextRequest → (buffer : List ℕ) → (explained : Bool) → List ℕ
+unfoldable pub next_line : rust.Result (Option EisRequest) Error → (buffer : List ℕ) → (explained : Bool) → List ℕ
 unfolding bytes_of
 next_line n buffer x = bytes_of (next_shown x n) (take (next_length n) buffer) ++ (0x0a ∷ [])
 

@@ -1,6 +1,6 @@
 // The lines of a trail.
 ghost use Rattle.std.specs.Prelude.{[], ◌∷◌, ◌++◌, ◌≡◌, true, cond, ◌≤◌, take};
-ghost use Rattle.answers.specs.Answer.{error_of, outcome_of};
+ghost use Rattle.answers.specs.Answer.{error_of, outcome_of, count_of};
 ghost use Rattle.model.specs.Plan.{Result};
 ghost use Rattle.script_pattern.specs.Put.{Puts};
 ghost use Rattle.script_pattern.specs.Pattern.{bytes_of};
@@ -10,8 +10,8 @@ ghost use Rattle.script_show.specs.Answer.{answer_line, handshake_line, next_sho
 
 use crate::{records, request};
 use answers::{Answer, Error, Outcome};
-use converter::request::NextRequest;
-use handshake::handshake::{HandshakeAnswer, HandshakeOutcome};
+use handshake::handshake::{EisHandshakeResp, HandshakeAnswer, HandshakeError};
+use requests::request::EisRequest;
 use script_pattern::table::Shown;
 use script_pattern::{put, table};
 
@@ -49,27 +49,41 @@ fn refused(e: Error, explained: bool) -> Shown
     refusal(e.number(), explained)
 }
 
-pub fn outcome(o: Outcome, explained: bool) -> Shown
-    ensures { result ≡ result_shown explained (outcome_of o) }
+pub fn outcome(a: Result<Answer, Error>, explained: bool) -> Shown
+    ensures { result ≡ result_shown explained (outcome_of a) }
 {
-    match o {
-        Outcome::Accepted => table::single(table::OUTCOME, 0),
-        Outcome::Refused(e) => refused(e, explained),
-        Outcome::Seat(id) => table::single(table::OUTCOME + 1, id),
-        Outcome::Device(id) => table::single(table::OUTCOME + 2, id),
-        Outcome::Value(n) => table::single(table::OUTCOME + 3, n as u64),
-        Outcome::Truth(b) => table::single(table::OUTCOME + 4, request::truth_number(b)),
-        Outcome::None => table::single(table::OUTCOME + 5, 0),
+    match a {
+        Err(e) => refused(e, explained),
+        Ok(a) => match a.outcome {
+            Outcome::Accepted => table::single(table::OUTCOME, 0),
+            Outcome::Seat(id) => table::single(table::OUTCOME + 1, id),
+            Outcome::Device(id) => table::single(table::OUTCOME + 2, id),
+            Outcome::Value(n) => table::single(table::OUTCOME + 3, u64::from(n)),
+            Outcome::Truth(b) => table::single(table::OUTCOME + 4, request::truth_number(b)),
+            Outcome::None => table::single(table::OUTCOME + 5, 0),
+        },
     }
 }
 
-pub fn handshake_outcome(o: HandshakeOutcome, explained: bool) -> Shown
+// How many bytes of records a call wrote.
+pub fn count(a: Result<Answer, Error>) -> usize
+    ensures { result ≡ count_of a }
+{
+    match a {
+        Ok(a) => a.count,
+        Err(_) => 0,
+    }
+}
+
+pub fn handshake_outcome(
+    o: Result<Option<EisHandshakeResp>, HandshakeError>,
+    explained: bool,
+) -> Shown
     ensures { result ≡ handshake_outcome explained o }
 {
     match o {
-        HandshakeOutcome::Accepted => table::single(table::OUTCOME, 0),
-        HandshakeOutcome::Finished => table::single(table::OUTCOME, 0),
-        HandshakeOutcome::Refused(e) => refusal(e.number(), explained),
+        Ok(_) => table::single(table::OUTCOME, 0),
+        Err(e) => refusal(e.number(), explained),
     }
 }
 
@@ -122,11 +136,10 @@ pub fn whole(line: &mut [u8], s: Shown, count: usize, out: &[u8], explained: boo
 }
 
 // What a call on a session is answered. Its records begin `out`. Explained, each stands in words on a line of its own behind it.
-pub fn answer(line: &mut [u8], a: Answer, out: &[u8], explained: bool) -> usize
+pub fn answer(line: &mut [u8], a: Result<Answer, Error>, out: &[u8], explained: bool) -> usize
     ensures { Puts line 0 result (answer_line a out.now explained) }
 {
-    let o = a.outcome;
-    whole(line, outcome(o, explained), a.count, out, explained)
+    whole(line, outcome(a, explained), count(a), out, explained)
 }
 
 // What a call of the handshake is answered.
@@ -144,10 +157,10 @@ pub fn handshake_answer(line: &mut [u8], a: HandshakeAnswer, out: &[u8], explain
 }
 
 // The refusal that ended a read, behind how many of its records were accepted.
-fn read_refusal(line: &mut [u8], at: usize, o: Outcome, explained: bool) -> usize
-    ensures { Puts line at result (read_refusal explained o) }
+fn read_refusal(line: &mut [u8], at: usize, refusal: Option<Error>, explained: bool) -> usize
+    ensures { Puts line at result (read_refusal explained refusal) }
 {
-    if let Outcome::Refused(e) = o {
+    if let Some(e) = refusal {
         let next = put::byte(line, at, b' ');
         return table::show(line, next, refused(e, explained), b"");
     }
@@ -155,13 +168,19 @@ fn read_refusal(line: &mut [u8], at: usize, o: Outcome, explained: bool) -> usiz
 }
 
 // What a read is answered: how many of its records were accepted, and how it ended, with the records that these wrote.
-pub fn read_answer(line: &mut [u8], accepted: u64, a: Answer, out: &[u8], explained: bool) -> usize
-    ensures { Puts line 0 result (read_line accepted a out.now explained) }
+pub fn read_answer(
+    line: &mut [u8],
+    accepted: u64,
+    count: usize,
+    refusal: Option<Error>,
+    out: &[u8],
+    explained: bool,
+) -> usize
+    ensures { Puts line 0 result (read_line accepted count refusal out.now explained) }
 {
-    let o = a.outcome;
     let counted = table::show(line, 0, table::single(table::READ, accepted), b"");
-    let told = read_refusal(line, counted, o, explained);
-    beginning(line, told, a.count, out, explained)
+    let told = read_refusal(line, counted, refusal, explained);
+    beginning(line, told, count, out, explained)
 }
 
 // What is shown of the first n bytes of a text, and the end of its line.
@@ -174,29 +193,34 @@ pub fn ended_first(line: &mut [u8], s: Shown, n: usize, text: &[u8]) -> usize
     ended(line, s, text)
 }
 
-fn next_shown(next: NextRequest, explained: bool) -> Shown
+fn next_shown(next: Result<Option<EisRequest>, Error>, explained: bool) -> Shown
     ensures { result ≡ next_shown explained next }
 {
     match next {
-        NextRequest::Given(r) => request::delivered(r, explained),
-        NextRequest::None => table::single(table::OUTCOME + 5, 0),
-        NextRequest::Refused(e) => refused(e, explained),
+        Ok(Some(r)) => request::delivered(r, explained),
+        Ok(None) => table::single(table::OUTCOME + 5, 0),
+        Err(e) => refused(e, explained),
     }
 }
 
 // How many bytes its text has.
-fn next_length(next: NextRequest) -> usize
+fn next_length(next: Result<Option<EisRequest>, Error>) -> usize
     ensures { result ≡ next_length next }
 {
     match next {
-        NextRequest::Given(r) => r.text_length() as usize,
-        NextRequest::None => 0,
-        NextRequest::Refused(_) => 0,
+        Ok(Some(r)) => r.text_length() as usize,
+        Ok(None) => 0,
+        Err(_) => 0,
     }
 }
 
 // What next_request gives. A text begins the buffer.
-pub fn next(line: &mut [u8], next: NextRequest, buffer: &[u8], explained: bool) -> usize
+pub fn next(
+    line: &mut [u8],
+    next: Result<Option<EisRequest>, Error>,
+    buffer: &[u8],
+    explained: bool,
+) -> usize
     ensures { Puts line 0 result (next_line next buffer.now explained) }
 {
     ended_first(line, next_shown(next, explained), next_length(next), buffer)

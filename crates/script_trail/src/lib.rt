@@ -21,9 +21,11 @@ pub fn written(took: Took, out: &[u8], explained: bool, shown: &mut [u8]) -> usi
         Told::Given(next) => script_show::next(shown, next, out, explained),
         Told::Begun(_) => 0,
         Told::Gathered => 0,
-        Told::Handed { accepted, answer } => script_show::read_answer(
-            shown, accepted, answer, out, explained,
-        ),
+        Told::Handed {
+            accepted,
+            count,
+            refusal,
+        } => script_show::read_answer(shown, accepted, count, refusal, out, explained),
         Told::Received(r) => script_message::message_answer(shown, r, out, explained),
         Told::ShakenBy(taken) => script_message::handshake_message_answer(
             shown, shaken, taken, out, explained,

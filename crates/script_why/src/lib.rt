@@ -1,7 +1,9 @@
 // Why a line ends the trail, on standard error. What is written there is no part of the trail, and nothing is promised of it.
 #![tactic(auto)]
 
-use script::{Found, Kind, Slot, Word};
+ghost use Rattle.std.specs.Prelude.{◌≤◌, ◌<◌, length, IfOk, IfSome};
+
+use script::Kind;
 use script_run::Why;
 use std::io;
 use std::io::Write;
@@ -11,39 +13,24 @@ fn put(to: &mut impl Write, words: &[u8]) -> io::Result<()> {
 }
 
 // Where the next space is, or the end of the line.
-fn space(line: &[u8], from: usize) -> usize {
-    let mut i = from;
-    while i < line.len() {
-        if line[i] == b' ' {
-            return i;
-        }
-        i += 1;
+fn space(line: &[u8], from: usize) -> usize
+    requires { from ≤ length line.now }
+    ensures { (from ≤ result) × (result ≤ length line.now) }
+{
+    match line[from..].iter().position(|&b| b == b' ') {
+        Some(k) => from + k,
+        None => line.len(),
     }
-    i
 }
 
 fn letter(b: u8) -> u8 {
-    if b < 0x20 {
-        return b'?';
-    }
-    if 0x7e < b { b'?' } else { b }
+    if (0x20..=0x7e).contains(&b) { b } else { b'?' }
 }
 
-// A word of the line, its first 64 bytes; a byte that is no letter as `?`.
-fn say_word(to: &mut impl Write, line: &[u8], from: usize, end: usize) -> io::Result<()> {
-    let mut left: usize = 64;
-    let mut i = from;
-    while 0 < left {
-        if end <= i {
-            return Ok(());
-        }
-        if line.len() <= i {
-            return Ok(());
-        }
-        let shown = [letter(line[i])];
-        put(to, &shown)?;
-        i += 1;
-        left -= 1;
+// A word, its first 64 bytes; a byte that is no letter as `?`.
+fn say_word(to: &mut impl Write, word: &[u8]) -> io::Result<()> {
+    for &b in word.iter().take(64) {
+        put(to, &[letter(b)])?;
     }
     Ok(())
 }
@@ -66,102 +53,62 @@ fn say_kind(to: &mut impl Write, kind: Kind) -> io::Result<()> {
     }
 }
 
-// The place behind a word, or that the reason has been said.
-#[derive(Clone, Copy)]
-enum Next {
-    At(usize),
-    Said,
-}
-
-// A word that begins behind the space at a place.
-fn word(to: &mut impl Write, line: &[u8], at: usize, kind: Kind) -> io::Result<Next> {
+// A word that begins behind the space at a place: the place behind it, or none where the reason has been said.
+fn word(to: &mut impl Write, line: &[u8], at: usize, kind: Kind) -> io::Result<Option<usize>>
+    ensures { IfOk result (λ r. IfSome r (λ n. n ≤ length line.now)) }
+{
     if line.len() <= at {
         put(to, b"a word is missing")?;
-        return Ok(Next::Said);
+        return Ok(None);
     }
     let from = at + 1;
     let end = space(line, from);
-    if end <= from {
+    if end == from {
         put(to, b"an empty word")?;
-        return Ok(Next::Said);
+        return Ok(None);
     }
-    if line.len() < end {
-        return Ok(Next::Said);
+    if script::read(line, from, end, kind).is_none() {
+        say_word(to, &line[from..end])?;
+        say_kind(to, kind)?;
+        return Ok(None);
     }
-    match script::read(line, from, end, kind) {
-        Word::Is(_) => Ok(Next::At(end)),
-        Word::Nothing => {
-            say_word(to, line, from, end)?;
-            say_kind(to, kind)?;
-            Ok(Next::Said)
-        }
-    }
-}
-
-fn word_at(
-    to: &mut impl Write,
-    line: &[u8],
-    at: usize,
-    i: usize,
-    place: usize,
-    within: bool,
-) -> io::Result<Next> {
-    if 59 <= i {
-        return Ok(Next::Said);
-    }
-    if 4 <= place {
-        return Ok(Next::Said);
-    }
-    match script::slot_at(i, place, within) {
-        Slot::Empty => Ok(Next::At(at)),
-        Slot::Of(kind) => word(to, line, at, kind),
-    }
+    Ok(Some(end))
 }
 
 // The words behind the first, which ends at a place, for the row of that; `within` a read or outside of one.
-fn words(to: &mut impl Write, line: &[u8], first: usize, i: usize, within: bool) -> io::Result<()> {
+fn words(to: &mut impl Write, line: &[u8], first: usize, i: usize, within: bool) -> io::Result<()>
+    requires { (first ≤ length line.now) × (i < 59) }
+{
     let mut at = first;
-    let mut place: usize = 0;
-    while place < 4 {
-        match word_at(to, line, at, i, place, within)? {
-            Next::At(next) => at = next,
-            Next::Said => return Ok(()),
-        }
-        place += 1;
+    for place in 0..4 {
+        let Some(kind) = script::kind_at(i, place, within) else {
+            break;
+        };
+        let Some(next) = word(to, line, at, kind)? else {
+            return Ok(());
+        };
+        at = next;
     }
     put(to, b"a word too many")
 }
 
 fn no_call(to: &mut impl Write, line: &[u8]) -> io::Result<()> {
-    let from: usize = 0;
-    let end = space(line, from);
-    if line.len() < end {
-        return Ok(());
-    }
-    match script::find(&line[from..end]) {
-        Found::Row(i) => words(to, line, end, i, false),
-        Found::Nothing => put(to, b"unknown call"),
+    let end = space(line, 0);
+    match script::find(&line[..end]) {
+        Some(i) => words(to, line, end, i, false),
+        None => put(to, b"unknown call"),
     }
 }
 
-// The rows of a client's requests are those from the handshake's first on, up to `text.utf8`.
 fn no_record(to: &mut impl Write, line: &[u8]) -> io::Result<()> {
-    let from: usize = 0;
-    let end = space(line, from);
-    if line.len() < end {
-        return Ok(());
-    }
-    match script::find(&line[from..end]) {
-        Found::Row(i) => {
-            if 4 <= i && i < 40 {
-                words(to, line, end, i, true)?;
-            } else {
-                put(to, b"only a client's requests stand in a read")?;
-            }
+    let end = space(line, 0);
+    match script::find(&line[..end]) {
+        Some(i) if (script::FIRST_REQUEST..=script::LAST_REQUEST).contains(&i) => {
+            words(to, line, end, i, true)
         }
-        Found::Nothing => put(to, b"unknown call")?,
+        Some(_) => put(to, b"only a client's requests stand in a read"),
+        None => put(to, b"unknown call"),
     }
-    Ok(())
 }
 
 fn reason(to: &mut impl Write, why: Why, line: &[u8]) -> io::Result<()> {

@@ -5,8 +5,8 @@ use Rattle.script_asked.specs.Asked.{button_case}
 use borrow.Author.Rules.{rules}
 use Rattle.script_asked.proofs.button_state.Goals as goal
 
-pub returns-in-Case : goal.returns-in-Case
-returns-in-Case c = ap button_case (sym c.in-Case.is ∙ c.parse.ensures ∙ ap button_state_of c.u32_of.ensures)
+pub returns-in-Ok : goal.returns-in-Ok
+returns-in-Ok c = ap button_case (sym c.in-Ok.is ∙ c.try_from.ensures ∙ ap button_state_of c.u32_of.ensures)
 
-pub returns-in-InvalidVariant : goal.returns-in-InvalidVariant
-returns-in-InvalidVariant c = ap button_case (sym c.in-InvalidVariant.is ∙ c.parse.ensures ∙ ap button_state_of c.u32_of.ensures)
+pub returns-in-Err : goal.returns-in-Err
+returns-in-Err c = ap button_case (sym c.in-Err.is ∙ c.try_from.ensures ∙ ap button_state_of c.u32_of.ensures)

@@ -5,8 +5,8 @@ use Rattle.script_asked.specs.Asked.{capability_case}
 use borrow.Author.Rules.{rules}
 use Rattle.script_asked.proofs.capability_of.Goals as goal
 
-pub returns-in-Case : goal.returns-in-Case
-returns-in-Case c = ap capability_case (sym c.in-Case.is ∙ c.from_mask.ensures ∙ ap (capability_by capability_mask) c.u64_of.ensures)
+pub returns-in-Some : goal.returns-in-Some
+returns-in-Some c = ap capability_case (sym c.in-Some.is ∙ c.from_mask.ensures ∙ ap (capability_by capability_mask) c.u64_of.ensures)
 
-pub returns-in-Unknown : goal.returns-in-Unknown
-returns-in-Unknown c = ap capability_case (sym c.in-Unknown.is ∙ c.from_mask.ensures ∙ ap (capability_by capability_mask) c.u64_of.ensures)
+pub returns-in-None : goal.returns-in-None
+returns-in-None c = ap capability_case (sym c.in-None.is ∙ c.from_mask.ensures ∙ ap (capability_by capability_mask) c.u64_of.ensures)

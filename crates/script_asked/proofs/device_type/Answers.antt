@@ -5,8 +5,8 @@ use Rattle.script_asked.specs.Asked.{type_case}
 use borrow.Author.Rules.{rules}
 use Rattle.script_asked.proofs.device_type.Goals as goal
 
-pub returns-in-Case : goal.returns-in-Case
-returns-in-Case c = ap type_case (sym c.in-Case.is ∙ c.parse.ensures ∙ ap device_type_of c.u32_of.ensures)
+pub returns-in-Ok : goal.returns-in-Ok
+returns-in-Ok c = ap type_case (sym c.in-Ok.is ∙ c.try_from.ensures ∙ ap device_type_of c.u32_of.ensures)
 
-pub returns-in-InvalidVariant : goal.returns-in-InvalidVariant
-returns-in-InvalidVariant c = ap type_case (sym c.in-InvalidVariant.is ∙ c.parse.ensures ∙ ap device_type_of c.u32_of.ensures)
+pub returns-in-Err : goal.returns-in-Err
+returns-in-Err c = ap type_case (sym c.in-Err.is ∙ c.try_from.ensures ∙ ap device_type_of c.u32_of.ensures)

@@ -1,6 +1,5 @@
 -- The end of a line lies in what is filled, and the next line begins behind it. Assumes nothing.
-use Rattle.std.proofs.Common.{◌-◌, ◌≤◌, sym, ◌∙◌, arith, rules}
-use Rattle.script.proofs.Lines.{end_bounds}
+use Rattle.std.proofs.Common.{◌-◌, ◌≤◌}
 use Rattle.script_cases.proofs.lines.Given as goal
 
 abbrev pub invariant-loop-at : goal.invariant-loop-at

@@ -1,5 +1,5 @@
 -- What is filled lies in the buffer, which keeps its length. Assumes nothing.
-use Rattle.std.proofs.Common.{◌≡◌, ◌≤◌, length, rules}
+use Rattle.std.proofs.Common.{◌≡◌, ◌≤◌, length}
 use Rattle.script_cases.proofs.read_all.Given as goal
 
 abbrev pub invariant-loop : goal.invariant-loop

@@ -1,5 +1,5 @@
 -- The first word ends in the line. Assumes nothing.
-use Rattle.std.proofs.Common.{sym, length-take-le, rules}
+use Rattle.std.proofs.Common.{sym, length-take-le}
 use Rattle.script_cases.proofs.verb.Goals as goal
 
 pub slice_bounds-text-end : goal.slice_bounds-text-end

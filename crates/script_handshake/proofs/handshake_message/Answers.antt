@@ -2,7 +2,6 @@
 use mathlib.Core.Path.{sym, ◌∙◌, ap}
 use Rattle.handshake.specs.declared.handshake.HandshakeMessage.{HandshakeMessage}
 use Rattle.script_handshake.specs.Shaken.{handshake_message}
-use borrow.Author.Rules.{rules}
 use Rattle.script_handshake.proofs.handshake_message.Goals as goal
 
 pub returns-in-HandshakeVersion : goal.returns-in-HandshakeVersion

@@ -1,8 +1,10 @@
 -- The part that is lent comes back as the handshake left it. Assumes nothing.
-use mathlib.Core.Path.{refl}
-use Rattle.script_session.proofs.Rooms.{in_room}
-use borrow.Author.Rules.{rules}
+use mathlib.Core.Path.{ap}
+use mathlib.Core.List.{◌++◌}
+use lib.ListN.{drop}
 use Rattle.script_handshake.proofs.take.Goals as goal
 
 pub returns : goal.returns
-returns c = in_room _ c.room-n.ensures c.handle_request.ensures refl
+returns c =
+    let later = c.handle_request.new.out in
+    record { later = later; holds = rw c.room-n.ensures at c.handle_request.ensures; rest = ap (λ n. later ++ drop n c.args.out.now) c.room-n.ensures }

@@ -1,10 +1,10 @@
 -- An empty line has no first byte. Assumes nothing.
 use Prim.Native.Nat.{ℕ}
-use mathlib.Core.Path.{◌≡◌, refl}
+use mathlib.Core.Path.{◌≡◌, refl, sym, ◌∙◌}
 use mathlib.Core.Bool.{true}
 use mathlib.Core.List.{List, [], ◌∷◌}
 use native.Mathlib.Omega.{arith}
-use borrow.Author.Rules.{rules}
+use borrow.Author.Tests.{eqb-true, eqb-false}
 use lib.Dec.{eqb}
 use lib.ListN.{length, get_or}
 use Rattle.script.specs.Script.{is_blank}
@@ -21,8 +21,9 @@ unfolding is_blank
 begun [] h = absurd (h refl)
 begun (x ∷ l) h = refl
 
-pub returns-then-line-eq0 : goal.returns-then-line-eq0
-returns-then-line-eq0 c = empty c.args.line.now c.if-line-eq0.true
+pub returns-then-is_empty : goal.returns-then-is_empty
+returns-then-is_empty c =
+    c.if-is_empty.true ∙ empty c.args.line.now (eqb-true _ 0 (sym c.is_empty.ensures ∙ c.if-is_empty.true))
 
-pub returns : goal.returns
-returns c = begun c.args.line.now c.if-line-eq0.false
+pub returns-else-is_empty : goal.returns-else-is_empty
+returns-else-is_empty c = begun c.args.line.now (eqb-false _ 0 (sym c.is_empty.ensures ∙ c.if-is_empty.false))

@@ -1,11 +1,10 @@
 -- The first word ends at the first space, and its row says what the others are. Assumes nothing.
 use mathlib.Core.Path.{sym, ap, ◌∙◌, subst}
 use native.Mathlib.Omega.{arith}
-use borrow.Author.Rules.{rules}
 use lib.ListN.{take}
 use lib.Seq.{length-take-le}
 use Rattle.script.specs.declared.verb.Verb.{Verb}
-use Rattle.script.specs.Verbs.{number_found}
+use Rattle.eiproto.specs.Told.{told}
 use Rattle.script.specs.Script.{setting, call}
 use Rattle.script.specs.Told.{args_read, args_told, words_from, ReadInTurn}
 use Rattle.script.proofs.Words.{before-le}
@@ -29,7 +28,7 @@ returns-in_default c =
     let e = c.find_byte-end in
     record {
       reads = reads_no_verb c.args.within w (take e.result w) (words_from e.result w) (sym c.is_blank.ensures ∙ c.if-is_blank.false) (words-first w e.result e.ensures)
-          (ap number_found (sym c.in_default.is) ∙ c.find.ensures);
+          (ap told (sym c.in_default.is) ∙ c.find.ensures.row);
       in_turn = tt;
     }
 
@@ -38,7 +37,7 @@ read_args-requires c =
     let w = c.args.line.now in
     let e = c.find_byte-end in (
       omega (arith, e.ensures, before-le 0x20 w),
-      row_below (take e.result w) c.in-Row.i (ap number_found (sym c.in-Row.is) ∙ c.find.ensures),
+      row_below (take e.result w) c.in-Some.i (ap told (sym c.in-Some.is) ∙ c.find.ensures.row),
     )
 
 pub returns-in_default-read_args : goal.returns-in_default-read_args
@@ -47,7 +46,7 @@ returns-in_default-read_args c =
     let e = c.find_byte-end in
     record {
       reads = reads_no_args c.args.within w (take e.result w) (words_from e.result w) (sym c.is_blank.ensures ∙ c.if-is_blank.false) (words-first w e.result e.ensures)
-          c.in-Row.i (ap number_found (sym c.in-Row.is) ∙ c.find.ensures)
+          c.in-Some.i (ap told (sym c.in-Some.is) ∙ c.find.ensures.row)
           (ap (args_read w) (sym c.in_default-read_args.is) ∙ c.read_args.ensures.reads);
       in_turn = tt;
     }
@@ -56,28 +55,28 @@ pub verb_at-verb-requires : goal.verb_at-verb-requires
 verb_at-verb-requires c =
     let w = c.args.line.now in
     let e = c.find_byte-end in
-    row_below (take e.result w) c.in-Row.i (ap number_found (sym c.in-Row.is) ∙ c.find.ensures)
+    row_below (take e.result w) c.in-Some.i (ap told (sym c.in-Some.is) ∙ c.find.ensures.row)
 
-pub returns-then-i-lt3 : goal.returns-then-i-lt3
-returns-then-i-lt3 c =
+pub returns-then-i-lt-SETTINGS : goal.returns-then-i-lt-SETTINGS
+returns-then-i-lt-SETTINGS c =
     let w = c.args.line.now in
     let e = c.find_byte-end in
     record {
-      reads = ap (λ (v : Verb). setting v (args_told w c.in-Args.args)) c.verb_at-verb.ensures
+      reads = ap (λ (v : Verb). setting v (args_told w c.in-Some-read_args.args)) c.verb_at-verb.ensures
           ∙ reads-setting c.args.within w (take e.result w) (words_from e.result w) (sym c.is_blank.ensures ∙ c.if-is_blank.false) (words-first w e.result e.ensures)
-          c.in-Row.i (ap number_found (sym c.in-Row.is) ∙ c.find.ensures)
-          (args_told w c.in-Args.args) (ap (args_read w) (sym c.in-Args.is) ∙ c.read_args.ensures.reads) c.if-i-lt3.true;
-      in_turn = subst (ReadInTurn w) c.in-Args.is c.read_args.ensures.in_turn;
+          c.in-Some.i (ap told (sym c.in-Some.is) ∙ c.find.ensures.row)
+          (args_told w c.in-Some-read_args.args) (ap (args_read w) (sym c.in-Some-read_args.is) ∙ c.read_args.ensures.reads) c.if-i-lt-SETTINGS.true;
+      in_turn = subst (ReadInTurn w) c.in-Some-read_args.is c.read_args.ensures.in_turn;
     }
 
-pub returns : goal.returns
-returns c =
+pub returns-else-i-lt-SETTINGS : goal.returns-else-i-lt-SETTINGS
+returns-else-i-lt-SETTINGS c =
     let w = c.args.line.now in
     let e = c.find_byte-end in
     record {
-      reads = ap (λ (v : Verb). call v (args_told w c.in-Args.args)) c.verb_at-verb.ensures
+      reads = ap (λ (v : Verb). call v (args_told w c.in-Some-read_args.args)) c.verb_at-verb.ensures
           ∙ reads-call c.args.within w (take e.result w) (words_from e.result w) (sym c.is_blank.ensures ∙ c.if-is_blank.false) (words-first w e.result e.ensures)
-          c.in-Row.i (ap number_found (sym c.in-Row.is) ∙ c.find.ensures)
-          (args_told w c.in-Args.args) (ap (args_read w) (sym c.in-Args.is) ∙ c.read_args.ensures.reads) c.if-i-lt3.false;
-      in_turn = subst (ReadInTurn w) c.in-Args.is c.read_args.ensures.in_turn;
+          c.in-Some.i (ap told (sym c.in-Some.is) ∙ c.find.ensures.row)
+          (args_told w c.in-Some-read_args.args) (ap (args_read w) (sym c.in-Some-read_args.is) ∙ c.read_args.ensures.reads) c.if-i-lt-SETTINGS.false;
+      in_turn = subst (ReadInTurn w) c.in-Some-read_args.is c.read_args.ensures.in_turn;
     }

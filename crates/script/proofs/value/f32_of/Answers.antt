@@ -1,34 +1,20 @@
--- By the variant; 0 / 0 is the NaN. Assumes nothing.
-use mathlib.Core.Path.{sym, ap}
-use borrow.Author.Rules.{rules}
-use lib.Ieee.{div, of_bits}
+-- 0 / 0 is the NaN. Assumes nothing.
+use Rattle.std.proofs.Common.{◌≡◌, refl}
+use lib.Ieee.{Float, nan, div, of_bits}
+use Rattle.script.specs.declared.value.Value.{Value}
 use Rattle.script.specs.Told.{f32_of}
 use Rattle.script.proofs.value.f32_of.Goals as goal
 
-pub returns-in-U64 : goal.returns-in-U64
-unfolding div of_bits
-returns-in-U64 c = sym (ap f32_of c.in-U64.is)
+no_float : (v : Value) → ((x : Float) → v ≡ Value.F32 x → ⊥) → nan ≡ f32_of v
+no_float Value.Nothing n = refl
+no_float (Value.U64 m) n = refl
+no_float (Value.U32 m) n = refl
+no_float (Value.I32 z) n = refl
+no_float (Value.F32 x) n = absurd (n x refl)
+no_float (Value.Text t) n = refl
+no_float Value.NoText n = refl
+no_float (Value.Part p) n = refl
 
-pub returns-in-U32 : goal.returns-in-U32
+pub returns-in_default : goal.returns-in_default
 unfolding div of_bits
-returns-in-U32 c = sym (ap f32_of c.in-U32.is)
-
-pub returns-in-I32 : goal.returns-in-I32
-unfolding div of_bits
-returns-in-I32 c = sym (ap f32_of c.in-I32.is)
-
-pub returns-in-Nothing : goal.returns-in-Nothing
-unfolding div of_bits
-returns-in-Nothing c = sym (ap f32_of c.in-Nothing.is)
-
-pub returns-in-Text : goal.returns-in-Text
-unfolding div of_bits
-returns-in-Text c = sym (ap f32_of c.in-Text.is)
-
-pub returns-in-NoText : goal.returns-in-NoText
-unfolding div of_bits
-returns-in-NoText c = sym (ap f32_of c.in-NoText.is)
-
-pub returns-in-Part : goal.returns-in-Part
-unfolding div of_bits
-returns-in-Part c = sym (ap f32_of c.in-Part.is)
+returns-in_default c = no_float c.args.v c.in_default.not-F32

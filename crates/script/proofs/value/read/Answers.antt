@@ -1,6 +1,5 @@
 -- Each kind has its arm. Assumes nothing.
 use mathlib.Core.Path.{◌∙◌}
-use borrow.Author.Rules.{rules}
 use Rattle.script.specs.declared.verb.Kind.{Kind}
 use Rattle.script.specs.Script.{read_as}
 use Rattle.script.specs.Told.{part}

@@ -1,28 +1,15 @@
--- The loop's invariant: the first row with the word is the first from i on. Assumes nothing.
-use Prim.Native.Nat.{◌-◌, ◌≤◌}
-use mathlib.Core.Path.{◌≡◌, sym, ◌∙◌}
-use native.Mathlib.Omega.{arith}
-use lib.ListN.{drop}
-use Rattle.script.specs.Verbs.{table, lookup_from, lookup}
-use Rattle.script.proofs.Table.{look_start, look_hit, look_miss, look_end}
+-- The first row with the word. Assumes nothing.
+use Rattle.std.proofs.Common.{rules, tests, ◌≡◌, ap, ◌∙◌, position, bytes_eq}
+use Rattle.std.proofs.lemmas.Iterator.{YieldsList-from_slice}
+use Rattle.std.proofs.lemmas.Iterator.Search.{position_from_yields_List}
+use Rattle.eiproto.specs.Told.{told}
+use Rattle.script.specs.declared.verb.TheConstants.{ROWS}
+use Rattle.script.proofs.Table.{searched}
 use Rattle.script.proofs.verb.find.Goals as goal
 
-pub loop-i-init : goal.loop-i-init
-loop-i-init c = (omega arith, look_start c.args.word.now)
-
-pub returns-then-is_verb : goal.returns-then-is_verb
-returns-then-is_verb c =
-    look_hit c.args.word.now c.loop-i.i (omega arith)
-    (sym c.if-is_verb.true ∙ c.is_verb.ensures)
-    ∙ sym c.loop-i.invariant.1
-
-pub loop-i-preserved : goal.loop-i-preserved
-loop-i-preserved c = (
-  omega arith,
-  c.loop-i.invariant.1
-      ∙ look_miss c.args.word.now c.loop-i.i (omega arith)
-      (sym c.if-is_verb.false ∙ c.is_verb.ensures),
-)
-
-pub returns : goal.returns
-returns c = look_end c.args.word.now c.loop-i.i (omega arith) ∙ sym c.loop-i.invariant.1
+pub returns-clause-row : goal.returns-clause-row
+returns-clause-row c =
+    let p : c.position.result ≡ position (λ r. bytes_eq r.0.now c.args.word.now) ROWS =
+    position_from_yields_List (λ r. bytes_eq r.0.now c.args.word.now) _ _ c.position.result c.position.ensures.ran
+    (YieldsList-from_slice _ c.iter.ensures.rest) (λ x b q k. search (rules, tests)) in
+    ap told p ∙ searched c.args.word.now

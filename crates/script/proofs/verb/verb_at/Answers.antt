@@ -1,10 +1,11 @@
--- The verbs of the code are those of the table. Assumes nothing.
-use borrow.Author.Rules.{rules}
-use Rattle.script.specs.declared.verb.Verb.TheVariants.{Now}
-use Rattle.script.specs.Verbs.{table}
-use Rattle.script.proofs.Table.{verb_of}
+-- The row's verb. Assumes nothing.
+use Rattle.std.proofs.Common.{refl, ap}
+use Rattle.script.specs.Verbs.{Entry, table, row}
 use Rattle.script.proofs.verb.verb_at.Goals as goal
 
+pub row-requires : goal.row-requires
+unfolding table row
+row-requires c = (refl, c.requires)
+
 pub returns : goal.returns
-unfolding table
-returns c = verb_of Now c.args.i (search rules)
+returns c = ap (λ (x : Entry). x.verb) c.row.ensures

@@ -1,29 +1,14 @@
--- The loop's invariant: the byte is none of those passed. Assumes nothing.
-use Prim.Native.Nat.{◌+◌, ◌-◌, ◌≤◌}
-use mathlib.Core.Path.{◌≡◌, refl}
-use native.Mathlib.Omega.{arith}
-use borrow.Author.Rules.{rules}
-use lib.ListN.{length, drop}
-use Rattle.script.specs.Words.{before}
-use Rattle.script.proofs.Words.{before_here, before_on, before-end}
+-- As many bytes stand before the first such byte as its place says, and all do where there is none. Assumes nothing.
+use Rattle.std.proofs.Common.{drop, arith, length-drop, sym, ◌∙◌}
+use Rattle.script.proofs.Words.{before_found, before_none, rest}
 use Rattle.script.proofs.word.find_byte.Goals as goal
 
-pub loop-i-init : goal.loop-i-init
-loop-i-init c =
-    (omega arith, omega arith, refl)
+pub returns-in-Some : goal.returns-in-Some
+returns-in-Some c =
+    let l = drop c.args.from c.args.s.now in
+    omega (arith, before_found c.args.b l c.in-Some.k (rw rest at (sym c.first.ensures ∙ c.in-Some.is)))
 
-pub returns-then-s-i : goal.returns-then-s-i
-returns-then-s-i c =
-    let a = c.args in
-    let l = c.loop-i in
-    omega (arith, before_here a.b a.s.now l.i (omega arith) c.if-s-i.true)
-
-pub loop-i-preserved : goal.loop-i-preserved
-loop-i-preserved c =
-    let a = c.args in
-    let l = c.loop-i in
-    (omega arith, omega arith, omega (arith, before_on a.b a.s.now l.i (omega arith) c.if-s-i.false))
-
-pub returns : goal.returns
-returns c =
-    omega (arith, before-end c.args.b c.args.s.now c.loop-i.i (omega arith))
+pub returns-in-None : goal.returns-in-None
+returns-in-None c =
+    let l = drop c.args.from c.args.s.now in
+    omega (arith, before_none c.args.b l (rw rest at (sym c.first.ensures ∙ c.in-None.is)), length-drop c.args.from c.args.s.now, c.requires)

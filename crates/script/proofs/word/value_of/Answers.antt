@@ -5,7 +5,6 @@ use mathlib.Core.Logic.{dite}
 use mathlib.Core.List.{List, [], ◌∷◌}
 use native.Mathlib.Omega.{arith}
 use native.Mathlib.Decide.{ℕ_discrete}
-use borrow.Author.Rules.{rules}
 use Rattle.script.specs.Number.{digit}
 use Rattle.script.proofs.word.value_of.Goals as goal
 

@@ -1,7 +1,6 @@
 -- The line, and behind it the words. Assumes nothing.
 use Rattle.script_pattern.proofs.Puts.{put_none, put_then, put_is}
 use Rattle.script_events.specs.Shown.{event_line}
-use borrow.Author.Rules.{rules}
 use Rattle.script_events.proofs.show.event_answer.Goals as goal
 
 pub returns-then-explained : goal.returns-then-explained
@@ -10,8 +9,8 @@ returns-then-explained c =
     put_is (put_then c.ended_first-next.ensures c.event_words.ensures)
     (rw (c.event_shown.ensures, c.event_count-count.ensures, c.if-explained.true))
 
-pub returns : goal.returns
+pub returns-else-explained : goal.returns-else-explained
 unfolding event_line
-returns c =
+returns-else-explained c =
     put_is (put_then c.ended_first-next.ensures (put_none _ _))
     (rw (c.event_shown.ensures, c.event_count-count.ensures, c.if-explained.false))

@@ -4,7 +4,6 @@ use lib.ListN.{take}
 use Rattle.script_pattern.proofs.Puts.{put_none, put_is}
 use Rattle.script_asked.specs.declared.Event.{Event}
 use Rattle.script_events.specs.Shown.{event_words}
-use borrow.Author.Rules.{rules}
 use Rattle.script_events.proofs.show.event_words.Goals as goal
 
 pub returns-in-Write : goal.returns-in-Write

@@ -1,5 +1,4 @@
 -- Each case has its number. Assumes nothing.
-use borrow.Author.Rules.{rules}
 use Rattle.script_events.proofs.show.refused.Goals as goal
 
 pub returns-in-Unsendable : goal.returns-in-Unsendable

@@ -1,8 +1,9 @@
 -- A refusal is shown as elsewhere. Assumes nothing.
 use mathlib.Core.Path.{◌∙◌}
-use Rattle.script_message.proofs.Arms.{not-refused}
-use borrow.Author.Rules.{rules}
 use Rattle.script_message.proofs.show.handshake_taken.Goals as goal
 
-pub returns-in-Refused : goal.returns-in-Refused
-returns-in-Refused c = c.handshake_outcome.ensures ∙ rw c.in-Refused.is
+pub returns-in-Ok : goal.returns-in-Ok
+returns-in-Ok c = rw c.in-Ok.is c.single.ensures
+
+pub returns-in-Err : goal.returns-in-Err
+returns-in-Err c = c.handshake_outcome.ensures ∙ rw c.in-Err.is

@@ -3,7 +3,6 @@ use borrow.Author.Tests.{lt-ltb, le-ltb}
 use Rattle.eiproto.specs.Interface.{ascii}
 use Rattle.script_pattern.specs.Words.{explanation}
 use Rattle.script_pattern.proofs.Puts.{put_then, put_is, put_none}
-use borrow.Author.Rules.{rules}
 use Rattle.script_pattern.proofs.mark.explanation.Goals as goal
 
 pub returns-then-n-gt127 : goal.returns-then-n-gt127

@@ -3,7 +3,6 @@ use borrow.Author.Tests.{lt-ltb, le-ltb}
 use Rattle.eiproto.specs.Interface.{ascii}
 use Rattle.script_pattern.specs.Words.{real}
 use Rattle.script_pattern.proofs.Puts.{put_then, put_is}
-use borrow.Author.Rules.{rules}
 use Rattle.script_pattern.proofs.mark.real.Goals as goal
 
 pub returns-then-n-lt4294967296 : goal.returns-then-n-lt4294967296

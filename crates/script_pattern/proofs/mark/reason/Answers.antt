@@ -4,7 +4,6 @@ use borrow.Author.Tests.{ne_eqb}
 use Rattle.eiproto.specs.Interface.{ascii}
 use Rattle.script_pattern.specs.Words.{reason}
 use Rattle.script_pattern.proofs.Puts.{put_is}
-use borrow.Author.Rules.{rules}
 use native.Mathlib.Omega.{arith}
 use Rattle.script_pattern.proofs.mark.reason.Goals as goal
 

@@ -4,7 +4,6 @@ use mathlib.Core.Path.{sym, ap}
 use Rattle.script_pattern.specs.Pattern.{marks, shows}
 use Rattle.script_pattern.proofs.Puts.{put_is, put_none}
 use Rattle.script_pattern.proofs.Patterns.{no_mark_shows}
-use borrow.Author.Rules.{rules}
 use Rattle.script_pattern.proofs.mark.show.Goals as goal
 
 pub returns-in-35 : goal.returns-in-35

@@ -3,7 +3,6 @@ use borrow.Author.Tests.{eq-eqb, ne_eqb}
 use Rattle.eiproto.specs.Interface.{ascii}
 use Rattle.script_pattern.specs.Words.{truth}
 use Rattle.script_pattern.proofs.Puts.{put_is}
-use borrow.Author.Rules.{rules}
 use Rattle.script_pattern.proofs.mark.truth.Goals as goal
 
 pub returns-then-n-eq0 : goal.returns-then-n-eq0

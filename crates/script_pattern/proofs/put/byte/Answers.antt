@@ -1,7 +1,6 @@
 -- A byte stands where there is room, and is left out where there is none. Assumes nothing.
 use Rattle.script_pattern.proofs.Puts.{put_full}
 use mathlib.Core.List.{[], ◌∷◌}
-use borrow.Author.Rules.{rules}
 use Rattle.script_pattern.proofs.put.byte.Goals as goal
 
 pub returns-else-at-line : goal.returns-else-at-line

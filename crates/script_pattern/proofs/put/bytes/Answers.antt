@@ -1,26 +1,24 @@
 -- The loop's invariant: what puts the rest of the bytes puts them all. Assumes nothing.
-use Prim.Native.Nat.{◌-◌, ◌≤◌}
-use mathlib.Core.Path.{◌≡◌, refl, ◌∙◌}
+use mathlib.Core.Path.{refl, ◌∙◌}
 use native.Mathlib.Omega.{arith}
-use lib.ListN.{length, drop, drop_of_length-le}
-use Rattle.script_pattern.proofs.Puts.{Rest, rest-start, rest_on, rest_end, put_length, drop_on}
-use borrow.Author.Rules.{rules}
+use lib.ListN.{drop_of_length-le}
+use Rattle.script_pattern.proofs.Puts.{rest-start, rest_on, rest_end, put_length, drop_on}
 use Rattle.script_pattern.proofs.put.bytes.Goals as goal
 
-pub loop-i-init : goal.loop-i-init
-loop-i-init c =
-    let a = c.args in (omega arith, refl, rest-start a.line.now a.at a.s.now)
+pub loop-b-init : goal.loop-b-init
+loop-b-init c =
+    let a = c.args in (refl, rest-start a.line.now a.at a.s.now)
 
-pub loop-i-preserved : goal.loop-i-preserved
-loop-i-preserved c =
-    let l = c.loop-i in
+pub loop-b-preserved : goal.loop-b-preserved
+loop-b-preserved c =
+    let l = c.loop-b in
     let a = c.args in
-    (omega arith, put_length c.byte-next.ensures ∙ l.invariant.1, rest_on l.invariant.2 (drop_on a.s.now l.i (omega arith)) c.byte-next.ensures)
+    (put_length c.byte-next.ensures ∙ l.invariant.0, rest_on l.invariant.1 (drop_on a.s.now l.b-index (omega arith)) c.byte-next.ensures)
 
 pub shape_of-line : goal.shape_of-line
 shape_of-line c =
-    c.loop-i.invariant.1
+    c.loop-b.invariant.0
 
 pub returns : goal.returns
 returns c =
-    let l = c.loop-i in let a = c.args in rest_end l.invariant.2 (drop_of_length-le a.s.now {i = l.i} (omega arith))
+    let l = c.loop-b in let a = c.args in rest_end l.invariant.1 (drop_of_length-le a.s.now {i = l.b-index} (omega arith))

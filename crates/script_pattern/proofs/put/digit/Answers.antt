@@ -1,7 +1,6 @@
 -- A digit is below ten, or a letter. Assumes nothing.
 use borrow.Author.Tests.{lt-ltb, le-ltb}
 use Rattle.script_pattern.specs.Digits.{digit}
-use borrow.Author.Rules.{rules}
 use Rattle.script_pattern.proofs.put.digit.Goals as goal
 
 pub returns-then-n-lt10 : goal.returns-then-n-lt10

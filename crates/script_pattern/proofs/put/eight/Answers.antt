@@ -1,7 +1,6 @@
 -- Four pairs of digits, one behind the other. Assumes nothing.
 use Rattle.script_pattern.specs.Digits.{eight}
 use Rattle.script_pattern.proofs.Puts.{put_then}
-use borrow.Author.Rules.{rules}
 use Rattle.script_pattern.proofs.put.eight.Goals as goal
 
 pub returns : goal.returns

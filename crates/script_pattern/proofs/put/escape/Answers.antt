@@ -3,7 +3,6 @@ use mathlib.Core.Path.{sym, ◌∙◌}
 use Rattle.eiproto.specs.Interface.{ascii}
 use Rattle.script_pattern.specs.Digits.{escape}
 use Rattle.script_pattern.proofs.Puts.{put_then, put_is}
-use borrow.Author.Rules.{rules}
 use Rattle.script_pattern.proofs.put.escape.Goals as goal
 
 pub returns-then-is_plain : goal.returns-then-is_plain

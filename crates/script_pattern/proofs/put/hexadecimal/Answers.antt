@@ -1,28 +1,25 @@
 -- The loop's invariant: what puts the digits of the rest puts those of all. Assumes nothing.
-use Prim.Native.Nat.{◌-◌, ◌≤◌}
-use mathlib.Core.Path.{◌≡◌, refl, ◌∙◌}
+use mathlib.Core.Path.{refl, ◌∙◌}
 use native.Mathlib.Omega.{arith}
-use lib.ListN.{length, drop}
 use Rattle.script_pattern.specs.Digits.{each, pair, hexadecimal}
-use Rattle.script_pattern.proofs.Puts.{Rest, rest-start, rest_on, rest_end, put_length, each_on, each_end}
-use borrow.Author.Rules.{rules}
+use Rattle.script_pattern.proofs.Puts.{rest-start, rest_on, rest_end, put_length, each_on, each_end}
 use Rattle.script_pattern.proofs.put.hexadecimal.Goals as goal
 
-pub loop-i-init : goal.loop-i-init
-loop-i-init c =
-    let a = c.args in (omega arith, refl, rest-start a.line.now a.at (each pair a.s.now))
+pub loop-b-init : goal.loop-b-init
+loop-b-init c =
+    let a = c.args in (refl, rest-start a.line.now a.at (each pair a.s.now))
 
-pub loop-i-preserved : goal.loop-i-preserved
-loop-i-preserved c =
-    let l = c.loop-i in
+pub loop-b-preserved : goal.loop-b-preserved
+loop-b-preserved c =
+    let l = c.loop-b in
     let a = c.args in
-    (omega arith, put_length c.pair-next.ensures ∙ l.invariant.1, rest_on l.invariant.2 (each_on pair a.s.now l.i (omega arith)) c.pair-next.ensures)
+    (put_length c.pair-next.ensures ∙ l.invariant.0, rest_on l.invariant.1 (each_on pair a.s.now l.b-index (omega arith)) c.pair-next.ensures)
 
 pub shape_of-line : goal.shape_of-line
 shape_of-line c =
-    c.loop-i.invariant.1
+    c.loop-b.invariant.0
 
 pub returns : goal.returns
 unfolding hexadecimal
 returns c =
-    let l = c.loop-i in let a = c.args in rest_end l.invariant.2 (each_end pair a.s.now l.i (omega arith))
+    let l = c.loop-b in let a = c.args in rest_end l.invariant.1 (each_end pair a.s.now l.b-index (omega arith))

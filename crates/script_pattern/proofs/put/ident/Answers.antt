@@ -2,7 +2,6 @@
 use Rattle.eiproto.specs.Interface.{ascii}
 use Rattle.script_pattern.specs.Digits.{ident}
 use Rattle.script_pattern.proofs.Puts.{put_then}
-use borrow.Author.Rules.{rules}
 use Rattle.script_pattern.proofs.put.ident.Goals as goal
 
 pub returns : goal.returns

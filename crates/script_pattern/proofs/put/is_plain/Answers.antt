@@ -1,31 +1,35 @@
--- Each test is one of the definition. Assumes nothing.
-use mathlib.Core.Path.{◌≡◌, refl}
-use mathlib.Core.Bool.{Bool, true, false, cond, not}
-use borrow.Author.Tests.{lt-ltb, le-ltb, eq-eqb, ne_eqb}
-use lib.Dec.{eqb}
+-- The two bytes that are none, and those outside of the letters. Assumes nothing.
+use Rattle.std.proofs.Common.{rules, arith, ◌≡◌, ◌≤◌, ◌<◌, ℕ, sym, ap, ◌⊎◌, inl, inr, false}
+use mathlib.Core.Logic.{dite}
+use native.Mathlib.Decide.{dec_le}
+use borrow.Author.Tests.{lt-ltb, le-ltb, le-leb, lt-leb, ne_eqb}
+use lib.Dec.{leb}
 use Rattle.script_pattern.specs.Digits.{is_plain}
 use Rattle.script_pattern.proofs.put.is_plain.Goals as goal
 
-turned : (e : Bool) → not e ≡ cond e false true
-turned true = refl
-turned false = refl
-
-pub returns-then-b-lt32 : goal.returns-then-b-lt32
+quoted : (b : ℕ) → (b ≡ 34) ⊎ (b ≡ 92) → false ≡ is_plain b
 unfolding is_plain
-returns-then-b-lt32 c =
-    rw (lt-ltb c.args.b 0x20 c.if-b-lt32.true)
+quoted b (inl e) = sym (ap is_plain e)
+quoted b (inr e) = sym (ap is_plain e)
 
-pub returns-then-b-gt126 : goal.returns-then-b-gt126
+above : (b : ℕ) → 32 ≤ b → (b ≡ 34 → ⊥) → (b ≡ 92 → ⊥) → leb b 126 ≡ is_plain b
 unfolding is_plain
-returns-then-b-gt126 c =
-    let x = c.args.b in rw (le-ltb x 0x20 c.if-b-lt32.false, lt-ltb 0x7e x c.if-b-gt126.true)
+above b h m n =
+    dite (dec_le b 126)
+    (λ k. rw (le-leb b 126 k, le-ltb b 0x20 h, le-ltb 0x7e b k, ne_eqb b 0x22 m, ne_eqb b 0x5c n))
+    (λ k. rw (lt-leb b 126 (omega arith), le-ltb b 0x20 h, lt-ltb 0x7e b (omega arith)))
 
-pub returns-then-b-eq34 : goal.returns-then-b-eq34
+below : (b : ℕ) → b < 32 → leb 32 b ≡ is_plain b
 unfolding is_plain
-returns-then-b-eq34 c =
-    let x = c.args.b in rw (le-ltb x 0x20 c.if-b-lt32.false, le-ltb 0x7e x c.if-b-gt126.false, eq-eqb x 0x22 c.if-b-eq34.true)
+below b h = rw (lt-leb 32 b h, lt-ltb b 0x20 h)
 
-pub returns : goal.returns
-unfolding is_plain
-returns c =
-    let x = c.args.b in rw (le-ltb x 0x20 c.if-b-lt32.false, le-ltb 0x7e x c.if-b-gt126.false, ne_eqb x 0x22 c.if-b-eq34.false) (turned (eqb x 0x5c))
+pub returns-in-34 : goal.returns-in-34
+returns-in-34 c = quoted c.args.b c.in-34.is
+
+pub returns-then-b-ge32 : goal.returns-then-b-ge32
+returns-then-b-ge32 c =
+    let k : (c.args.b ≡ 34) ⊎ (c.args.b ≡ 92) → ⊥ = omega arith in
+    above c.args.b c.if-b-ge32.true (λ e. k (inl e)) (λ e. k (inr e))
+
+pub returns-else-b-ge32 : goal.returns-else-b-ge32
+returns-else-b-ge32 c = below c.args.b c.if-b-ge32.false

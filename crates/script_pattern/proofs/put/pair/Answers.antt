@@ -1,7 +1,6 @@
 -- Two digits, one behind the other. Assumes nothing.
 use Rattle.script_pattern.specs.Digits.{pair}
 use Rattle.script_pattern.proofs.Puts.{put_then, put_is}
-use borrow.Author.Rules.{rules}
 use Rattle.script_pattern.proofs.put.pair.Goals as goal
 
 pub returns : goal.returns

@@ -3,7 +3,6 @@ use mathlib.Core.Path.{sym}
 use native.Mathlib.Omega.{arith}
 use lib.ListN.{get_or-eq_default}
 use Rattle.script_pattern.specs.Pattern.{values}
-use borrow.Author.Rules.{rules}
 use Rattle.script_pattern.proofs.table.value.Goals as goal
 
 pub returns-in_default : goal.returns-in_default

@@ -4,6 +4,6 @@ use borrow.Author.Rules.{rules}
 use mathlib.Core.Path.{sym, ◌∙◌}
 use Rattle.script_play.proofs.lines.end_of.Goals as goal
 
-pub returns-in-At : goal.returns-in-At
-returns-in-At c =
-    let e = end_bounds c.args.buf.now c.args.at c.args.filled c.in-At.end c.in-At.next (sym c.line_end.ensures ∙ c.in-At.is) in search (rules, e)
+pub returns-in-Some : goal.returns-in-Some
+returns-in-Some c =
+    let e = end_bounds c.args.buf.now c.args.at c.args.filled c.in-Some.field-0 (sym c.line_end.ensures ∙ c.in-Some.is) in search (rules, e)

@@ -6,4 +6,4 @@ use Rattle.script_show.proofs.lines.answer.Goals as goal
 pub returns : goal.returns
 unfolding answer_line
 returns c =
-    rw c.outcome.ensures at c.whole.ensures
+    rw (c.outcome.ensures, c.count.ensures) at c.whole.ensures

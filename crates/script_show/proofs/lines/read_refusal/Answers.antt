@@ -8,8 +8,8 @@ use Rattle.script_show.specs.Answer.{read_refusal}
 use borrow.Author.Rules.{rules}
 use Rattle.script_show.proofs.lines.read_refusal.Goals as goal
 
-pub returns-in-Refused : goal.returns-in-Refused
-returns-in-Refused c =
+pub returns-in-Some : goal.returns-in-Some
+returns-in-Some c =
     let a = c.args in
     put_is (put_then c.byte-next.ensures c.show.ensures)
-    (ap (λ (s : Shown). 0x20 ∷ bytes_of s []) c.refused.ensures ∙ sym (ap (read_refusal a.explained) c.in-Refused.is))
+    (ap (λ (s : Shown). 0x20 ∷ bytes_of s []) c.refused.ensures ∙ sym (ap (read_refusal a.explained) c.in-Some.is))
