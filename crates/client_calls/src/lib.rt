@@ -4,10 +4,12 @@
 
 ghost use Rattle.std.specs.Prelude.{ℕ};
 ghost use Rattle.model.specs.Call.{Input, Plain, Call};
+ghost use Rattle.control.specs.Sound.{is_sound};
+ghost use Rattle.session.specs.View.{is_lent};
 ghost use Rattle.answers.specs.Promise.{Promise, PromiseUnchanged, PromiseRows, Reply};
 ghost use Rattle.client_requests.specs.Decision.{OnlyQueued, Waits};
 ghost use Rattle.handlers.specs.Call.{handshake_call, seat_call, device_call, touchscreen_call};
-ghost use Rattle.client_calls.specs.Request.{AsksControl, AsksRows, AsksRowsAt, AsksAll};
+ghost use Rattle.client_calls.specs.Request.{AsksControl, AsksRows, AsksRowsAt, AsksAll, Tests};
 
 use answers::{Answer, Error};
 use client_requests::{timed, untimed};
@@ -20,6 +22,28 @@ use requests::eis::{
 
 pub mod cells;
 
+// 21's test of the control words and the rows of requests.
+fn check_lent(control: &[u64], words: &[u64], reals: &[f32]) -> Result<(), Error>
+    ensures { Tests (is_lent control.now words.now reals.now) result }
+{
+    if session::lent(control, words, reals) {
+        Ok(())
+    } else {
+        Err(Error::BadState)
+    }
+}
+
+// The same of the control words alone.
+fn check_sound(control: &[u64]) -> Result<(), Error>
+    ensures { Tests (is_sound control.now) result }
+{
+    if control::sound(control) {
+        Ok(())
+    } else {
+        Err(Error::BadState)
+    }
+}
+
 // A timed request of which nothing is asked but a known interface.
 pub fn queue_for_interface(
     control: &mut [u64],
@@ -31,9 +55,7 @@ pub fn queue_for_interface(
 ) -> Result<Answer, Error>
     ensures { (version : ℕ) (i : Input) → OnlyQueued capability i → Waits i request → AsksRows control words reals (Call.timed interface version i) result }
 {
-    if !session::lent(control, words, reals) {
-        return Err(Error::BadState);
-    }
+    check_lent(control, words, reals)?;
     timed::queue_for_interface(control, words, reals, capability, interface, request)
 }
 
@@ -48,9 +70,7 @@ pub fn handle_touchscreen_request(
 ) -> Result<Answer, Error>
     ensures { AsksRows control words reals (touchscreen_call request touchscreen version) result }
 {
-    if !session::lent(control, words, reals) {
-        return Err(Error::BadState);
-    }
+    check_lent(control, words, reals)?;
     let mut out = [0u8; 0];
     handlers::handle_touchscreen_request(
         control,
@@ -99,9 +119,7 @@ pub fn handle_device_request(
 ) -> Result<Answer, Error>
     ensures { AsksRowsAt control words reals (device_call request device) clock result }
 {
-    if !session::lent(control, words, reals) {
-        return Err(Error::BadState);
-    }
+    check_lent(control, words, reals)?;
     handlers::handle_device_request(control, words, reals, device, request, clock)
 }
 
@@ -116,9 +134,7 @@ pub fn queue_frame(
 ) -> Result<Answer, Error>
     ensures { AsksRows control words reals (Call.plain (Plain.device_frame device serial time)) result }
 {
-    if !session::lent(control, words, reals) {
-        return Err(Error::BadState);
-    }
+    check_lent(control, words, reals)?;
     untimed::queue_frame(control, words, reals, device, serial, time)
 }
 
@@ -132,9 +148,7 @@ pub fn handle_seat_request(
 ) -> Result<Answer, Error>
     ensures { AsksRows control words reals (seat_call request seat) result }
 {
-    if !session::lent(control, words, reals) {
-        return Err(Error::BadState);
-    }
+    check_lent(control, words, reals)?;
     let mut out = [0u8; 0];
     handlers::handle_seat_request(control, words, reals, seat, request, &mut out)
 }
@@ -146,9 +160,7 @@ pub fn disconnect(
 ) -> Result<Answer, Error>
     ensures { AsksRows control words reals (Call.plain Plain.disconnect) result }
 {
-    if !session::lent(control, words, reals) {
-        return Err(Error::BadState);
-    }
+    check_lent(control, words, reals)?;
     let mut out = [0u8; 0];
     handlers::handle_connection_request(
         control,
@@ -168,9 +180,7 @@ pub fn release_seat(
 ) -> Result<Answer, Error>
     ensures { PromiseRows control words reals out (Plain.seat_release seat) result }
 {
-    if !session::lent(control, words, reals) {
-        return Err(Error::BadState);
-    }
+    check_lent(control, words, reals)?;
     untimed::release_seat(control, words, reals, seat, out)
 }
 
@@ -183,27 +193,21 @@ pub fn release_interface(
 ) -> Result<Answer, Error>
     ensures { Promise control out (Plain.interface_release capability interface) result }
 {
-    if !control::sound(control) {
-        return Err(Error::BadState);
-    }
+    check_sound(control)?;
     untimed::release_interface(control, capability, interface, out)
 }
 
 pub fn sync(control: &[u64], callback: u64, version: u32, out: &mut [u8]) -> Result<Answer, Error>
     ensures { PromiseUnchanged control out (Plain.sync callback version) result }
 {
-    if !control::sound(control) {
-        return Err(Error::BadState);
-    }
+    check_sound(control)?;
     untimed::sync(callback, version, out)
 }
 
 pub fn pingpong_done(control: &[u64]) -> Result<Answer, Error>
     ensures { Reply control Plain.pingpong_done result }
 {
-    if !control::sound(control) {
-        return Err(Error::BadState);
-    }
+    check_sound(control)?;
     Ok(Answer::accepted())
 }
 
@@ -214,8 +218,6 @@ pub fn handle_handshake_request(
 ) -> Result<Answer, Error>
     ensures { AsksControl control (handshake_call request text.now) result }
 {
-    if !control::sound(control) {
-        return Err(Error::BadState);
-    }
+    check_sound(control)?;
     handlers::handle_handshake_request(request, text)
 }

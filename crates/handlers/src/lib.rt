@@ -37,18 +37,17 @@ pub fn handle_handshake_request(request: HandshakeRequest, text: &[u8]) -> Resul
             if NAME_LENGTH_LIMIT < text.len() {
                 return Err(Error::NameLong);
             }
-            Err(Error::UnexpectedHandshakeEvent)
         }
         HandshakeRequest::InterfaceVersion { .. } => {
             if !utf8::valid(text) {
                 return Err(Error::BadUtf8);
             }
-            Err(Error::UnexpectedHandshakeEvent)
         }
-        HandshakeRequest::HandshakeVersion { .. } => { Err(Error::UnexpectedHandshakeEvent) }
-        HandshakeRequest::Finish => Err(Error::UnexpectedHandshakeEvent),
-        HandshakeRequest::ContextType { .. } => Err(Error::UnexpectedHandshakeEvent),
+        HandshakeRequest::HandshakeVersion { .. }
+        | HandshakeRequest::Finish
+        | HandshakeRequest::ContextType { .. } => {}
     }
+    Err(Error::UnexpectedHandshakeEvent)
 }
 
 pub fn handle_connection_request(
@@ -132,6 +131,7 @@ pub fn handle_device_request(
     untimed::queue_for_device(control, words, reals, device, clock, queued)
 }
 
+// Slower for a key press: a trait with one generic handler (7 instructions), one function lent the cell as an `Option` (66).
 pub fn handle_keyboard_request(
     control: &mut [u64],
     words: &mut [u64],
@@ -143,23 +143,12 @@ pub fn handle_keyboard_request(
     requires { Lent control.old words.old reals.old }
     ensures { (version clock : ℕ) → HandlesRows control words reals out (keyboard_call request keyboard version) clock result }
 {
+    let capability = DeviceCapability::Keyboard;
     match request {
-        KeyboardRequest::Release => untimed::release_interface(
-            control,
-            DeviceCapability::Keyboard,
-            keyboard,
-            out,
-        ),
+        KeyboardRequest::Release => untimed::release_interface(control, capability, keyboard, out),
         KeyboardRequest::Key { key, state } => {
             let request = cell::keyboard_key(0, 0, key, state);
-            timed::queue_for_interface(
-                control,
-                words,
-                reals,
-                DeviceCapability::Keyboard,
-                keyboard,
-                request,
-            )
+            timed::queue_for_interface(control, words, reals, capability, keyboard, request)
         }
     }
 }
@@ -175,23 +164,12 @@ pub fn handle_pointer_request(
     requires { Lent control.old words.old reals.old }
     ensures { (version clock : ℕ) → HandlesRows control words reals out (pointer_call request pointer version) clock result }
 {
+    let capability = DeviceCapability::Pointer;
     match request {
-        PointerRequest::Release => untimed::release_interface(
-            control,
-            DeviceCapability::Pointer,
-            pointer,
-            out,
-        ),
+        PointerRequest::Release => untimed::release_interface(control, capability, pointer, out),
         PointerRequest::MotionRelative { x, y } => {
             let request = cell::pointer_motion(0, 0, x, y);
-            timed::queue_for_interface(
-                control,
-                words,
-                reals,
-                DeviceCapability::Pointer,
-                pointer,
-                request,
-            )
+            timed::queue_for_interface(control, words, reals, capability, pointer, request)
         }
     }
 }
@@ -207,23 +185,17 @@ pub fn handle_pointer_absolute_request(
     requires { Lent control.old words.old reals.old }
     ensures { (version clock : ℕ) → HandlesRows control words reals out (pointer_absolute_call request pointer_absolute version) clock result }
 {
+    let capability = DeviceCapability::PointerAbsolute;
     match request {
         PointerAbsoluteRequest::Release => untimed::release_interface(
             control,
-            DeviceCapability::PointerAbsolute,
+            capability,
             pointer_absolute,
             out,
         ),
         PointerAbsoluteRequest::MotionAbsolute { x, y } => {
             let request = cell::pointer_motion_absolute(0, 0, x, y);
-            timed::queue_for_interface(
-                control,
-                words,
-                reals,
-                DeviceCapability::PointerAbsolute,
-                pointer_absolute,
-                request,
-            )
+            timed::queue_for_interface(control, words, reals, capability, pointer_absolute, request)
         }
     }
 }
@@ -239,23 +211,12 @@ pub fn handle_button_request(
     requires { Lent control.old words.old reals.old }
     ensures { (version clock : ℕ) → HandlesRows control words reals out (button_call request interface version) clock result }
 {
+    let capability = DeviceCapability::Button;
     match request {
-        ButtonRequest::Release => untimed::release_interface(
-            control,
-            DeviceCapability::Button,
-            interface,
-            out,
-        ),
+        ButtonRequest::Release => untimed::release_interface(control, capability, interface, out),
         ButtonRequest::Button { button, state } => {
             let request = cell::button(0, 0, button, state);
-            timed::queue_for_interface(
-                control,
-                words,
-                reals,
-                DeviceCapability::Button,
-                interface,
-                request,
-            )
+            timed::queue_for_interface(control, words, reals, capability, interface, request)
         }
     }
 }
@@ -282,45 +243,20 @@ pub fn handle_scroll_request(
     requires { Lent control.old words.old reals.old }
     ensures { (version clock : ℕ) → HandlesRows control words reals out (scroll_call request scroll version) clock result }
 {
+    let capability = DeviceCapability::Scroll;
     match request {
-        ScrollRequest::Release => untimed::release_interface(
-            control,
-            DeviceCapability::Scroll,
-            scroll,
-            out,
-        ),
+        ScrollRequest::Release => untimed::release_interface(control, capability, scroll, out),
         ScrollRequest::Scroll { x, y } => {
             let request = cell::scroll_delta(0, 0, x, y);
-            timed::queue_for_interface(
-                control,
-                words,
-                reals,
-                DeviceCapability::Scroll,
-                scroll,
-                request,
-            )
+            timed::queue_for_interface(control, words, reals, capability, scroll, request)
         }
         ScrollRequest::ScrollDiscrete { x, y } => {
             let request = cell::scroll_discrete(0, 0, x, y);
-            timed::queue_for_interface(
-                control,
-                words,
-                reals,
-                DeviceCapability::Scroll,
-                scroll,
-                request,
-            )
+            timed::queue_for_interface(control, words, reals, capability, scroll, request)
         }
         ScrollRequest::ScrollStop { x, y, is_cancel } => {
             let request = scroll_stop(x, y, is_cancel);
-            timed::queue_for_interface(
-                control,
-                words,
-                reals,
-                DeviceCapability::Scroll,
-                scroll,
-                request,
-            )
+            timed::queue_for_interface(control, words, reals, capability, scroll, request)
         }
     }
 }
@@ -377,13 +313,9 @@ pub fn handle_touchscreen_request(
     requires { Lent control.old words.old reals.old }
     ensures { (clock : ℕ) → HandlesRows control words reals out (touchscreen_call request touchscreen version) clock result }
 {
+    let capability = DeviceCapability::Touch;
     match decide_touchscreen(control, touchscreen, version, request) {
-        TouchAction::Release => untimed::release_interface(
-            control,
-            DeviceCapability::Touch,
-            touchscreen,
-            out,
-        ),
+        TouchAction::Release => untimed::release_interface(control, capability, touchscreen, out),
         TouchAction::Timed(decision) => timed::queue_request(control, words, reals, decision),
     }
 }
@@ -401,23 +333,12 @@ pub fn handle_text_request(
     requires { Whole (store control.old words.old reals.old texts.old) }
     ensures { (version clock : ℕ) → Handles control words reals texts out (text_call request interface version text.now) clock result }
 {
+    let capability = DeviceCapability::Text;
     match request {
-        TextRequest::Release => untimed::release_interface(
-            control,
-            DeviceCapability::Text,
-            interface,
-            out,
-        ),
+        TextRequest::Release => untimed::release_interface(control, capability, interface, out),
         TextRequest::Keysym { keysym, state } => {
             let request = cell::text_keysym(0, 0, keysym, state);
-            timed::queue_for_interface(
-                control,
-                words,
-                reals,
-                DeviceCapability::Text,
-                interface,
-                request,
-            )
+            timed::queue_for_interface(control, words, reals, capability, interface, request)
         }
         TextRequest::Utf8 => {
             if !utf8::valid(text) {

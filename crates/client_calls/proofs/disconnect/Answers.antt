@@ -1,22 +1,21 @@
 -- 21, or what the handler promises. Assumes nothing.
-use mathlib.Core.Path.{◌≡◌, refl}
-use mathlib.Core.Bool.{true}
-use Rattle.session.specs.View.{is_lent}
+use Rattle.std.specs.Prelude.{Err}
+use mathlib.Core.Path.{ap, ◌∙◌}
 use Rattle.session.proofs.Views.{lent_parts}
-use Rattle.answers.proofs.Meetings.{failed, passed, unlent_answered, lent-answered}
+use Rattle.answers.proofs.Meetings.{unlent_answered, lent-answered}
+use Rattle.std.proofs.lemmas.Result.{err_from_is_err_and}
 use Rattle.client_calls.proofs.Unlent.{no_out}
-use Rattle.std.proofs.lemmas.Bool.{not_from_false, not_from_true}
 use Rattle.client_calls.proofs.disconnect.Goals as goal
 
-pub returns-then-not-lent : goal.returns-then-not-lent
-returns-then-not-lent c = λ clock. unlent_answered (failed c.lent.ensures (not_from_false _ c.if-not-lent.true)) refl
+pub returns-in_err-check_lent : goal.returns-in_err-check_lent
+returns-in_err-check_lent c =
+    let p = err_from_is_err_and c.from_residual.result c.from_residual.ensures.1 in
+    λ clock. unlent_answered c.in_err-check_lent.ensures.0 (p.1 ∙ ap Err (p.2 ∙ c.in_err-check_lent.ensures.1))
 
 pub handle_connection_request-requires : goal.handle_connection_request-requires
 handle_connection_request-requires c =
-    let lent_at : let a = c.args in is_lent a.control.now a.words.now a.reals.now ≡ true = passed c.lent.ensures (not_from_true _ c.if-not-lent.false) in
-    lent_parts _ _ _ (lent_at)
+    lent_parts _ _ _ c.in_ok-check_lent.ensures
 
 pub returns : goal.returns
 returns c =
-    let lent_at : let a = c.args in is_lent a.control.now a.words.now a.reals.now ≡ true = passed c.lent.ensures (not_from_true _ c.if-not-lent.false) in
-    λ clock. lent-answered (lent_at) (λ texts whole. no_out _ clock c.handle_connection_request.auto.out (c.handle_connection_request.ensures clock texts whole))
+    λ clock. lent-answered c.in_ok-check_lent.ensures (λ texts whole. no_out _ clock c.handle_connection_request.auto.out (c.handle_connection_request.ensures clock texts whole))

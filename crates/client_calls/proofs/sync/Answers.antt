@@ -1,15 +1,15 @@
 -- 21, or what the handler promises. Assumes nothing.
-use mathlib.Core.Path.{◌≡◌, refl}
-use mathlib.Core.Bool.{true}
-use Rattle.control.specs.Sound.{is_sound}
-use Rattle.answers.proofs.Meetings.{failed, passed, unsound_answered, sound-answered}
-use Rattle.std.proofs.lemmas.Bool.{not_from_false, not_from_true}
+use Rattle.std.specs.Prelude.{Err}
+use mathlib.Core.Path.{ap, ◌∙◌}
+use Rattle.answers.proofs.Meetings.{unsound_answered, sound-answered}
+use Rattle.std.proofs.lemmas.Result.{err_from_is_err_and}
 use Rattle.client_calls.proofs.sync.Goals as goal
 
-pub returns-then-not-sound : goal.returns-then-not-sound
-returns-then-not-sound c = λ clock. unsound_answered (failed c.sound.ensures (not_from_false _ c.if-not-sound.true)) refl
+pub returns-in_err-check_sound : goal.returns-in_err-check_sound
+returns-in_err-check_sound c =
+    let p = err_from_is_err_and c.from_residual.result c.from_residual.ensures.1 in
+    λ clock. unsound_answered c.in_err-check_sound.ensures.0 (p.1 ∙ ap Err (p.2 ∙ c.in_err-check_sound.ensures.1))
 
 pub returns : goal.returns
 returns c =
-    let sound_at : is_sound c.args.control.now ≡ true = passed c.sound.ensures (not_from_true _ c.if-not-sound.false) in
-    λ clock. sound-answered (sound_at) (c.sync.ensures c.args.control.now clock)
+    λ clock. sound-answered c.in_ok-check_sound.ensures (c.sync.ensures c.args.control.now clock)

@@ -1,4 +1,5 @@
 -- A refusal for each request, after the tests of its text. Assumes nothing.
+use mathlib.Core.Logic.{inl, inr}
 use mathlib.Core.Path.{sym, ap, ◌∙◌, refl}
 use native.Mathlib.Omega.{arith}
 use borrow.Author.Tests.{not-true, not-false}
@@ -48,19 +49,10 @@ pub returns-in-HandshakeVersion : goal.returns-in-HandshakeVersion
 returns-in-HandshakeVersion c =
     let a = c.args in
     λ d out clock w r texts whole.
-    for_call clock (ap (λ (x : HandshakeRequest). handshake_call x a.text.now) c.in-HandshakeVersion.is)
-    (version_late (store d w r texts) out clock _ whole (refl, refl) _)
-
-pub returns-in-Finish : goal.returns-in-Finish
-returns-in-Finish c =
-    let a = c.args in
-    λ d out clock w r texts whole.
-    for_call clock (ap (λ (x : HandshakeRequest). handshake_call x a.text.now) c.in-Finish.is)
-    (finish_late (store d w r texts) out clock _ whole (refl, refl))
-
-pub returns-in-ContextType : goal.returns-in-ContextType
-returns-in-ContextType c =
-    let a = c.args in
-    λ d out clock w r texts whole.
-    for_call clock (ap (λ (x : HandshakeRequest). handshake_call x a.text.now) c.in-ContextType.is)
-    (context_late (store d w r texts) out clock _ whole (refl, refl) _)
+    elim c.in-HandshakeVersion.is [
+      | inl version ↦ for_call clock (ap (λ (x : HandshakeRequest). handshake_call x a.text.now) version.1) (version_late (store d w r texts) out clock _ whole (refl, refl) _)
+      | inr rest ↦ elim rest [
+        | inl finish ↦ for_call clock (ap (λ (x : HandshakeRequest). handshake_call x a.text.now) finish) (finish_late (store d w r texts) out clock _ whole (refl, refl))
+        | inr context ↦ for_call clock (ap (λ (x : HandshakeRequest). handshake_call x a.text.now) context.1) (context_late (store d w r texts) out clock _ whole (refl, refl) _)
+      ]
+    ]
