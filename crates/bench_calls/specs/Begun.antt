@@ -28,10 +28,10 @@ unfoldable pub known : List (List ℕ)
 unfolding ascii
 known = ascii "ei_text" ∷ ascii "ei_touchscreen" ∷ ascii "ei_keyboard" ∷ ascii "ei_pingpong" ∷ ascii "ei_callback" ∷ ascii "ei_connection" ∷ []
 
--- the session that a Finish leaves in the control words: one that begins where it succeeds, and what there was where it does not
+-- the session that a Finish leaves in the control words
 pub record Leaves (c d : List ℕ) (a : HandshakeAnswer) : Type 0 where
-  pub finished : is_finished a.outcome ≡ true → (answer : Result Answer Error) × Begins c d (response_in a.outcome) answer
-  pub unfinished : is_finished a.outcome ≡ false → d ≡ c
+  pub answer : Result Answer Error
+  pub begins : Begins c d (response_in a.outcome) answer
 
 -- a handshake from serial 7 on, with these interfaces, and the session that its Finish leaves in the control words
 pub data Shaken : (c d : List ℕ) → Type 0 where

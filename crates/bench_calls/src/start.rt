@@ -1,9 +1,14 @@
 // The session that the turns of the benchmark begin with.
+ghost use Rattle.std.specs.Prelude.{◌≡◌};
+ghost use Rattle.handshake.specs.View.{no_response, response_in};
 ghost use Rattle.bench_calls.specs.Begun.{Knows, Leaves, Shaken, Added, Begun};
 
 use converter::request;
-use eiproto::eiproto_enum::DeviceType;
-use handshake::handshake::{EisHandshaker, HandshakeAnswer, HandshakeMessage as Shake};
+use eiproto::eiproto_enum::{ContextType, DeviceType};
+use handshake::handshake::{
+    EisHandshakeResp, EisHandshaker, HandshakeAnswer, HandshakeError, HandshakeMessage as Shake,
+    NAME_LENGTH_LIMIT, Name,
+};
 
 // The ids that the calls of `begin` give: the seat, then each device with its interfaces behind it.
 pub const SEAT: u64 = 0xff00000000000001;
@@ -18,13 +23,40 @@ fn negotiated(h: EisHandshaker, name: &[u8]) -> EisHandshaker
     h.handle_request(message, name, &mut out).handshaker
 }
 
+// What a session begins from where a Finish settles nothing.
+#[tactic(auto, unfolding(handshake::specs::View::no_response, handshake::specs::View::no_name, handshake::specs::View::no_interfaces))]
+fn blank() -> EisHandshakeResp
+    ensures { result ≡ no_response }
+{
+    EisHandshakeResp {
+        connection: 0,
+        name: Name {
+            bytes: [0; NAME_LENGTH_LIMIT],
+            length: 0,
+            given: false,
+        },
+        context: ContextType::Receiver,
+        interfaces: [None; 12],
+        serial: 0,
+        next: 0,
+    }
+}
+
+fn response_in(outcome: Result<Option<EisHandshakeResp>, HandshakeError>) -> EisHandshakeResp
+    ensures { result ≡ response_in outcome }
+{
+    match outcome {
+        Ok(Some(response)) => response,
+        Ok(None) => blank(),
+        Err(_) => blank(),
+    }
+}
+
 // The session begins where the handshake ends.
 fn open(control: &mut [u64], finished: HandshakeAnswer)
     ensures { Leaves control.old control.new finished }
 {
-    if let Ok(Some(response)) = finished.outcome {
-        let _ = request::new(control, response);
-    }
+    let _ = request::new(control, response_in(finished.outcome));
 }
 
 // The handshake, in which the interfaces that a session needs are negotiated, and those that the benchmark's devices have.
