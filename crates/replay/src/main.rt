@@ -10,31 +10,6 @@ use std::fs::File;
 use std::io::{Cursor, Read, Write};
 use std::{io, str};
 
-// Whether the first n bytes are a word.
-fn same_first(s: &[u8], n: usize, word: &[u8]) -> bool {
-    let from: usize = 0;
-    if n <= s.len() {
-        return same(&s[from..n], word);
-    }
-    false
-}
-
-fn same(a: &[u8], b: &[u8]) -> bool {
-    if a.len() != b.len() {
-        return false;
-    }
-    let mut i: usize = 0;
-    while i < a.len() {
-        if i < b.len() {
-            if a[i] != b[i] {
-                return false;
-            }
-        }
-        i += 1;
-    }
-    true
-}
-
 fn usage(to: &mut impl Write) {
     let _ = to.write_all(
         b"usage: replay [--explain] [FILE]\n\
@@ -106,10 +81,7 @@ fn play_file(rt: &HostRuntime, path: &[u8], explained: bool) {
 fn argument(rt: &impl Env, i: usize, word: &mut [u8]) -> usize
     ensures { result ≤ length word.new }
 {
-    match rt.arg(i, word) {
-        Ok(n) => n,
-        Err(_) => 0,
-    }
+    rt.arg(i, word).unwrap_or(0)
 }
 
 // How many arguments there are, the program's own name among them; beyond 4 they are not counted.
@@ -124,34 +96,26 @@ fn argument_count(rt: &impl Env) -> usize {
 }
 
 // A word that begins with `-` is no file's name here; nor is one that is empty or too long.
-fn is_name(word: &[u8], n: usize) -> bool {
-    if n == 0 {
-        return false;
-    }
-    if word.len() < n {
-        return false;
-    }
-    word[0] != b'-'
+fn is_name(word: &[u8]) -> bool {
+    !word.is_empty() && !word.starts_with(b"-")
 }
 
 // The file that the argument of a number names.
 fn named(rt: &HostRuntime, i: usize, explained: bool) {
     let mut word = [0u8; 4096];
-    let from: usize = 0;
     let n = argument(rt, i, &mut word);
-    if !is_name(&word, n) {
+    let path = &word[..n];
+    if is_name(path) {
+        play_file(rt, path, explained);
+    } else {
         usage(&mut rt.stderr());
-        return;
-    }
-    if n <= word.len() {
-        play_file(rt, &word[from..n], explained);
     }
 }
 
 fn is_argument(rt: &impl Env, i: usize, word: &[u8]) -> bool {
     let mut argument = [0u8; 16];
     let n = self::argument(rt, i, &mut argument);
-    same_first(&argument, n, word)
+    &argument[..n] == word
 }
 
 fn main(rt: HostRuntime) {

@@ -15,7 +15,7 @@ use requests::eis::{
 use script::{Args, Value, Verb};
 
 // The calls that add a seat or a device. The name is lent beside them, and so is every text below.
-#[derive(Clone, Copy)]
+#[derive(Clone, Copy, Debug, PartialEq, Eq)]
 pub enum Add {
     Seat {
         capabilities: u64,
@@ -28,7 +28,7 @@ pub enum Add {
 }
 
 // The calls that remove a seat or a device, or all of them.
-#[derive(Clone, Copy)]
+#[derive(Clone, Copy, Debug, PartialEq, Eq)]
 pub enum Remove {
     Seat { seat: u64 },
     Device { device: u64 },
@@ -36,7 +36,7 @@ pub enum Remove {
 }
 
 // The calls that tell the client of a device.
-#[derive(Clone, Copy)]
+#[derive(Clone, Copy, Debug, PartialEq, Eq)]
 pub enum Tell {
     Resumed { device: u64 },
     Paused { device: u64 },
@@ -46,7 +46,7 @@ pub enum Tell {
 }
 
 // The calls that ask.
-#[derive(Clone, Copy)]
+#[derive(Clone, Copy, Debug, PartialEq, Eq)]
 pub enum Ask {
     LastSerial,
     HasInterface,
@@ -58,14 +58,14 @@ pub enum Ask {
 }
 
 // An event's record written as its message, or read from it, on an interface of this number. The bytes are lent beside it.
-#[derive(Clone, Copy)]
+#[derive(Clone, Copy, Debug, PartialEq, Eq)]
 pub enum Event {
     Write { interface: u32 },
     Read { interface: u32 },
 }
 
 // A call of the station. The calls stand in groups that are lent the same slices to be changed.
-#[derive(Clone, Copy)]
+#[derive(Clone, Copy, Debug, PartialEq, Eq)]
 pub enum Station {
     Add(Add),
     Remove(Remove),
@@ -73,7 +73,7 @@ pub enum Station {
     Ask(Ask),
 }
 
-#[derive(Clone, Copy)]
+#[derive(Clone, Copy, Debug, PartialEq)]
 pub enum Asked {
     // Settings.
     Now(u64),
@@ -100,50 +100,35 @@ pub enum Asked {
 fn key_state(v: Value) -> KeyState
     ensures { result ≡ key_state v }
 {
-    match KeyState::try_from(script::u32_of(v)) {
-        Ok(state) => state,
-        Err(_) => KeyState::Released,
-    }
+    KeyState::try_from(script::u32_of(v)).unwrap_or(KeyState::Released)
 }
 
 fn button_state(v: Value) -> ButtonState
     ensures { result ≡ button_state v }
 {
-    match ButtonState::try_from(script::u32_of(v)) {
-        Ok(state) => state,
-        Err(_) => ButtonState::Released,
-    }
+    ButtonState::try_from(script::u32_of(v)).unwrap_or(ButtonState::Released)
 }
 
 fn device_type(v: Value) -> DeviceType
     ensures { result ≡ device_type v }
 {
-    match DeviceType::try_from(script::u32_of(v)) {
-        Ok(kind) => kind,
-        Err(_) => DeviceType::Virtual,
-    }
+    DeviceType::try_from(script::u32_of(v)).unwrap_or(DeviceType::Virtual)
 }
 
 fn reason_of(v: Value) -> DisconnectReason
     ensures { result ≡ reason v }
 {
-    match DisconnectReason::try_from(script::u32_of(v)) {
-        Ok(reason) => reason,
-        Err(_) => DisconnectReason::Disconnected,
-    }
+    DisconnectReason::try_from(script::u32_of(v)).unwrap_or(DisconnectReason::Disconnected)
 }
 
 fn capability_of(v: Value) -> DeviceCapability
     ensures { result ≡ capability v }
 {
-    match DeviceCapability::from_mask(script::u64_of(v)) {
-        Some(capability) => capability,
-        None => DeviceCapability::Pointer,
-    }
+    DeviceCapability::from_mask(script::u64_of(v)).unwrap_or(DeviceCapability::Pointer)
 }
 
 // The words behind the first, each as what a call may want of it.
-#[derive(Clone, Copy)]
+#[derive(Clone, Copy, Debug, PartialEq)]
 pub struct Words {
     pub a64: u64,
     pub a32: u32,
@@ -472,6 +457,7 @@ fn told(verb: Verb, w: Words) -> Asked
 }
 
 // What a line asks for.
+#[tactic(auto, unfolding(crate::specs::Asked::asked))]
 pub fn of_line(verb: Verb, args: Args) -> Asked
     ensures { result ≡ asked verb args }
 {

@@ -19,6 +19,23 @@ const RECORDS_LENGTH: usize = 524280;
 
 const POINTS_LENGTH: usize = 131070;
 
+// The memory of a session, which the calls of the library are lent.
+#[derive(Drop)]
+struct Session {
+    control: [u64; CONTROL_LENGTH],
+    words: [u64; WORDS_LENGTH],
+    reals: [f32; REALS_LENGTH],
+    texts: [u8; TEXTS_LENGTH],
+}
+
+// That of a read: 65,535 records, as many as it may have, and texts as long as a line may have them.
+#[derive(Drop)]
+struct Gathered {
+    records: [u64; RECORDS_LENGTH],
+    points: [f32; POINTS_LENGTH],
+    lent: [u8; 32768],
+}
+
 // How a script ends.
 #[derive(Clone, Copy)]
 pub enum End {
@@ -40,59 +57,24 @@ pub fn play(
 ) -> End {
     // A line of 65,536 bytes and a newline.
     let mut buf = [0u8; 65537];
-    // The slices of the session.
-    let mut control = [0u64; CONTROL_LENGTH];
-    let mut words = [0u64; WORDS_LENGTH];
-    let mut reals = [0.0f32; REALS_LENGTH];
-    let mut texts = [0u8; TEXTS_LENGTH];
-    // Those of a read: 65,535 records, as many as it may have, and texts as long as a line may have them.
-    let mut records = [0u64; RECORDS_LENGTH];
-    let mut points = [0.0f32; POINTS_LENGTH];
-    let mut lent = [0u8; 32768];
-    play_over(
-        from,
-        to,
-        reasons,
-        explained,
-        &mut buf,
-        &mut control,
-        &mut words,
-        &mut reals,
-        &mut texts,
-        &mut records,
-        &mut points,
-        &mut lent,
-    )
-}
-
-// The same over the arrays, whose lengths alone are looked at: as long lists of zeros they are more than the prover follows.
-fn play_over(
-    from: &mut impl Read,
-    to: &mut impl Write,
-    reasons: &mut impl Write,
-    explained: bool,
-    buf: &mut [u8; 65537],
-    control: &mut [u64; CONTROL_LENGTH],
-    words: &mut [u64; WORDS_LENGTH],
-    reals: &mut [f32; REALS_LENGTH],
-    texts: &mut [u8; TEXTS_LENGTH],
-    records: &mut [u64; RECORDS_LENGTH],
-    points: &mut [f32; POINTS_LENGTH],
-    lent: &mut [u8; 32768],
-) -> End {
+    let mut session = Session {
+        control: [0; CONTROL_LENGTH],
+        words: [0; WORDS_LENGTH],
+        reals: [0.0; REALS_LENGTH],
+        texts: [0; TEXTS_LENGTH],
+    };
+    let mut gathered = Gathered {
+        records: [0; RECORDS_LENGTH],
+        points: [0.0; POINTS_LENGTH],
+        lent: [0; 32768],
+    };
     lines::read_all(
         from,
         to,
         reasons,
         explained,
-        buf,
-        script_run::new_run(),
-        control,
-        words,
-        reals,
-        texts,
-        records,
-        points,
-        lent,
+        &mut buf,
+        &mut session,
+        &mut gathered,
     )
 }

@@ -1,28 +1,27 @@
 // A file in pieces, line by line. A line of more than 65,536 bytes is no call.
-ghost use Rattle.std.specs.Prelude.{◌≤◌, ◌<◌, ◌≡◌, length, IfOk};
+ghost use Rattle.std.specs.Prelude.{◌≤◌, ◌<◌, ◌≡◌, length, IfOk, IfSome};
 ghost use Rattle.script_read.specs.Read.{Fits};
 
-use crate::{End, told};
+use crate::{End, Gathered, Session, told};
 use script::LineEnd;
 use script_read::Reading;
 use script_run::Run;
 use std::io;
 use std::io::{Read, Write};
 
-// How much of the buffer is filled, whether the input has ended, and why it cannot be read.
+// How much of the buffer is filled, and whether the input has ended or cannot be read.
 #[derive(Clone, Copy)]
 struct Filled {
     filled: usize,
-    last: bool,
-    failed: Option<io::Error>,
+    input: Input,
 }
 
-// Whether a line ends in what is filled, where, and where the next begins.
+// What a reading says of the input.
 #[derive(Clone, Copy)]
-struct Ended {
-    found: bool,
-    end: usize,
-    next: usize,
+enum Input {
+    Open,
+    Ended,
+    Failed(io::Error),
 }
 
 // What the lines have come to, and the read that is open.
@@ -50,11 +49,9 @@ struct Kept {
 // What one reading has come to.
 #[derive(Clone, Copy)]
 struct Progress {
-    filled: usize,
-    cut: bool,
+    kept: Kept,
     play: Play,
-    last: bool,
-    failed: Option<io::Error>,
+    input: Input,
 }
 
 // Reads once, behind what is filled.
@@ -63,15 +60,17 @@ fn fill(from: &mut impl Read, buf: &mut [u8], filled: usize) -> Filled
     ensures { result.filled ≤ length buf.new }
 {
     match from.read(&mut buf[filled..]) {
+        Ok(0) => Filled {
+            filled,
+            input: Input::Ended,
+        },
         Ok(got) => Filled {
             filled: filled + got,
-            last: got == 0,
-            failed: None,
+            input: Input::Open,
         },
         Err(e) => Filled {
             filled,
-            last: false,
-            failed: Some(e),
+            input: Input::Failed(e),
         },
     }
 }
@@ -85,82 +84,55 @@ fn bare_end(buf: &[u8], at: usize, filled: usize) -> usize
     if buf[last] == b'\r' { last } else { filled }
 }
 
-// The end of the line that begins at a place. The last line of the input needs no newline.
-fn end_of(buf: &[u8], at: usize, filled: usize, last: bool) -> Ended
+// Where the line that begins at a place ends, and where the next begins; none where it has not ended. The last line of the input needs no newline.
+fn end_of(buf: &[u8], at: usize, filled: usize, last: bool) -> Option<LineEnd>
     requires { (at < filled) × (filled ≤ length buf.now) }
-    ensures { (at ≤ result.end) × ((result.end ≤ filled) × ((at < result.next) × (result.next ≤ filled))) }
+    ensures { IfSome result (λ e. (at ≤ e.end) × ((e.end ≤ filled) × ((at < e.next) × (e.next ≤ filled)))) }
 {
-    match script::line_end(buf, at, filled) {
-        Some(LineEnd { end, next }) => Ended {
-            found: true,
-            end,
-            next,
-        },
-        None => Ended {
-            found: last,
+    let ended = script::line_end(buf, at, filled);
+    if ended.is_none() && last {
+        return Some(LineEnd {
             end: bare_end(buf, at, filled),
             next: filled,
-        },
+        });
     }
+    ended
 }
 
-// Carries a line out and tells it.
+// Carries a line out and tells it. Once the trail cannot be written, no line is: the error has ended the run.
 fn play_line(
     to: &mut impl Write,
     reasons: &mut impl Write,
-    run: Run,
-    reading: Reading,
-    control: &mut [u64],
-    words: &mut [u64],
-    reals: &mut [f32],
-    texts: &mut [u8],
-    records: &mut [u64],
-    points: &mut [f32],
-    lent: &mut [u8],
+    play: Play,
+    session: &mut Session,
+    gathered: &mut Gathered,
     line: &[u8],
     cut: bool,
     explained: bool,
 ) -> io::Result<Play>
-    requires { Fits reading records.old points.old lent.old }
-    ensures { IfOk result (λ p. Fits p.reading records.new points.new lent.new) }
+    requires { Fits play.reading gathered.old.records gathered.old.points gathered.old.lent }
+    ensures { IfOk result (λ p. Fits p.reading gathered.new.records gathered.new.points gathered.new.lent) }
 {
     let mut out = [0u8; 4096];
     let taken = script_read::take(
-        run, reading, control, words, reals, texts, records, points, lent, line, cut, &mut out,
+        play.run,
+        play.reading,
+        &mut session.control,
+        &mut session.words,
+        &mut session.reals,
+        &mut session.texts,
+        &mut gathered.records,
+        &mut gathered.points,
+        &mut gathered.lent,
+        line,
+        cut,
+        &mut out,
     );
-    let took = taken.took;
-    told::tell(to, reasons, took, line, &out, explained)?;
+    told::tell(to, reasons, taken.took, line, &out, explained)?;
     Ok(Play {
-        run: took.run,
+        run: taken.took.run,
         reading: taken.reading,
     })
-}
-
-// Plays the next line. Once the trail cannot be written, none is: the error has ended the run.
-fn step(
-    to: &mut impl Write,
-    reasons: &mut impl Write,
-    play: Play,
-    control: &mut [u64],
-    words: &mut [u64],
-    reals: &mut [f32],
-    texts: &mut [u8],
-    records: &mut [u64],
-    points: &mut [f32],
-    lent: &mut [u8],
-    line: &[u8],
-    cut: bool,
-    explained: bool,
-) -> io::Result<Play>
-    requires { Fits play.reading records.old points.old lent.old }
-    ensures { IfOk result (λ p. Fits p.reading records.new points.new lent.new) }
-{
-    let run = play.run;
-    let reading = play.reading;
-    play_line(
-        to, reasons, run, reading, control, words, reals, texts, records, points, lent, line, cut,
-        explained,
-    )
 }
 
 // Goes through the lines that end in what is filled.
@@ -173,64 +145,27 @@ fn take_lines(
     last: bool,
     cut: bool,
     play: Play,
-    control: &mut [u64],
-    words: &mut [u64],
-    reals: &mut [f32],
-    texts: &mut [u8],
-    records: &mut [u64],
-    points: &mut [f32],
-    lent: &mut [u8],
+    session: &mut Session,
+    gathered: &mut Gathered,
 ) -> io::Result<Begun>
-    requires { (filled ≤ length buf.now) × Fits play.reading records.old points.old lent.old }
-    ensures { IfOk result (λ b. (b.at ≤ filled) × Fits b.play.reading records.new points.new lent.new) }
+    requires { (filled ≤ length buf.now) × Fits play.reading gathered.old.records gathered.old.points gathered.old.lent }
+    ensures { IfOk result (λ b. (b.at ≤ filled) × Fits b.play.reading gathered.new.records gathered.new.points gathered.new.lent) }
 {
-    let mut at: usize = 0;
-    let mut gone = cut;
-    let mut done = play;
-    while at < filled {
-        let line = end_of(buf, at, filled, last);
-        let end = line.end;
-        if !line.found {
-            return Ok(Begun {
-                at,
-                cut: gone,
-                play: done,
-            });
-        }
-        done = step(
-            to,
-            reasons,
-            done,
-            control,
-            words,
-            reals,
-            texts,
-            records,
-            points,
-            lent,
-            &buf[at..end],
-            gone,
-            explained,
-        )?;
-        gone = false;
-        at = line.next;
+    let mut begun = Begun { at: 0, cut, play };
+    while begun.at < filled {
+        let Some(LineEnd { end, next }) = end_of(buf, begun.at, filled, last) else {
+            break;
+        };
+        let line = &buf[begun.at..end];
+        begun = Begun {
+            at: next,
+            cut: false,
+            play: play_line(
+                to, reasons, begun.play, session, gathered, line, begun.cut, explained,
+            )?,
+        };
     }
-    Ok(Begun {
-        at,
-        cut: gone,
-        play: done,
-    })
-}
-
-// Moves what is filled from a place on to the start.
-fn move_down(buf: &mut [u8], at: usize, filled: usize)
-    requires { (at ≤ filled) × (filled ≤ length buf.old) }
-{
-    let mut i = at;
-    while i < filled {
-        buf[i - at] = buf[i];
-        i += 1;
-    }
+    Ok(begun)
 }
 
 // Makes room behind the lines that were taken. A line that fills the buffer is dropped, and what follows of it.
@@ -238,7 +173,7 @@ fn make_room(buf: &mut [u8], at: usize, filled: usize, cut: bool) -> Kept
     requires { (at ≤ filled) × (filled ≤ length buf.old) }
     ensures { result.filled ≤ length buf.new }
 {
-    move_down(buf, at, filled);
+    buf.copy_within(at..filled, 0);
     let left = filled - at;
     if left == buf.len() {
         return Kept {
@@ -256,33 +191,23 @@ fn read_some(
     reasons: &mut impl Write,
     explained: bool,
     buf: &mut [u8],
-    filled: usize,
-    cut: bool,
+    kept: Kept,
     play: Play,
-    control: &mut [u64],
-    words: &mut [u64],
-    reals: &mut [f32],
-    texts: &mut [u8],
-    records: &mut [u64],
-    points: &mut [f32],
-    lent: &mut [u8],
+    session: &mut Session,
+    gathered: &mut Gathered,
 ) -> io::Result<Progress>
-    requires { (filled ≤ length buf.old) × Fits play.reading records.old points.old lent.old }
-    ensures { IfOk result (λ p. (p.filled ≤ length buf.new) × Fits p.play.reading records.new points.new lent.new) }
+    requires { (kept.filled ≤ length buf.old) × Fits play.reading gathered.old.records gathered.old.points gathered.old.lent }
+    ensures { IfOk result (λ p. (p.kept.filled ≤ length buf.new) × Fits p.play.reading gathered.new.records gathered.new.points gathered.new.lent) }
 {
-    let got = fill(from, buf, filled);
+    let Filled { filled, input } = fill(from, buf, kept.filled);
+    let last = matches!(input, Input::Ended);
     let begun = take_lines(
-        to, reasons, explained, buf, got.filled, got.last, cut, play, control, words, reals, texts,
-        records, points, lent,
+        to, reasons, explained, buf, filled, last, kept.cut, play, session, gathered,
     )?;
-    let kept = make_room(buf, begun.at, got.filled, begun.cut);
-    let after = begun.play;
     Ok(Progress {
-        filled: kept.filled,
-        cut: kept.cut,
-        play: after,
-        last: got.last,
-        failed: got.failed,
+        kept: make_room(buf, begun.at, filled, begun.cut),
+        play: begun.play,
+        input,
     })
 }
 
@@ -291,37 +216,28 @@ fn close(
     to: &mut impl Write,
     reasons: &mut impl Write,
     play: Play,
-    last: bool,
     explained: bool,
 ) -> io::Result<Play>
     ensures { IfOk result (λ p. p.reading ≡ play.reading) }
 {
-    if !last {
-        return Ok(play);
-    }
-    let run = play.run;
-    let reading = play.reading;
-    let took = script_read::end(run, reading);
+    let took = script_read::end(play.run, play.reading);
     told::tell_end(to, reasons, took, explained)?;
     Ok(Play {
         run: took.run,
-        reading,
+        ..play
     })
 }
 
-// How the script has ended; `Played` where it has not.
-fn end_by(ended: bool, failed: Option<io::Error>) -> End {
+// How the script has ended, if it has.
+fn end_by(ended: bool, input: Input) -> Option<End> {
     if ended {
-        return End::Wrong;
+        return Some(End::Wrong);
     }
-    match failed {
-        Some(e) => End::Unread(e),
-        None => End::Played,
+    match input {
+        Input::Open => None,
+        Input::Ended => Some(End::Played),
+        Input::Failed(e) => Some(End::Unread(e)),
     }
-}
-
-fn is_over(ended: bool, failed: bool, last: bool) -> bool {
-    ended || failed || last
 }
 
 // A proved loop has to end, and nothing says that the input does. So the loop counts its turns, up to a number that no run reaches.
@@ -331,39 +247,35 @@ pub fn read_all(
     reasons: &mut impl Write,
     explained: bool,
     buf: &mut [u8],
-    run: Run,
-    control: &mut [u64],
-    words: &mut [u64],
-    reals: &mut [f32],
-    texts: &mut [u8],
-    records: &mut [u64],
-    points: &mut [f32],
-    lent: &mut [u8],
+    session: &mut Session,
+    gathered: &mut Gathered,
 ) -> End {
-    let mut filled: usize = 0;
-    let mut cut = false;
-    let mut done = Play {
-        run,
+    let mut kept = Kept {
+        filled: 0,
+        cut: false,
+    };
+    let mut play = Play {
+        run: script_run::new_run(),
         reading: script_read::none(),
     };
     for _ in 0..u64::MAX {
         let turn = match read_some(
-            from, to, reasons, explained, buf, filled, cut, done, control, words, reals, texts,
-            records, points, lent,
+            from, to, reasons, explained, buf, kept, play, session, gathered,
         ) {
             Ok(turn) => turn,
             Err(e) => return End::Unwritten(e),
         };
-        done = match close(to, reasons, turn.play, turn.last, explained) {
-            Ok(closed) => closed,
-            Err(e) => return End::Unwritten(e),
-        };
-        let so_far = done.run;
-        if is_over(so_far.ended, turn.failed.is_some(), turn.last) {
-            return end_by(so_far.ended, turn.failed);
+        kept = turn.kept;
+        play = turn.play;
+        if matches!(turn.input, Input::Ended) {
+            play = match close(to, reasons, play, explained) {
+                Ok(closed) => closed,
+                Err(e) => return End::Unwritten(e),
+            };
         }
-        filled = turn.filled;
-        cut = turn.cut;
+        if let Some(end) = end_by(play.run.ended, turn.input) {
+            return end;
+        }
     }
     End::Played
 }

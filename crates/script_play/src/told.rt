@@ -4,22 +4,7 @@ use std::io;
 use std::io::Write;
 
 fn is_quiet(told: Told) -> bool {
-    match told {
-        Told::Nothing => true,
-        Told::Error(_) => false,
-        Told::Shaken => false,
-        Told::Answered(_) => false,
-        Told::Given(_) => false,
-        Told::Begun(_) => false,
-        Told::Gathered => false,
-        Told::Handed { .. } => false,
-        Told::Received(_) => false,
-        Told::ShakenBy(_) => false,
-        Told::Turned {
-            event: _,
-            written: _,
-        } => false,
-    }
+    matches!(told, Told::Nothing)
 }
 
 // The first n bytes; an error where there are fewer.

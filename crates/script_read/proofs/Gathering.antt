@@ -16,7 +16,7 @@ use Rattle.model.specs.Call.{Input, Call}
 use Rattle.model_reads.specs.Read.{Entry}
 use Rattle.session.specs.View.{Store}
 use Rattle.requests.specs.Row.{Put}
-use Rattle.requests.specs.declared.eis.Request.{Request}
+use Rattle.std.specs.Prelude.{Some, Ok}
 use Rattle.requests.proofs.Arms.{among}
 use Rattle.requests.proofs.Arms as arms
 use Rattle.control.specs.Table.{tab}
@@ -26,7 +26,6 @@ use Rattle.reads.specs.declared.record.RequestRecord.{RequestRecord}
 use Rattle.reads.specs.Record.{entry_of}
 use Rattle.reads.specs.Handed.{Handed}
 use Rattle.lent_read.specs.Numbers.{record_words, record_reals, record_count, record_at, record_of, cell_at, records_in}
-use Rattle.script.specs.declared.text.Part.{Part}
 use Rattle.script.specs.Text.{Copied}
 use Rattle.script_run.specs.declared.call.Run.{Run}
 use Rattle.script_run.specs.declared.call.Why.{Why}
@@ -84,14 +83,10 @@ none_yet count m rs ps = refl
 
 -- what the code lends of the slices, from 0 on
 pub entries_same : (g : Reading) (rs : List ℕ) (ps : List Float) (lent : List ℕ)
-    → map (entry_of (take (g.length - 0) lent)) (records_in (take (g.held * record_words - 0) rs) (take (g.held * record_reals - 0) ps))
+    → map (entry_of (take g.length lent)) (records_in (take (g.held * record_words) rs) (take (g.held * record_reals) ps))
     ≡ map (entry_of (texts_of g lent)) (gathered g rs ps)
 unfolding gathered
-entries_same g rs ps lent =
-    let t : g.length - 0 ≡ g.length = omega arith in
-    let w : g.held * record_words - 0 ≡ g.held * record_words = omega arith in
-    let p : g.held * record_reals - 0 ≡ g.held * record_reals = omega arith in
-    rw (t, w, p)
+entries_same g rs ps lent = refl
 
 pub handed_as : {s e : Store} {out later : List ℕ} {es es' : List (Entry (Call Input))} {clock : ℕ} {a : ReadAnswer} → es ≡ es' → Handed s e out later es clock a → Handed s e out later es' clock a
 handed_as {s} {e} {out} {later} {clock = clock} {a = a} q h = subst (λ (es : List (Entry (Call Input))). Handed s e out later es clock a) q h
@@ -127,7 +122,7 @@ settled-fits {g = g} {rs} {ps} {lent} {r = r} f h = go g.left refl
 
 -- the texts of a read are the first bytes that are lent
 pub texts-lent : {text before after : List ℕ} {n : ℕ} → Copied text before after n → take n after ≡ take (length before) text
-texts-lent {after = after} {n = n} h = let z : n ≡ n - 0 = omega arith in ap (λ (k : ℕ). take k after) z ∙ text-lent refl h
+texts-lent h = text-lent refl h
 
 pub settles_as : {run run' : Run} {g g' : Reading} {rs rs' : List RequestRecord} {texts texts' : List ℕ} {s e : Store} {out later : List ℕ} {r : Taken}
     → run ≡ run' → g ≡ g' → rs ≡ rs' → texts ≡ texts' → Settles run g rs texts s e out later r → Settles run' g' rs' texts' s e out later r
@@ -140,10 +135,10 @@ onward-fits {g} {next} {rs} {rs'} {ps} {ps'} {lent} e h f p q =
     subst (λ (n : Reading). Fits n rs' ps' lent) (sym e) (record { room = omega (arith, h, f.room, p, q); texts = f.texts })
 
 -- a record joins those before it
-pub record_does : (run : Run) (g : Reading) {here : Run} {next : Reading} {object version : ℕ} {request : Request} {part : Part} {one : RequestRecord} (rs rs' : List ℕ) (ps ps' : List Float) (lent : List ℕ) {s e : Store} {out later : List ℕ} {r : Taken}
-    → here ≡ counted run → next ≡ onward g → one ≡ as_record object version request part → gathered next rs' ps' ≡ gathered g rs ps ++ (one ∷ [])
+pub record_does : (run : Run) (g : Reading) {here : Run} {next : Reading} {x : Record} {one : RequestRecord} (rs rs' : List ℕ) (ps ps' : List Float) (lent : List ℕ) {s e : Store} {out later : List ℕ} {r : Taken}
+    → here ≡ counted run → next ≡ onward g → one ≡ as_record x.object x.version x.request x.part → gathered next rs' ps' ≡ gathered g rs ps ++ (one ∷ [])
     → Settles here next (gathered next rs' ps') (texts_of next lent) s e out later r
-    → RecordDoes (counted run) g (Record.Request object version request part) s e out later rs rs' ps ps' lent r
+    → RecordDoes (counted run) g (Ok (Some x)) s e out later rs rs' ps ps' lent r
 record_does run g rs rs' ps ps' lent p q u j h =
     let k = j ∙ ap (λ (x : RequestRecord). gathered g rs ps ++ (x ∷ [])) u in
     (ap (λ (n : Reading). gathered n rs' ps') (sym q) ∙ k, settles_as p q k (ap (λ (n : Reading). texts_of n lent) q) h)

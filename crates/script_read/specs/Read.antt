@@ -1,5 +1,5 @@
 -- A read of a script: what its lines gather, and the one call that they make. Assumes nothing.
-use Rattle.std.specs.Prelude.{ℕ, ◌+◌, ◌-◌, ◌*◌, ◌≤◌, ◌<◌, ◌≡◌, Bool, false, cond, ◌||◌, List, [], ◌∷◌, ◌++◌, map, eqb, Float, length, take}
+use Rattle.std.specs.Prelude.{ℕ, ◌+◌, ◌-◌, ◌*◌, ◌≤◌, ◌<◌, ◌≡◌, Bool, false, cond, ◌||◌, List, [], ◌∷◌, ◌++◌, map, eqb, Float, length, take, Option, Some, None, Result, Ok, Err}
 use Rattle.requests.specs.declared.eis.Request.{Request}
 use Rattle.session.specs.View.{Store}
 use Rattle.session.specs.Slices.{Numbers, Reals, SharedNumbers, SharedReals, before, after}
@@ -105,15 +105,15 @@ pub record Opens (run : Run) (cut : Bool) (line : List ℕ) (s e : Store) (out l
   pub fits : Fits r.reading rs ps lent'
 
 -- a line of a read, by what it is: a record joins those before it
-abbrev pub RecordDoes : Run → Reading → Record → (s e : Store) (out later : List ℕ) (rs rs' : List ℕ) (ps ps' : List Float) (lent : List ℕ) → Taken → Type 0
-RecordDoes run g Record.Blank s e out later rs rs' ps ps' lent r = (r ≡ taken (quiet run) g) × ((e ≡ s) × ((later ≡ out) × ((rs' ≡ rs) × (ps' ≡ ps))))
-RecordDoes run g (Record.Request object version request p) s e out later rs rs' ps ps' lent r =
-    (gathered (onward g) rs' ps' ≡ gathered g rs ps ++ (as_record object version request p ∷ []))
-    × Settles run (onward g) (gathered g rs ps ++ (as_record object version request p ∷ [])) (texts_of g lent) s e out later r
-RecordDoes run g (Record.Nothing why) s e out later rs rs' ps ps' lent r = (r ≡ taken (no_call why run) no_read) × ((e ≡ s) × (later ≡ out))
+abbrev pub RecordDoes : Run → Reading → Result (Option Record) Why → (s e : Store) (out later : List ℕ) (rs rs' : List ℕ) (ps ps' : List Float) (lent : List ℕ) → Taken → Type 0
+RecordDoes run g (Ok None) s e out later rs rs' ps ps' lent r = (r ≡ taken (quiet run) g) × ((e ≡ s) × ((later ≡ out) × ((rs' ≡ rs) × (ps' ≡ ps))))
+RecordDoes run g (Ok (Some x)) s e out later rs rs' ps ps' lent r =
+    (gathered (onward g) rs' ps' ≡ gathered g rs ps ++ (as_record x.object x.version x.request x.part ∷ []))
+    × Settles run (onward g) (gathered g rs ps ++ (as_record x.object x.version x.request x.part ∷ [])) (texts_of g lent) s e out later r
+RecordDoes run g (Err why) s e out later rs rs' ps ps' lent r = (r ≡ taken (no_call why run) no_read) × ((e ≡ s) × (later ≡ out))
 
 pub record GoesOn (run : Run) (g : Reading) (cut : Bool) (line : List ℕ) (s e : Store) (out later : List ℕ) (rs rs' : List ℕ) (ps ps' : List Float) (lent : List ℕ) (r : Taken) : Type 0 where
-  pub is : Record
+  pub is : Result (Option Record) Why
   pub reads : Records line cut is
   pub does : RecordDoes (counted run) g is s e out later rs rs' ps ps' lent r
   pub fits : Fits r.reading rs' ps' lent

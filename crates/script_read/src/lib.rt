@@ -10,13 +10,11 @@ ghost use Rattle.script_read.specs.Read.{HandsLent, SettlesLent, BeginsLent, Ope
 use lent_read::record;
 use reads::ReadAnswer;
 use reads::record::RequestRecord;
-use requests::eis::Request;
-use script::Part;
 use script_record::Record;
 use script_run::{Run, Told, Took, Why};
 
 // How many lines of a read are still to come, 0 where none is open; how many records stand in the slices; and how long its texts are.
-#[derive(Clone, Copy)]
+#[derive(Clone, Copy, Debug, PartialEq, Eq)]
 pub struct Reading {
     pub left: usize,
     pub held: usize,
@@ -68,21 +66,19 @@ fn hand_over(
     requires { Fits reading records.now points.now lent.now }
     ensures { HandsLent run reading control words reals texts records points lent out result }
 {
-    let from: usize = 0;
     let w = reading.held * record::RECORD_WORDS;
     let p = reading.held * record::RECORD_REALS;
-    let t = reading.length;
     let n = script_session::room(run.out, out.len());
     lent_read::handle_requests(
         control,
         words,
         reals,
         texts,
-        &records[from..w],
-        &points[from..p],
-        &lent[from..t],
+        &records[..w],
+        &points[..p],
+        &lent[..reading.length],
         run.clock,
-        &mut out[from..n],
+        &mut out[0..n],
     )
 }
 
@@ -123,16 +119,16 @@ fn settle(
     }
 }
 
-// A client's request with a part, as a record.
-fn record_of(object: u64, version: u32, request: Request, part: Part) -> RequestRecord
-    ensures { result ≡ as_record object version request part }
+// A client's request with a part, as a record of the read.
+fn record_of(one: Record) -> RequestRecord
+    ensures { result ≡ as_record one.object one.version one.request one.part }
 {
     RequestRecord {
-        object,
-        version,
-        request,
-        start: part.start as usize,
-        length: part.length as usize,
+        object: one.object,
+        version: one.version,
+        request: one.request,
+        start: one.part.start as usize,
+        length: one.part.length as usize,
     }
 }
 
@@ -141,12 +137,11 @@ fn put(reading: Reading, records: &mut [u64], points: &mut [f32], one: RequestRe
     requires { (0 < reading.left) × (reading.held + reading.left ≤ record_count records.old points.old) }
     ensures { (result ≡ onward reading) × (gathered result records.new points.new ≡ gathered reading records.old points.old ++ (one ∷ [])) }
 {
-    let place = reading.held;
-    record::put_record(records, points, place, one);
+    record::put_record(records, points, reading.held, one);
     Reading {
         left: reading.left - 1,
-        held: place + 1,
-        length: reading.length,
+        held: reading.held + 1,
+        ..reading
     }
 }
 
@@ -170,27 +165,17 @@ fn go_on(
 {
     let here = script_run::counted(run);
     match script_record::record_in(line, cut) {
-        Record::Blank => Taken {
+        Ok(None) => Taken {
             took: script_run::quiet(here),
             reading,
         },
-        Record::Request {
-            object,
-            version,
-            request,
-            part,
-        } => {
-            let next = put(
-                reading,
-                records,
-                points,
-                record_of(object, version, request, part),
-            );
+        Ok(Some(one)) => {
+            let next = put(reading, records, points, record_of(one));
             settle(
                 here, next, control, words, reals, texts, records, points, lent, out,
             )
         }
-        Record::Nothing(why) => Taken {
+        Err(why) => Taken {
             took: script_run::no_call(here, why),
             reading: none(),
         },
@@ -247,11 +232,9 @@ fn open(
     ensures { OpensLent run cut line control words reals texts records points lent out result }
 {
     let took = script_run::take(run, control, words, reals, texts, line, cut, out);
-    let told = took.told;
-    let after = took.run;
-    if let Told::Begun(count) = told {
+    if let Told::Begun(count) = took.told {
         return begin(
-            after, count, control, words, reals, texts, records, points, lent, line, out,
+            took.run, count, control, words, reals, texts, records, points, lent, line, out,
         );
     }
     Taken {

@@ -1,5 +1,5 @@
 -- A line of a read, and the texts of a read, which stand in its first line. Assumes nothing.
-use Rattle.std.specs.Prelude.{ℕ, ◌≡◌, Bool, true, false, cond, List, []}
+use Rattle.std.specs.Prelude.{ℕ, ◌≡◌, Bool, true, false, cond, List, [], Option, Some, None, Result, Ok, Err}
 use Rattle.script.specs.declared.value.Value.{Value}
 use Rattle.script.specs.declared.text.Part.{Part}
 use Rattle.script.specs.declared.line.Args.{Args}
@@ -27,27 +27,27 @@ abbrev pub part_first : Args → Part
 part_first w = cond (has_part w.a) (part_in w.a) (part_in w.b)
 
 -- "Each of the N lines is a client's line": none but a client's request is a record
-abbrev pub record_of : Asked → Part → Record
-record_of (Asked.Now n) p = Record.Nothing Why.NoRecord
-record_of (Asked.Out n) p = Record.Nothing Why.NoRecord
-record_of (Asked.Buffer n) p = Record.Nothing Why.NoRecord
-record_of (Asked.Start serial) p = Record.Nothing Why.NoRecord
-record_of (Asked.Client object version request) p = Record.Request object version request p
-record_of Asked.NextRequest p = Record.Nothing Why.NoRecord
-record_of (Asked.Station call) p = Record.Nothing Why.NoRecord
-record_of (Asked.Read count) p = Record.Nothing Why.NoRecord
-record_of Asked.Message p = Record.Nothing Why.NoRecord
-record_of (Asked.Event event) p = Record.Nothing Why.NoRecord
+abbrev pub record_of : Asked → Part → Result (Option Record) Why
+record_of (Asked.Now n) p = Err Why.NoRecord
+record_of (Asked.Out n) p = Err Why.NoRecord
+record_of (Asked.Buffer n) p = Err Why.NoRecord
+record_of (Asked.Start serial) p = Err Why.NoRecord
+record_of (Asked.Client object version request) p = Ok (Some (record { object = object; version = version; request = request; part = p }))
+record_of Asked.NextRequest p = Err Why.NoRecord
+record_of (Asked.Station call) p = Err Why.NoRecord
+record_of (Asked.Read count) p = Err Why.NoRecord
+record_of Asked.Message p = Err Why.NoRecord
+record_of (Asked.Event event) p = Err Why.NoRecord
 
-abbrev pub line_record : Line → Record
-line_record Line.Blank = Record.Blank
+abbrev pub line_record : Line → Result (Option Record) Why
+line_record Line.Blank = Ok None
 line_record (Line.Setting v w) = record_of (asked v w) (part_first w)
 line_record (Line.Call v w) = record_of (asked v w) (part_first w)
-line_record Line.NoCall = Record.Nothing Why.NoRecord
+line_record Line.NoCall = Err Why.NoRecord
 
 -- A LINE OF A READ. One whose first bytes are gone is no record; any other is what it says, with parts for texts
-pub record Records (line : List ℕ) (cut : Bool) (r : Record) : Type 0 where
-  pub long : cut ≡ true → r ≡ Record.Nothing Why.Long
+pub record Records (line : List ℕ) (cut : Bool) (r : Result (Option Record) Why) : Type 0 where
+  pub long : cut ≡ true → r ≡ Err Why.Long
   pub reads : cut ≡ false → (l : Line) × (Parsed true line l × (r ≡ line_record l))
 
 -- the text of a call

@@ -2,58 +2,34 @@
 #![tactic(auto)]
 
 ghost use Rattle.std.specs.Prelude.{◌≡◌};
-ghost use Rattle.script_record.specs.Record.{has_part, part_first, record_of, Records, Lends};
+ghost use Rattle.script_record.specs.Record.{part_first, record_of, Records, Lends};
 
 use requests::eis::Request;
 use script::{Args, Line, Part, Value};
 use script_asked::Asked;
 use script_run::Why;
 
-// What a line of a read is.
-#[derive(Clone, Copy)]
-pub enum Record {
-    // An empty line, or a comment.
-    Blank,
-    // A client's request, on the object of this id and version, with a part of the read's texts for its text.
-    Request {
-        object: u64,
-        version: u32,
-        request: Request,
-        part: Part,
-    },
-    // It ends the trail.
-    Nothing(Why),
-}
-
-fn has_part(v: Value) -> bool
-    ensures { result ≡ has_part v }
-{
-    match v {
-        Value::Part(_) => true,
-        Value::Nothing => false,
-        Value::U64(_) => false,
-        Value::U32(_) => false,
-        Value::I32(_) => false,
-        Value::F32(_) => false,
-        Value::Text(_) => false,
-        Value::NoText => false,
-    }
+// A line's record: a client's request, on the object of this id and version, with a part of the read's texts for its text.
+#[derive(Clone, Copy, Debug, PartialEq)]
+pub struct Record {
+    pub object: u64,
+    pub version: u32,
+    pub request: Request,
+    pub part: Part,
 }
 
 // A part stands first or second; a request without text has the empty one.
 fn part_of(args: Args) -> Part
     ensures { result ≡ part_first args }
 {
-    let a = args.a;
-    let b = args.b;
-    if has_part(a) {
-        return script::part_of(a);
+    match args.a {
+        Value::Part(part) => part,
+        _ => script::part_of(args.b),
     }
-    script::part_of(b)
 }
 
 // No line but a client's request is a record.
-fn requested(asked: Asked, part: Part) -> Record
+fn requested(asked: Asked, part: Part) -> Result<Option<Record>, Why>
     ensures { result ≡ record_of asked part }
 {
     if let Asked::Client {
@@ -62,28 +38,29 @@ fn requested(asked: Asked, part: Part) -> Record
         request,
     } = asked
     {
-        return Record::Request {
+        return Ok(Some(Record {
             object,
             version,
             request,
             part,
-        };
+        }));
     }
-    Record::Nothing(Why::NoRecord)
+    Err(Why::NoRecord)
 }
 
-// A line of a read; one whose first bytes are gone (`cut`) is no record.
-pub fn record_in(line: &[u8], cut: bool) -> Record
+// The record of a line of a read: none where the line is empty, or a comment. One that is refused ends the trail, and so does one whose first bytes
+// are gone (`cut`).
+pub fn record_in(line: &[u8], cut: bool) -> Result<Option<Record>, Why>
     ensures { Records line.now cut result }
 {
     if cut {
-        return Record::Nothing(Why::Long);
+        return Err(Why::Long);
     }
     match script::parse(line, true) {
-        Line::Blank => Record::Blank,
+        Line::Blank => Ok(None),
         Line::Setting { verb, args } => requested(script_asked::of_line(verb, args), part_of(args)),
         Line::Call { verb, args } => requested(script_asked::of_line(verb, args), part_of(args)),
-        Line::NoCall => Record::Nothing(Why::NoRecord),
+        Line::NoCall => Err(Why::NoRecord),
     }
 }
 
@@ -92,9 +69,7 @@ pub fn lend_text(line: &[u8], lent: &mut [u8]) -> usize
     ensures { Lends line.now lent.old lent.new result }
 {
     match script::parse(line, false) {
-        Line::Blank => 0,
-        Line::Setting { verb: _, args: _ } => 0,
-        Line::Call { verb: _, args } => script::text_into(line, script_run::text_of(args), lent),
-        Line::NoCall => 0,
+        Line::Call { args, .. } => script::text_into(line, script_run::text_of(args), lent),
+        _ => 0,
     }
 }

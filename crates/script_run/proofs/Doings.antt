@@ -1,5 +1,5 @@
 -- What the functions of a line have of what they call. Assumes nothing.
-use Rattle.std.proofs.Common.{◌≡◌, ℕ, ◌+◌, ◌-◌, min, Bool, true, false, List, length, take, sym, ap, ◌∙◌, arith, length-take, take_all, take-take}
+use Rattle.std.proofs.Common.{◌≡◌, ℕ, ◌+◌, min, Bool, true, false, List, length, take, sym, ap, ◌∙◌, arith, length-take, take_all, take-take}
 use mathlib.Core.Bool.{false≢true}
 use lib.Seq.{take-paste}
 use Rattle.handshake.specs.View.{request_of, Handled}
@@ -25,9 +25,9 @@ take-least : (n m : ℕ) (l : List ℕ) → n ≡ min (length l) m → take n l 
 take-least n m l e = sym (take-take n m l (omega (arith, e))) ∙ take_all n (take m l) (omega (arith, length-take m l, e))
 
 -- the part of a buffer that a text was put into
-pub text-lent : {text before after : List ℕ} {n m : ℕ} → length before ≡ m → Copied text before after n → take (n - 0) after ≡ take m text
+pub text-lent : {text before after : List ℕ} {n m : ℕ} → length before ≡ m → Copied text before after n → take n after ≡ take m text
 text-lent {text} {before} {after} {n} {m} e h =
-    let z : n - 0 ≡ 0 + n = omega arith in
+    let z : n ≡ 0 + n = omega arith in
     ap (λ (k : ℕ). take k after) z ∙ ap (λ (l : List ℕ). take (0 + n) l) h.bytes ∙ take-paste before 0 text n (omega arith) (omega (arith, h.count))
     ∙ take-least n m text (h.count ∙ ap (min (length text)) e)
 

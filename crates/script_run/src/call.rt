@@ -2,7 +2,7 @@
 ghost use Rattle.std.specs.Prelude.{◌≡◌, ℕ, List, length};
 ghost use Rattle.session.specs.Slices.{before, after, rows_before, rows_after};
 ghost use Rattle.session.specs.View.{store};
-ghost use Rattle.script_run.specs.Line.{has_text, is_given, text_first, lent_text, line_text};
+ghost use Rattle.script_run.specs.Line.{is_given, text_first, lent_text, line_text};
 ghost use Rattle.script_run.specs.Take.{quiet, no_call, answered, given, begun, shaken, received, told_by, shaken_by, turned, counted, at_clock, with_out, with_buffer, first};
 ghost use Rattle.script_run.specs.Take.{Starts, Shakes, ShakesBy, Receives, Turns, Handles, Delivers, Makes, Does, Takes};
 
@@ -35,7 +35,7 @@ pub struct Run {
 }
 
 // Why a line ends the trail.
-#[derive(Clone, Copy)]
+#[derive(Clone, Copy, Debug, PartialEq, Eq)]
 pub enum Why {
     // It is longer than a line may be.
     Long,
@@ -118,10 +118,8 @@ pub fn quiet(run: Run) -> Took
 pub fn no_call(run: Run, why: Why) -> Took
     ensures { result ≡ no_call why run }
 {
-    let mut ended = run;
-    ended.ended = true;
     Took {
-        run: ended,
+        run: Run { ended: true, ..run },
         told: Told::Error(why),
     }
 }
@@ -157,18 +155,13 @@ fn begun(run: Run, count: u32) -> Took
 fn shaken(run: Run, a: HandshakeAnswer) -> Took
     ensures { result ≡ shaken a run }
 {
-    let after = Run {
-        line: run.line,
-        out: run.out,
-        buffer: run.buffer,
-        clock: run.clock,
-        started: true,
-        finished: script_handshake::is_finished(a),
-        shaken: a,
-        ended: run.ended,
-    };
     Took {
-        run: after,
+        run: Run {
+            started: true,
+            finished: script_handshake::is_finished(a),
+            shaken: a,
+            ..run
+        },
         told: Told::Shaken,
     }
 }
@@ -195,13 +188,9 @@ fn told_by(told: Result<(), Unhanded>, taken: usize) -> Told
 fn shaken_by(run: Run, r: HandshakeReceived) -> Took
     ensures { result ≡ shaken_by r run }
 {
-    let told = r.told;
-    let answer = r.answer;
-    let took = shaken(run, answer);
-    let after = took.run;
     Took {
-        run: after,
-        told: told_by(told, r.taken),
+        told: told_by(r.told, r.taken),
+        ..shaken(run, r.answer)
     }
 }
 
@@ -218,33 +207,28 @@ fn turned(run: Run, event: Event, written: Result<usize, MessageError>) -> Took
 pub fn counted(run: Run) -> Run
     ensures { result ≡ counted run }
 {
-    let mut next = run;
-    next.line = std::num::wrapping_add_u64(run.line, 1);
-    next
+    Run {
+        line: run.line.wrapping_add(1),
+        ..run
+    }
 }
 
 fn at_clock(run: Run, n: u64) -> Took
     ensures { result ≡ quiet (at_clock n run) }
 {
-    let mut set = run;
-    set.clock = n;
-    quiet(set)
+    quiet(Run { clock: n, ..run })
 }
 
 fn with_out(run: Run, n: u64) -> Took
     ensures { result ≡ quiet (with_out n run) }
 {
-    let mut set = run;
-    set.out = n;
-    quiet(set)
+    quiet(Run { out: n, ..run })
 }
 
 fn with_buffer(run: Run, n: u64) -> Took
     ensures { result ≡ quiet (with_buffer n run) }
 {
-    let mut set = run;
-    set.buffer = n;
-    quiet(set)
+    quiet(Run { buffer: n, ..run })
 }
 
 // A fresh handshake. What there was before is left, but for the settings.
@@ -258,10 +242,8 @@ fn start(run: Run, serial: u32, out: &mut [u8]) -> Took
 fn shake(run: Run, control: &mut [u64], request: Request, text: &[u8], out: &mut [u8]) -> Took
     ensures { Shakes run request text.now control.old control.new out.old out.new result }
 {
-    let last = run.shaken;
-    let h = last.handshaker;
     let message = script_handshake::message_of(request);
-    let a = script_handshake::take(h, message, text, run.out, out);
+    let a = script_handshake::take(run.shaken.handshaker, message, text, run.out, out);
     script_handshake::open(control, a);
     shaken(run, a)
 }
@@ -270,11 +252,8 @@ fn shake(run: Run, control: &mut [u64], request: Request, text: &[u8], out: &mut
 fn shake_by(run: Run, control: &mut [u64], message: &[u8], out: &mut [u8]) -> Took
     ensures { ShakesBy run message.now control.old control.new out.old out.new result }
 {
-    let last = run.shaken;
-    let h = last.handshaker;
-    let r = script_message::shake(h, message, run.out, out);
-    let a = r.answer;
-    script_handshake::open(control, a);
+    let r = script_message::shake(run.shaken.handshaker, message, run.out, out);
+    script_handshake::open(control, r.answer);
     shaken_by(run, r)
 }
 
@@ -421,41 +400,19 @@ fn carry_out(
 }
 
 // The text of a line stands first or second.
-fn has_text(v: Value) -> bool
-    ensures { result ≡ has_text v }
-{
-    match v {
-        Value::Text(_) => true,
-        Value::Nothing => false,
-        Value::U64(_) => false,
-        Value::U32(_) => false,
-        Value::I32(_) => false,
-        Value::F32(_) => false,
-        Value::NoText => false,
-        Value::Part(_) => false,
-    }
-}
-
 fn is_given(args: Args) -> bool
     ensures { result ≡ is_given args }
 {
-    let a = args.a;
-    let b = args.b;
-    if has_text(a) {
-        return true;
-    }
-    has_text(b)
+    matches!(args.a, Value::Text(_)) || matches!(args.b, Value::Text(_))
 }
 
 pub fn text_of(args: Args) -> Text
     ensures { result ≡ text_first args }
 {
-    let a = args.a;
-    let b = args.b;
-    if has_text(a) {
-        return script::text_of(a);
+    match args.a {
+        Value::Text(text) => text,
+        _ => script::text_of(args.b),
     }
-    script::text_of(b)
 }
 
 // With the text of the line at the start of `buf`.
@@ -475,7 +432,6 @@ fn carry_in(
     requires { length buf.old ≡ 32768 }
     ensures { Does run asked present (lent_text line.now t) (before control words reals texts) (after control words reals texts) out.old out.new result }
 {
-    let from: usize = 0;
     let n = script::text_into(line, t, buf);
     carry_out(
         run,
@@ -485,7 +441,7 @@ fn carry_in(
         texts,
         asked,
         present,
-        &buf[from..n],
+        &buf[..n],
         out,
     )
 }
@@ -505,10 +461,18 @@ fn call(
     ensures { Does run asked (is_given args) (line_text line.now args) (before control words reals texts) (after control words reals texts) out.old out.new result }
 {
     let mut buf = [0u8; 32768];
-    let told = is_given(args);
-    let t = text_of(args);
     carry_in(
-        run, control, words, reals, texts, line, asked, told, t, &mut buf, out,
+        run,
+        control,
+        words,
+        reals,
+        texts,
+        line,
+        asked,
+        is_given(args),
+        text_of(args),
+        &mut buf,
+        out,
     )
 }
 

@@ -10,13 +10,10 @@ use script_run::{Told, Took};
 pub fn written(took: Took, out: &[u8], explained: bool, shown: &mut [u8]) -> usize
     ensures { Puts shown 0 result (trail_of took out.now explained) }
 {
-    let told = took.told;
-    let run = took.run;
-    let shaken = run.shaken;
-    match told {
+    match took.told {
         Told::Nothing => 0,
-        Told::Error(_) => script_show::error_line(shown, run.line),
-        Told::Shaken => script_show::handshake_answer(shown, shaken, out, explained),
+        Told::Error(_) => script_show::error_line(shown, took.run.line),
+        Told::Shaken => script_show::handshake_answer(shown, took.run.shaken, out, explained),
         Told::Answered(a) => script_show::answer(shown, a, out, explained),
         Told::Given(next) => script_show::next(shown, next, out, explained),
         Told::Begun(_) => 0,
@@ -28,7 +25,11 @@ pub fn written(took: Took, out: &[u8], explained: bool, shown: &mut [u8]) -> usi
         } => script_show::read_answer(shown, accepted, count, refusal, out, explained),
         Told::Received(r) => script_message::message_answer(shown, r, out, explained),
         Told::ShakenBy(taken) => script_message::handshake_message_answer(
-            shown, shaken, taken, out, explained,
+            shown,
+            took.run.shaken,
+            taken,
+            out,
+            explained,
         ),
         Told::Turned { event, written } => script_events::event_answer(
             shown, event, written, out, explained,

@@ -2,7 +2,10 @@
 use Prim.Native.Nat.{ℕ}
 use native.Mathlib.Omega.{arith}
 use mathlib.Core.List.{List, []}
+use mathlib.Core.Path.{◌≡◌, refl, sym, subst}
 use lib.Seq.{paste-zero}
+use Rattle.script.specs.declared.verb.Verb.{Verb}
+use Rattle.script.specs.declared.line.Args.{Args}
 use Rattle.script.specs.declared.line.Line.{Line}
 use Rattle.script.specs.Text.{Copied}
 use Rattle.script_record.specs.Record.{call_text}
@@ -10,22 +13,21 @@ use Rattle.script_run.proofs.Doings.{read_as}
 use borrow.Author.Rules.{rules}
 use Rattle.script_record.proofs.lend_text.Goals as goal
 
-nothing : (l : List ℕ) → Copied [] l l 0
-nothing l = record { count = omega arith; bytes = paste-zero l 0 [] }
-
-pub returns-in-Blank : goal.returns-in-Blank
+no_call : (line : List ℕ) (l : Line) → ((v : Verb) (w : Args) → l ≡ Line.Call v w → ⊥) → call_text line l ≡ []
 unfolding call_text
-returns-in-Blank c = (Line.Blank, (read_as c.in-Blank.is c.parse.ensures, nothing c.args.lent.now))
+no_call line Line.Blank n = refl
+no_call line (Line.Setting v w) n = refl
+no_call line (Line.Call v w) n = absurd (n v w refl)
+no_call line Line.NoCall n = refl
 
-pub returns-in-Setting : goal.returns-in-Setting
-unfolding call_text
-returns-in-Setting c = (_, (read_as c.in-Setting.is c.parse.ensures, nothing c.args.lent.now))
+nothing : {text : List ℕ} (l : List ℕ) → text ≡ [] → Copied text l l 0
+nothing l e = subst (λ (t : List ℕ). Copied t l l 0) (sym e) (record { count = omega arith; bytes = paste-zero l 0 [] })
 
 pub returns-in-Call : goal.returns-in-Call
 unfolding call_text
 returns-in-Call c =
     (_, (read_as c.in-Call.is c.parse.ensures, rw c.text_of.ensures at c.text_into.ensures))
 
-pub returns-in-NoCall : goal.returns-in-NoCall
-unfolding call_text
-returns-in-NoCall c = (Line.NoCall, (read_as c.in-NoCall.is c.parse.ensures, nothing c.args.lent.now))
+pub returns-in_default : goal.returns-in_default
+returns-in_default c =
+    (_, (c.parse.ensures, nothing c.args.lent.now (no_call c.args.line.now c.parse.result c.in_default.not-Call)))

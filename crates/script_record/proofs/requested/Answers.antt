@@ -2,6 +2,7 @@
 use mathlib.Core.Path.{◌≡◌, refl, sym, ap}
 use mathlib.Core.List.{◌∷◌}
 use mathlib.Core.Logic.{inl, inr}
+use Rattle.std.specs.Prelude.{Err}
 use native.Mathlib.Omega.{arith}
 use denote.Enum.Declared.{tag_of}
 use types.Run.{OneOf}
@@ -11,12 +12,11 @@ use Rattle.script.specs.declared.text.Part.{Part}
 use Rattle.script_asked.specs.declared.Asked.{Asked}
 use Rattle.script_asked.specs.contracts.Asked.{the_type}
 use Rattle.script_run.specs.declared.call.Why.{Why}
-use Rattle.script_record.specs.declared.Record.{Record}
 use Rattle.script_record.specs.Record.{record_of}
 use Rattle.script_record.proofs.requested.Goals as goal
 
 -- the tags are those of the arm that has no client's request
-no_client : (a : Asked) (p : Part) → OneOf (0 ∷ 1 ∷ 2 ∷ 3 ∷ run 5 5) (tag_of the_type a) → Record.Nothing Why.NoRecord ≡ record_of a p
+no_client : (a : Asked) (p : Part) → OneOf (0 ∷ 1 ∷ 2 ∷ 3 ∷ run 5 5) (tag_of the_type a) → Err Why.NoRecord ≡ record_of a p
 no_client (Asked.Now n) p o = refl
 no_client (Asked.Out n) p o = refl
 no_client (Asked.Buffer n) p o = refl

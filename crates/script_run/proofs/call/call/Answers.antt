@@ -5,4 +5,4 @@ use Rattle.script_run.proofs.call.call.Goals as goal
 
 pub returns : goal.returns
 unfolding line_text
-returns c = rw (c.is_given-told.ensures, c.text_of-t.ensures) at c.carry_in.ensures
+returns c = rw (c.is_given.ensures, c.text_of.ensures) at c.carry_in.ensures

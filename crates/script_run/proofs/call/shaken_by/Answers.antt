@@ -3,4 +3,4 @@ use Rattle.std.proofs.Common.{rules}
 use Rattle.script_run.proofs.call.shaken_by.Goals as goal
 
 pub returns : goal.returns
-returns c = rw (c.told_by.ensures, c.shaken-took.ensures)
+returns c = rw (c.told_by.ensures, c.shaken.ensures)
