@@ -78,13 +78,7 @@ module _ {A : Type 0} where
   tab-first-none t zero f h = refl
   tab-first-none t (suc n) f h =
       rw (h 0 (omega arith)) (ap (map_option (λ j. suc j)) (tab-first-none t n (λ j. f (suc j)) (λ j q. h (suc j) (omega arith))))
-
   -- `find` over the places of a table is the first of which the test holds
-  pub found_first : (t : A → Bool) (n m : ℕ) (f : ℕ → A) (r : Option ℕ) → m ≡ n
-      → MatchOption r ((k : ℕ) → 0 ≤ k → k < m → t (f k) ≡ false) (λ i. (0 ≤ i) × (i < m) × (t (f i) ≡ true) × ((k : ℕ) → 0 ≤ k → k < i → t (f k) ≡ false))
-      → told r ≡ first t (tab n f)
-  found_first t n m f None e h = sym (tab-first-none t n f (λ j l. h j (omega arith) (omega arith)))
-  found_first t n m f (Some i) e h = sym (tab-first t n i f (omega arith) h.2 (λ j l. h.3 j (omega arith) l))
 
 pub tab-map : {A B : Type 0} (h : A → B) (n : ℕ) (f : ℕ → A) → map h (tab n f) ≡ tab n (λ k. h (f k))
 unfolding tab

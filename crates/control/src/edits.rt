@@ -93,7 +93,7 @@ pub fn shift<T: Copy>(a: &mut [T], to: usize, from: usize, n: usize)
     }
 }
 
-// Row k of the n rows of a table that begins at AT taken out; those behind it move down.
+// Row k of the n rows of a table that begins at AT taken out; those behind it move down. For each table a function hands it the constants.
 fn cut_row<const AT: usize, const WIDTH: usize>(control: &mut [u64], k: usize, n: usize)
     requires { (k < n) × (AT + WIDTH * n ≤ length control.old) }
     ensures { Shifted (value_at 0 control.old) (value_at 0 control.new) (AT + WIDTH * k) (AT + WIDTH * k + WIDTH) (WIDTH * (n - 1 - k)) }

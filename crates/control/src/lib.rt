@@ -1,5 +1,6 @@
 // The control words of a session, read where they are (specs/Control says what each means). Each function but `sound` asks that they
-// are sound, or only that there are `CONTROL_LENGTH`.
+// are sound, or only that there are `CONTROL_LENGTH`. That is a clause and no array type: what C lends is a slice, whose callers know it by
+// `Sound`, and an array would say its length beside `Sound`. That a slot is below a count is no type's: the count lies in words that change.
 #![tactic(auto, unfolding(crate::specs::Control::connection_of, crate::specs::Control::seat_at, crate::specs::Control::core_at, crate::specs::Control::interface_id, crate::specs::Sound::row_sound, model::specs::Decide::stated, model::specs::Decide::seat_version, model::specs::Decide::device_version))]
 
 pub mod edits;
@@ -342,7 +343,13 @@ pub fn find_interface(control: &[u64], bit: u32, id: u64) -> Option<usize>
     requires { Sound control.now }
     ensures { told result ≡ first (λ d. lists_as bit id d.interfaces) (cores_of control.now) }
 {
-    (0..device_count(control)).find(|&k| lists_interface(control, k, bit, id))
+    // A loop: `find` takes sixteen instructions more for each device that does not list it.
+    for k in 0..device_count(control) {
+        if lists_interface(control, k, bit, id) {
+            return Some(k);
+        }
+    }
+    None
 }
 
 // How many touches are down on the device in slot k.

@@ -4,8 +4,6 @@ use mathlib.Core.Path.{◌≡◌, refl, ap, ap₂, sym, ◌∙◌}
 use mathlib.Core.Bool.{Bool, true, false, cond, ◌&&◌, false≢true}
 use mathlib.Core.List.{List, [], ◌∷◌, ◌++◌}
 use native.Mathlib.Nat.{add-zero, mul_assoc, pow-succ', mod-le, mod-eq_of_lt, div-eq_of_lt}
-use mathlib.Core.Logic.{dite}
-use native.Mathlib.Decide.{dec_lt}
 use native.Mathlib.Omega.{arith}
 use borrow.Author.Tests.{eqb-true, eqb-false, eq-eqb, ne_eqb, lt-ltb}
 use lib.Bits.{bit_and, and_step, and_shr, and_le_l, and_self}
@@ -31,20 +29,6 @@ length_from (suc k) p m h = go (m % 2) refl (λ x. length_from k (p + 1) (m / 2)
 pub bits-length : (m : ℕ) → m < 2 ^ 64 → length (bits_of m) ≡ ones m
 unfolding bits_of
 bits-length m h = length_from 64 0 m h
-
-most_from : (k p m : ℕ) → length (bits_from k p m) ≤ k
-unfolding bits_from
-most_from zero p m = omega arith
-most_from (suc k) p m = go (eqb (m % 2) 1) (most_from k (p + 1) (m / 2))
-  where
-    go : (t : Bool) → length (bits_from k (p + 1) (m / 2)) ≤ k → length (cond t (p ∷ []) [] ++ bits_from k (p + 1) (m / 2)) ≤ suc k
-    go true h = omega arith
-    go false h = omega arith
-
--- 64 at most
-pub bits_fit : (m : ℕ) → length (bits_of m) ≤ 64
-unfolding bits_of
-bits_fit m = most_from 64 0 m
 
 -- ---- the lowest
 
@@ -337,12 +321,6 @@ small_from (suc k) p m (suc j) n h l =
 pub bits_small : (n m : ℕ) → m < 2 ^ n → every (λ b. ltb b n) (bits_of m) ≡ true
 unfolding bits_of
 bits_small n m h = small_from 64 0 m n n h (omega arith)
-
--- the lowest bit of such a mask as well
-pub lowest_below : (n m : ℕ) → 0 < m → m < 2 ^ n → m < 2 ^ 64 → lowest_bit m < n
-lowest_below n m a h l =
-    let f = lowest m a l in
-    dite (dec_lt (lowest_bit m) n) (λ q. q) (λ q. absurd (omega (arith, f.fits, pow_mono {i = n} {j = lowest_bit m} (omega arith))))
 
 pub below_is : (m b : ℕ) → m < 2 ^ 64 → ones (m % 2 ^ b) ≡ bits_below m b
 unfolding bits_below

@@ -1,5 +1,5 @@
 -- The table of interfaces: its rows, and the search by name. Assumes nothing.
-use Prim.Native.Nat.{ℕ, zero, suc, ◌+◌, ◌≤◌, ◌<◌}
+use Prim.Native.Nat.{ℕ, zero, suc, ◌+◌, ◌<◌}
 use mathlib.Core.Path.{◌≡◌, refl, sym, ap, ap₂, ◌∙◌}
 use mathlib.Core.Logic.{dite}
 use mathlib.Core.Bool.{Bool, true, false, cond, ◌&&◌, false≢true}
@@ -12,11 +12,9 @@ use Rattle.std.specs.List.{find, range_with_len}
 use Rattle.std.specs.Cmp.Lexicographic.{pointwise}
 use Rattle.eiproto.specs.Told.{told}
 use native.Mathlib.Decide.{dec_lt}
-use native.Mathlib.Numerals.{add-one}
-use borrow.Author.Tests.{eq-eqb, ne_eqb, eqb-true}
+use borrow.Author.Tests.{eqb-true}
 use lib.Dec.{eqb}
-use lib.ListN.{length, get_or, drop, drop_of_length-le, get_or-map, get_or-eq_default}
-use lib.Seq.{drop-cons}
+use lib.ListN.{length, get_or, get_or-map, get_or-eq_default}
 use Rattle.eiproto.specs.declared.eiproto_eis.Interface.{Interface}
 use Rattle.eiproto.specs.Interface.{Row, row, table, row_of, interfaces, interface_name, same_bytes, lookup_from, lookup}
 
@@ -41,32 +39,6 @@ lent (p ∷ ps) (r ∷ rs) = record { name = record { ref_ptr = p; now = r.name 
 pub past : (i : ℕ) → 12 < i → row "" 0 ≡ row_of i
 unfolding row_of
 past i h = sym (get_or-eq_default table (row "" 0) h)
-
--- names compared byte by byte
-pub same_not : (a b : List ℕ) → (length b ≡ length a → ⊥) → false ≡ same_bytes a b
-unfolding same_bytes
-same_not [] [] h = absurd (h refl)
-same_not [] (y ∷ ys) h = refl
-same_not (x ∷ xs) [] h = refl
-same_not (x ∷ xs) (y ∷ ys) h = go (eqb x y) (same_not xs ys (λ e. h (ap suc e)))
-  where
-    go : (t : Bool) → false ≡ same_bytes xs ys → false ≡ t && same_bytes xs ys
-    go true e = e
-    go false e = refl
-
-module _ (a b : List ℕ) (k : ℕ) where
-  pub same_step : k < length a → k < length b → get_or a k 0 ≡ get_or b k 0
-      → same_bytes (drop k a) (drop k b) ≡ same_bytes (drop (k + 1) a) (drop (k + 1) b)
-  unfolding same_bytes
-  same_step ha hb e = rw (add-one, drop-cons a k 0 ha, drop-cons b k 0 hb, eq-eqb (get_or a k 0) (get_or b k 0) e)
-
-  pub same_stop : k < length a → k < length b → (get_or a k 0 ≡ get_or b k 0 → ⊥) → false ≡ same_bytes (drop k a) (drop k b)
-  unfolding same_bytes
-  same_stop ha hb n = rw (drop-cons a k 0 ha, drop-cons b k 0 hb, ne_eqb (get_or a k 0) (get_or b k 0) n)
-
-  pub same_end : length a ≤ k → length b ≤ k → true ≡ same_bytes (drop k a) (drop k b)
-  unfolding same_bytes
-  same_end ha hb = rw (drop_of_length-le a ha, drop_of_length-le b hb)
 
 -- `==` of two slices of bytes
 pub same_is : (a b : List ℕ) → pointwise nat_eq a b ≡ same_bytes a b

@@ -4,7 +4,7 @@ ghost use Rattle.std.specs.Prelude.{◌≡◌, length, get_or};
 ghost use Rattle.eiproto.specs.Interface.{interface_name, server_version, lookup};
 ghost use Rattle.eiproto.specs.Told.{told};
 
-// The interfaces' numbers.
+// The interfaces' numbers: numbers and no enum, since rows, C and `find` have any number (docs/DECISIONS.md, Forms by place).
 pub const CONNECTION: u8 = 1;
 
 pub const CALLBACK: u8 = 2;

@@ -1,5 +1,6 @@
 // The protocol's enums, by value: those that a server without keymaps needs, with the numbers that stand for them on the wire.
-// A number that stands for no case is answered as such (`ParseError::InvalidVariant` of the source).
+// A number that stands for no case is answered as such (`ParseError::InvalidVariant` of the source). `number` is a method, as those of the
+// refusals are that docs/REFERENCE.md names.
 ghost use Rattle.std.specs.Prelude.{◌≡◌};
 ghost use Rattle.eiproto.specs.Enum.{context_type_number, context_type_of, disconnect_reason_number, disconnect_reason_of};
 ghost use Rattle.eiproto.specs.Enum.{device_type_number, device_type_of, button_state_number, button_state_of, key_state_number, key_state_of};

@@ -35,7 +35,7 @@ fn capability(to: &mut impl Write, bit: u32) -> io::Result<()> {
 }
 
 // A mask, how many bits it has, and which, each with its interface.
-fn mask(to: &mut impl Write, mask: u64) -> io::Result<()> {
+fn bits(to: &mut impl Write, mask: u64) -> io::Result<()> {
     write!(to, "{mask} has {}:", DeviceCapability::count(mask))?;
     for bit in Bits(mask) {
         write!(to, " {bit}/{}", DeviceCapability::interface_of_bit(bit))?;
@@ -72,14 +72,14 @@ fn searches(to: &mut impl Write) -> io::Result<()> {
 }
 
 fn masks(to: &mut impl Write) -> io::Result<()> {
-    mask(to, 0)?;
-    mask(to, 127)?;
-    mask(
+    bits(to, 0)?;
+    bits(to, 127)?;
+    bits(
         to,
         DeviceCapability::POINTER | DeviceCapability::TOUCH | DeviceCapability::TEXT,
     )?;
-    mask(to, 128)?;
-    mask(to, 9223372036854775812)?;
+    bits(to, 128)?;
+    bits(to, 9223372036854775812)?;
     pair(to, 37, 36)?;
     pair(to, 37, 38)?;
     pair(to, 0, 0)

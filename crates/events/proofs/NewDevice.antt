@@ -13,7 +13,7 @@ use Rattle.events.specs.Events.{Sends}
 use Rattle.events.specs.Announce.{CanAnnounceInterfaces, CanAnnounceDevice}
 use Rattle.events.proofs.Writes.{append-length, one_length, cons-length, sends_join}
 use Rattle.events.proofs.Named.{done-fixed, done-text}
-use Rattle.events.proofs.Objects.{bits_most}
+use Rattle.events.proofs.Objects.{bits_few}
 
 device-text : (id version : ℕ) (text : List ℕ) → record_length (Event.Device id version) text ≡ fixed_length (Event.Device id version)
 unfolding record_length text_of layout
@@ -97,7 +97,7 @@ module _ {control : List ℕ} {seat id version : ℕ} {name : Option (List ℕ)}
 
         pub interfaces-room : CanAnnounceInterfaces control id caps j d
         interfaces-room =
-            record { sound = can.sound; known = can.known; ids = can.ids; room = omega (arith, at_name, q.next, at_interfaces, bytes) }
+            record { sound = can.sound; ids = can.ids; room = omega (arith, at_name, q.next, at_interfaces, bytes) }
 
         module _ {f : List ℕ} {e : ℕ} (t : Sends j f d (interface_events n id (new_interfaces id caps)) e) (g : length f ≡ length j) where
           pub done-room : (text : List ℕ) → e + record_length Event.Done text ≤ length f
@@ -118,4 +118,4 @@ module _ {control : List ℕ} {seat id version : ℕ} {name : Option (List ℕ)}
               (sends_join (omega (arith, q.next, t.next, last-bytes n seat id version name kind caps)) t u)))
 
 -- what bounds the sum of a device's lengths
-pub ruleset device_sizes = (device-fixed, type-fixed, done-fixed, bits_most)
+pub ruleset device_sizes = (device-fixed, type-fixed, done-fixed, bits_few)

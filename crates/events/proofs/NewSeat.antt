@@ -13,7 +13,7 @@ use Rattle.events.specs.Events.{Sends}
 use Rattle.events.specs.Announce.{CanAnnounceSeat}
 use Rattle.events.proofs.Writes.{append-length, one_length, cons-length, sends_join}
 use Rattle.events.proofs.Named.{done-fixed, done-text}
-use Rattle.events.proofs.Objects.{bits_most}
+use Rattle.events.proofs.Objects.{bits_few}
 
 seat-text : (id version : ℕ) (text : List ℕ) → record_length (Event.Seat id version) text ≡ fixed_length (Event.Seat id version)
 unfolding record_length text_of layout
@@ -86,4 +86,4 @@ unfolding fixed_length layout widths
 seat-fixed id version = refl
 
 -- what bounds the sum of a seat's lengths
-pub ruleset seat_sizes = (seat-fixed, done-fixed, bits_most)
+pub ruleset seat_sizes = (seat-fixed, done-fixed, bits_few)

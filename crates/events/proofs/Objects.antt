@@ -66,7 +66,21 @@ objects-length c k l = ap length (objects_are c k refl refl l) ∙ simp (length-
 pub bits_most : (m : ℕ) → m < 128 → length (bits_of m) ≤ 7
 bits_most m h = omega (arith, bits-length m (omega arith), ones-le 7 m h)
 
--- a mask with no unknown bit is one
+-- any mask 64
+most_from : (k p m : ℕ) → length (bits_from k p m) ≤ k
+unfolding bits_from
+most_from zero p m = omega arith
+most_from (suc k) p m = go (eqb (m % 2) 1) (most_from k (p + 1) (m / 2))
+  where
+    go : (t : Bool) → length (bits_from k (p + 1) (m / 2)) ≤ k → length (cond t (p ∷ []) [] ++ bits_from k (p + 1) (m / 2)) ≤ suc k
+    go true h = omega arith
+    go false h = omega arith
+
+pub bits_few : (m : ℕ) → length (bits_of m) ≤ 64
+unfolding bits_of
+bits_few m = most_from 64 0 m
+
+-- a mask with no unknown bit is one of capabilities
 pub bits-known : (m : ℕ) {b : Bool} → b ≡ unknown_bits m → b ≡ false → m < 128
 bits-known m e z = leb-false 128 m (sym e ∙ z)
 

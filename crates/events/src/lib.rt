@@ -148,7 +148,7 @@ pub fn destroy_seats(control: &[u64], out: &mut [u8], mark: Mark) -> Mark
 
 // The capabilities of a new seat, by bit.
 fn announce_capabilities(seat: u64, capabilities: u64, out: &mut [u8], from: usize) -> usize
-    requires { (capabilities < 128) × (from + length (records (capability_events seat (bits_of capabilities))) ≤ length out.old) }
+    requires { from + length (records (capability_events seat (bits_of capabilities))) ≤ length out.old }
     ensures { Writes out from (capability_events seat (bits_of capabilities)) result }
 {
     let mut at = from;
@@ -237,7 +237,6 @@ fn announce_name(out: &mut [u8], at: usize, object: u64, name: Option<&[u8]>) ->
 // A seat's events: itself, its name, its capabilities, done.
 #[tactic(auto, using(crate::proofs::NewSeat::seat_sizes))]
 pub fn seat_length(id: u64, version: u32, name: Option<&[u8]>, capabilities: u64) -> usize
-    requires { capabilities < 128 }
     ensures { (c : Connection) → result ≡ length (records (seat_events c id version (given name.entry) capabilities)) }
 {
     let seat = event::fixed_length(Event::Seat { id, version });
@@ -268,7 +267,6 @@ pub fn announce_seat(
 // A device's events: itself, its name, its type, its interfaces, done, where each of these was negotiated.
 #[tactic(auto, using(crate::proofs::NewDevice::device_sizes))]
 pub fn device_length(id: u64, version: u32, name: Option<&[u8]>, capabilities: u64) -> usize
-    requires { capabilities < 128 }
     ensures { (c : Connection) (seat kind : ℕ) → common capabilities (negotiated_capabilities c) ≡ capabilities → result ≡ length (records (device_events c seat id version (given name.entry) kind capabilities)) }
 {
     let device = event::fixed_length(Event::Device { id, version });

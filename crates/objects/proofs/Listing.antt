@@ -1,10 +1,10 @@
 -- Which bit is listed with an id: bit by bit of a mask, and device by device. Assumes nothing.
 use Rattle.std.proofs.Common.{◌≡◌, ℕ, zero, suc, ◌+◌, ◌/◌, ◌%◌, ◌^◌, ◌<◌, ◌≤◌, Bool, true, false, cond, ◌&&◌, eqb, ltb, ◌⊎◌, List, [], ◌∷◌, ◌++◌, map, length, sym, refl, ap, ◌∙◌, inl, inr, mod-lt, arith, pow_mono, ltb-true, eq-eqb, ne_eqb}
 use mathlib.Core.Bool.{false≢true}
-use mathlib.Core.Option.{none, some}
+use mathlib.Core.Option.{Option, none, some}
 use native.Mathlib.Nat.{pow-succ'}
-use Rattle.eiproto.specs.Bits.{bits_from, bits_of, bits_below, lowest_bit, without_lowest, every}
-use Rattle.eiproto.proofs.Bits.{bits_none, bits_small, lowest}
+use Rattle.eiproto.specs.Bits.{bits_from, bits_of, bits_below, every}
+use Rattle.eiproto.proofs.Bits.{bits_small}
 use Rattle.model.specs.Session.{Device}
 use Rattle.model.specs.Live.{listed_as, or_else, listed_in}
 use Rattle.control.specs.Table.{tab}
@@ -13,28 +13,23 @@ use Rattle.control.specs.Control.{interface_id, interface_on, interfaces_on}
 -- ---- bit by bit
 
 module _ (device caps id : ℕ) where
-  pub none-listed : listed_as id (interfaces_on device caps 0) ≡ none
-  unfolding listed_as interfaces_on
-  none-listed = ap (λ (bs : List ℕ). listed_as id (map (interface_on device caps) bs)) bits_none
+  among : List ℕ → Option ℕ
+  among bs = listed_as id (map (interface_on device caps) bs)
 
-  module _ (m : ℕ) (some_bit : 0 < m) (small : m < 2 ^ 64) where
-    lowest_first : listed_as id (interfaces_on device caps m)
-        ≡ cond (eqb (interface_id device caps (lowest_bit m)) id) (some (lowest_bit m)) (listed_as id (interfaces_on device caps (without_lowest m)))
-    unfolding listed_as interfaces_on interface_on
-    lowest_first = ap (λ (bs : List ℕ). listed_as id (map (interface_on device caps) bs)) (lowest m some_bit small).bits
+  pub none-listed : (m : ℕ) → bits_of m ≡ [] → listed_as id (interfaces_on device caps m) ≡ none
+  unfolding listed_as interfaces_on among
+  none-listed m e = ap among e
 
-    -- b is the lowest bit, and i its interface's id
-    module _ (b i : ℕ) (e : b ≡ lowest_bit m) (f : i ≡ interface_id device caps b) where
-      its_id : interface_id device caps (lowest_bit m) ≡ i
-      its_id = ap (interface_id device caps) (sym e) ∙ sym f
+  -- b is the first bit, and i its interface's id
+  module _ (m b i : ℕ) (f : i ≡ interface_id device caps b) where
+    pub bit_met : {bs : List ℕ} → bits_of m ≡ b ∷ bs → i ≡ id → listed_as id (interfaces_on device caps m) ≡ some b
+    unfolding listed_as interfaces_on interface_on among
+    bit_met e q = ap among e ∙ rw (eq-eqb (interface_id device caps b) id (sym f ∙ q)) refl
 
-      pub lowest_met : i ≡ id → listed_as id (interfaces_on device caps m) ≡ some b
-      lowest_met q = lowest_first ∙ rw (eq-eqb (interface_id device caps (lowest_bit m)) id (its_id ∙ q)) (ap some (sym e))
-
-      pub lowest_passed : (left : ℕ) → left ≡ without_lowest m → (i ≡ id → ⊥)
-          → listed_as id (interfaces_on device caps m) ≡ listed_as id (interfaces_on device caps left)
-      lowest_passed left l n =
-          lowest_first ∙ rw (ne_eqb (interface_id device caps (lowest_bit m)) id (λ q. n (sym its_id ∙ q))) (ap (λ (x : ℕ). listed_as id (interfaces_on device caps x)) (sym l))
+    pub bit_passed : (left : ℕ) → bits_of m ≡ b ∷ bits_of left → (i ≡ id → ⊥)
+        → listed_as id (interfaces_on device caps m) ≡ listed_as id (interfaces_on device caps left)
+    unfolding listed_as interfaces_on interface_on among
+    bit_passed left e n = ap among e ∙ rw (ne_eqb (interface_id device caps b) id (λ q. n (f ∙ q))) refl
 
 -- ---- an id that is not near the device's
 

@@ -12,7 +12,7 @@ ghost use Rattle.eiproto.specs.Told.{told};
 ghost use Rattle.objects.specs.Answer.{object_told};
 
 use eiproto::eiproto_eis;
-use eiproto::event::DeviceCapability;
+use eiproto::event::{Bits, DeviceCapability};
 
 // The object of an id that lives: its interface's number, and its version.
 #[derive(Clone, Copy, Debug, PartialEq, Eq)]
@@ -25,13 +25,10 @@ pub struct Object {
 fn listed_among(device: u64, capabilities: u64, listed: u64, id: u64) -> Option<u32>
     ensures { told result ≡ listed_as id (interfaces_on device capabilities listed) }
 {
-    let mut mask = listed;
-    while mask != 0 {
-        let bit = DeviceCapability::lowest(mask);
+    for bit in Bits(listed) {
         if control::interface_id(device, capabilities, bit) == id {
             return Some(bit);
         }
-        mask = DeviceCapability::without_lowest(mask);
     }
     None
 }
@@ -57,6 +54,7 @@ pub fn find_listed(control: &[u64], id: u64) -> Option<u32>
     requires { Sound control.now }
     ensures { (w : List ℕ) (q : List Float) (t : List ℕ) → told result ≡ listed_in id (view (session (store control.now w q t))).devices }
 {
+    // A loop: with `find_map` it isn't proved, since nothing says of what it stopped at that it was found.
     for k in 0..control::device_count(control) {
         if let Some(bit) = listed_on(control, k, id) {
             return Some(bit);

@@ -18,7 +18,7 @@ pub const TEXTS_LIMIT: usize = 32;
 // That of no text.
 pub const NO_SLOT: usize = TEXTS_LIMIT;
 
-// The low 32 bits.
+// The low 32 bits of any number: no `TryFrom`, and no `From` of std.
 pub fn low(n: u64) -> u32
     ensures { result ≡ low n }
 {
@@ -46,7 +46,7 @@ pub fn key_state(n: u64) -> KeyState
     }
 }
 
-// A signed amount from its bits, in two's complement.
+// A signed amount from its bits, in two's complement. Any number means one, so this is no `TryFrom`.
 #[tactic(auto, unfolding(crate::specs::Row::amount_of))]
 pub fn amount(n: u64) -> i32
     ensures { result ≡ amount_of n }
@@ -347,7 +347,7 @@ pub fn entries<T: Copy, const N: usize>(table: &[T], row: usize) -> [T; N]
     *table[row * N..row * N + N].as_array().unwrap()
 }
 
-// A slice as long as the array becomes it.
+// A slice as long as the array becomes it. With `copy_from_slice` a row's copy takes 64 instructions in place of 34, its writing 39 in place of 31.
 fn set<T: Copy, const N: usize>(part: &mut [T], values: [T; N])
     requires { length part.old ≡ N }
     ensures { part.new ≡ values }

@@ -1,7 +1,7 @@
 // The touches that are down on a device: `down_touch_ids: Mutex<HashSet<u32>>` of src/request.rs, as a record of sixteen ids and a count.
 //
-// Each change comes twice: as a function of the record's value (`inserted`, `removed`, `cleared`), and, under the source's names
-// (`insert`, `remove`, `clear`), of a record that is lent and changed where it is.
+// Each change comes twice: under the source's names (`insert`, `remove`, `clear`), of a record that is lent and changed where it is, and over
+// it as a function of the record's value (`inserted`, `removed`, `cleared`).
 #![tactic(auto)]
 
 ghost use Rattle.std.specs.Prelude.{◌≡◌, ◌==◌, true, false, [], length, position, MatchOption, MatchResult};
@@ -12,7 +12,8 @@ ghost use Rattle.touches.specs.Changes.{Holds, Inserts, Removes};
 pub const EIS_MAX_TOUCHES: usize = 16;
 
 // The first `count` ids are held, in the order in which they went down; what the places behind them hold means nothing. A count above
-// sixteen, which no function here makes, counts as sixteen: nothing is inserted, and what is removed leaves fifteen.
+// sixteen, which no function here makes, counts as sixteen: nothing is inserted, and what is removed leaves fifteen. An array and a count, since
+// no heap is used and the session's words have the two (docs/DECISIONS.md, "A count above sixteen").
 #[derive(Clone, Copy, Debug, PartialEq, Eq)]
 pub struct DownTouchIds {
     pub ids: [u32; EIS_MAX_TOUCHES],
@@ -62,9 +63,29 @@ impl DownTouchIds {
         self.position(id).is_some()
     }
 
-    // The new id comes last.
     pub fn inserted(mut self, id: u32) -> Result<Self, DownError>
         ensures { MatchResult result (λ after. Inserts id self after (Ok tt)) (λ error. Inserts id self self (Err error)) }
+    {
+        self.insert(id)?;
+        Ok(self)
+    }
+
+    pub fn removed(mut self, id: u32) -> Option<Self>
+        ensures { MatchOption result (Removes id self self false) (λ after. Removes id self after true) }
+    {
+        if self.remove(id) { Some(self) } else { None }
+    }
+
+    pub fn cleared(mut self) -> Self
+        ensures { Holds [] result }
+    {
+        self.clear();
+        self
+    }
+
+    // The new id comes last.
+    pub fn insert(&mut self, id: u32) -> Result<(), DownError>
+        ensures { Inserts id self.old self.new result }
     {
         let n = self.len();
         if n == EIS_MAX_TOUCHES {
@@ -75,55 +96,29 @@ impl DownTouchIds {
         }
         self.ids[n] = id;
         self.count = n + 1;
-        Ok(self)
-    }
-
-    // The ids behind it move down. Nothing where it is not held.
-    pub fn removed(self, id: u32) -> Option<Self>
-        ensures { MatchOption result (Removes id self self false) (λ after. Removes id self after true) }
-    {
-        let k = self.position(id)?;
-        let n = self.len();
-        let mut touches = self;
-        // One by one: copy_from_slice takes more instructions where few touches are held.
-        for place in k + 1..n {
-            touches.ids[place - 1] = self.ids[place];
-        }
-        touches.count = n - 1;
-        Some(touches)
-    }
-
-    // None is held: a paused device's touches are forgotten.
-    pub fn cleared(mut self) -> Self
-        ensures { Holds [] result }
-    {
-        self.count = 0;
-        self
-    }
-
-    pub fn insert(&mut self, id: u32) -> Result<(), DownError>
-        ensures { Inserts id self.old self.new result }
-    {
-        *self = self.inserted(id)?;
         Ok(())
     }
 
-    // Whether it was held.
+    // Whether it was held. The ids behind it move down.
     pub fn remove(&mut self, id: u32) -> bool
         ensures { Removes id self.old self.new result }
     {
-        match self.removed(id) {
-            Some(touches) => {
-                *self = touches;
-                true
-            }
-            None => false,
+        let Some(k) = self.position(id) else {
+            return false;
+        };
+        let n = self.len();
+        // One by one: by `copy_from_slice`, from a copy, it took 12 instructions more where few touches are held.
+        for place in k + 1..n {
+            self.ids[place - 1] = self.ids[place];
         }
+        self.count = n - 1;
+        true
     }
 
+    // None is held: a paused device's touches are forgotten.
     pub fn clear(&mut self)
         ensures { Holds [] self.new }
     {
-        *self = self.cleared();
+        self.count = 0;
     }
 }

@@ -1,5 +1,5 @@
 // Puts touches down and up again, and writes each call with its answer and the ids that are held after it. Each change goes through the method on
-// a record that is lent, and so through the value core behind it.
+// a record that is lent, as the session's do.
 #![tactic(auto)]
 
 use std::io;

@@ -288,7 +288,8 @@ pub fn record_length(e: Event, text: &[u8]) -> usize
     }
 }
 
-// A text at a place of the buffer.
+// A text at a place of the buffer. The buffer and the place, here and below, and not the part from there on: `Wrote` and `PutWhole` tell every byte
+// of the buffer, and each call would have to see that the part is there.
 pub fn put_text(out: &mut [u8], at: usize, text: &[u8]) -> usize
     requires { at + length text.now ≤ length out.old }
     ensures { Wrote out.old out.new at (length text.now) text.now result }

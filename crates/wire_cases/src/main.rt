@@ -1,7 +1,7 @@
 // Event records as bytes: each kind, texts of several lengths, records at a place and records that do not fit.
 #![tactic(auto)]
 
-ghost use Rattle.std.specs.Prelude.{◌<◌, ◌≡◌, length};
+ghost use Rattle.std.specs.Prelude.{◌≡◌, length};
 
 use std::io;
 use std::io::Write;
@@ -26,19 +26,12 @@ const WORD: u32 = 0x2122_2324;
 
 const NEXT: u32 = 0x3132_3334;
 
-fn digit(n: u8) -> u8
-    requires { n < 16 }
-{
-    if n < 10 { b'0' + n } else { b'a' + (n - 10) }
-}
-
 // A line: a name, and bytes in hexadecimal.
 fn show(to: &mut impl Write, name: &[u8], bytes: &[u8]) -> io::Result<()> {
     to.write_all(name)?;
     to.write_all(b":")?;
     for b in bytes {
-        let hex = [b' ', digit(*b / 16), digit(*b % 16)];
-        to.write_all(&hex)?;
+        write!(to, " {b:02x}")?;
     }
     to.write_all(b"\n")
 }

@@ -8,7 +8,7 @@ use Rattle.events.proofs.announce_capabilities.Goals as goal
 
 pub loop-bit-init : goal.loop-bit-init
 loop-bit-init c =
-    partly_none c.args.out.now c.args.from (rw c.into_iter-bit-iterator.ensures.into_iter_gives) (rw c.into_iter-bit-iterator.ensures.into_iter_gives c.requires.1)
+    partly_none c.args.out.now c.args.from (rw c.into_iter-bit-iterator.ensures.into_iter_gives) (rw c.into_iter-bit-iterator.ensures.into_iter_gives c.requires)
 
 pub overflow_shl-announced : goal.overflow_shl-announced
 overflow_shl-announced c = bit_fits _ _ _ c.in-Some.ensures.steps

@@ -11,7 +11,7 @@ announce_name-named-requires c =
 
 pub announce_capabilities-announced-requires : goal.announce_capabilities-announced-requires
 announce_capabilities-announced-requires c =
-    (c.requires.known, capabilities-room c.requires c.connection_id-connection.ensures c.send-seat.ensures c.send-seat.auto.out c.announce_name-named.ensures c.announce_name-named.auto.out)
+    capabilities-room c.requires c.connection_id-connection.ensures c.send-seat.ensures c.send-seat.auto.out c.announce_name-named.ensures c.announce_name-named.auto.out
 
 pub send-requires : goal.send-requires
 send-requires c =

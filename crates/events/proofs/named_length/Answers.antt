@@ -1,5 +1,5 @@
 -- Ten bytes and the name. Assumes nothing.
-use Rattle.std.proofs.Common.{arith, rules}
+use Rattle.std.proofs.Common.{arith}
 use Rattle.events.proofs.Named.{name_length_lem}
 use Rattle.events.proofs.named_length.Goals as goal
 
