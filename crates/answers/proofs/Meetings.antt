@@ -17,10 +17,17 @@ use Rattle.model.specs.Decide.{decide_plain, decide}
 use Rattle.model.specs.Step.{Step, refuses, unchanged, carried_out, step}
 use Rattle.model_steps.proofs.Steps.{step-answer}
 use Rattle.control.specs.Sound.{Sound, is_sound}
-use Rattle.session.specs.View.{Store, store, session, is_lent, is_whole, Whole, Lending, is_intact}
+use Rattle.session.specs.declared.LentSession.{LentSession}
+use Rattle.session.specs.Loan.{store_of}
+use Rattle.session.specs.View.{Store, store, session, texts_length, is_lent, is_whole, Lent, Whole, Lending, is_intact}
+use Rattle.std.proofs.lemmas.List.{length-replicate}
+use Rattle.std.proofs.Math.ListN.{replicate}
 use Rattle.session.specs.Enact.{Enacted}
 use Rattle.session.proofs.Views.{whole_parts, whole_intact}
 use Rattle.std.specs.Prelude.{Result, Ok, Err}
+use Rattle.std.specs.Result.{IsErrAnd}
+use Rattle.std.proofs.lemmas.Result.{err_from_is_err_and}
+use Rattle.answers.specs.Check.{Tests}
 use Rattle.answers.specs.Answer.{error_of, ending_of, outcome_of, count_of, Tells}
 use Rattle.answers.specs.declared.Error.{Error}
 use Rattle.answers.specs.declared.Outcome.{Outcome}
@@ -74,6 +81,10 @@ ends told = (ap ending_of told.0, told.1)
 pub refused_is : {r : Result Answer Error} {e : Error} → r ≡ Err e → Tells r (error_of e) 0
 refused_is is = (ap outcome_of is, ap count_of is)
 
+-- the same of an error that `?` hands on
+pub handed_on : (r : Result Answer Error) {e : Error} → IsErrAnd r (λ y. y ≡ e) → r ≡ Err e
+handed_on r h = let p = err_from_is_err_and r h in p.1 ∙ ap Err p.2
+
 -- 21, and what follows where it does not apply
 pub damaged-answered : {l : Lending} {s : Store} {out : List ℕ} {call : Call Input} {clock : ℕ} {r : Result Answer Error} → is_intact l s ≡ false
     → r ≡ Err Error.BadState → Answered l s s out out call clock r
@@ -83,29 +94,54 @@ pub intact_answered : {l : Lending} {s e : Store} {out later : List ℕ} {call :
     → (Whole s → Handled s e out later call clock r) → Answered l s e out later call clock r
 intact_answered w h = record { damaged = λ d. absurd (false≢true (sym d ∙ w)); handled = λ _. h }
 
--- the same by what a call is lent: the control words, or the rows of requests too
-pub unsound_answered : {c out : List ℕ} {call : Call Input} {clock : ℕ} {r : Result Answer Error} → is_sound c ≡ false
-    → r ≡ Err Error.BadState
+-- the same by what a call is lent: the control words, the rows of requests too, or all four slices
+pub unsound_answered : {c out : List ℕ} {call : Call Input} {clock : ℕ} {r : Result Answer Error} {e : Error} → Tests (is_sound c) (Err e)
+    → IsErrAnd r (λ y. y ≡ e)
     → (w : List ℕ) (q : List Float) (t : List ℕ) → Answered Lending.control (store c w q t) (store c w q t) out out call clock r
 unfolding is_intact
-unsound_answered d e w q t = damaged-answered d e
+unsound_answered d h w q t = damaged-answered d.0 (handed_on _ h ∙ ap Err d.1)
 
 pub sound-answered : {c d out later : List ℕ} {call : Call Input} {clock : ℕ} {r : Result Answer Error} → is_sound c ≡ true → HandledControl c d out later call clock r
     → (w : List ℕ) (q : List Float) (t : List ℕ) → Answered Lending.control (store c w q t) (store d w q t) out later call clock r
 unfolding is_intact
 sound-answered i h w q t = intact_answered i (h w q t)
 
-pub unlent_answered : {c w : List ℕ} {q : List Float} {out : List ℕ} {call : Call Input} {clock : ℕ} {r : Result Answer Error} → is_lent c w q ≡ false
-    → r ≡ Err Error.BadState
+pub unlent_answered : {c w : List ℕ} {q : List Float} {out : List ℕ} {call : Call Input} {clock : ℕ} {r : Result Answer Error} {e : Error}
+    → Tests (is_lent c w q) (Err e) → IsErrAnd r (λ y. y ≡ e)
     → (t : List ℕ) → Answered Lending.rows (store c w q t) (store c w q t) out out call clock r
 unfolding is_intact
-unlent_answered d e t = damaged-answered d e
+unlent_answered d h t = damaged-answered d.0 (handed_on _ h ∙ ap Err d.1)
 
 pub lent-answered : {c w d v : List ℕ} {q p : List Float} {out later : List ℕ} {call : Call Input} {clock : ℕ} {r : Result Answer Error} → is_lent c w q ≡ true
     → HandledRows c w q d v p out later call clock r
     → (t : List ℕ) → Answered Lending.rows (store c w q t) (store d v p t) out later call clock r
 unfolding is_intact
 lent-answered i h t = intact_answered i (h t)
+
+pub unwhole_answered : {s : Store} {out : List ℕ} {call : Call Input} {clock : ℕ} {r : Result Answer Error} {e : Error}
+    → Tests (is_whole s) (Err e) → IsErrAnd r (λ y. y ≡ e) → Answered Lending.all s s out out call clock r
+unfolding is_intact
+unwhole_answered d h = damaged-answered d.0 (handed_on _ h ∙ ap Err d.1)
+
+-- a call that changes the control words alone leaves a session, whatever texts are lent with it
+pub lent-still : {c d w : List ℕ} {q : List Float} {out later : List ℕ} {call : Call Input} (clock : ℕ) {r : Result Answer Error} → Lent c w q
+    → HandledControl c d out later call clock r → Lent d w q
+lent-still {c} {w = w} {q = q} clock lent h =
+    let texts : List ℕ = replicate texts_length 0 in
+    let before : Whole (store c w q texts) = record { sound = lent.sound; words_long = lent.words_long; reals_long = lent.reals_long; texts_long = length-replicate {A = ℕ} texts_length 0 } in
+    record { sound = (h w q texts before).whole.sound; words_long = lent.words_long; reals_long = lent.reals_long }
+
+-- a session was lent on: e is what was lent as the call left it, and so is what the caller's slices hold then
+pub lent-back : {c w d v : List ℕ} {q p : List Float} {out later : List ℕ} {call : Call Input} {clock : ℕ} {r : Result Answer Error} (e : LentSession)
+    → d ≡ e.control.now → v ≡ e.words.now → p ≡ e.reals.now
+    → ((t : List ℕ) → Answered Lending.rows (store c w q t) (store_of e t) out later call clock r)
+    → (t : List ℕ) → Answered Lending.rows (store c w q t) (store d v p t) out later call clock r
+lent-back e is_control is_words is_reals a t = rw (is_control, is_words, is_reals) (a t)
+
+pub whole-back : {s : Store} {d v t : List ℕ} {p : List Float} {out later : List ℕ} {call : Call Input} {clock : ℕ} {r : Result Answer Error} (e : LentSession)
+    → d ≡ e.control.now → v ≡ e.words.now → p ≡ e.reals.now
+    → Answered Lending.all s (store_of e t) out later call clock r → Answered Lending.all s (store d v p t) out later call clock r
+whole-back e is_control is_words is_reals a = rw (is_control, is_words, is_reals) a
 
 -- on a session that is whole a call is the model's, whatever it is lent
 pub answered-handled : {l : Lending} (s : Store) {e : Store} {out later : List ℕ} {call : Call Input} {clock : ℕ} {r : Result Answer Error}

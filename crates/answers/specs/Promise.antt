@@ -2,6 +2,7 @@
 use Rattle.std.specs.Prelude.{ℕ, List, Float, Result}
 use Rattle.model.specs.Call.{Input, Plain, Call}
 use Rattle.session.specs.View.{store, Lending}
+use Rattle.session.specs.Loan.{Session, store_of}
 use Rattle.session.specs.Slices.{Numbers, SharedNumbers, Reals, before, after, rows_before, rows_after}
 use Rattle.answers.specs.declared.Error.{Error}
 use Rattle.answers.specs.declared.Answer.{Answer}
@@ -38,20 +39,23 @@ PromiseAt c w r t out call clock a = Answered Lending.all (before c w r t) (afte
 
 -- ---- the functions behind 21's test: the model's answer
 
-abbrev pub Handles : (control words : Numbers) (reals : Reals) (texts out : Numbers) → Call Input → (clock : ℕ) → Result Answer Error → Type 0
-Handles c w r t out call clock a = Handled (before c w r t) (after c w r t) out.entry.now out.exit.now call clock a
+abbrev pub Handles : (session : Session) (texts out : Numbers) → Call Input → (clock : ℕ) → Result Answer Error → Type 0
+Handles s t out call clock a = Handled (store_of s.entry.now t.entry.now) (store_of s.exit.now t.exit.now) out.entry.now out.exit.now call clock a
 
-abbrev pub HandlesRows : (control words : Numbers) (reals : Reals) (out : Numbers) → Call Input → (clock : ℕ) → Result Answer Error → Type 0
-HandlesRows c w r out call clock a =
-    HandledRows c.entry.now w.entry.now r.entry.now c.exit.now w.exit.now r.exit.now out.entry.now out.exit.now call clock a
+abbrev pub HandledSession : (session : Session) (out later : List ℕ) → Call Input → (clock : ℕ) → Result Answer Error → Type 0
+HandledSession s out later call clock a =
+    let c = s.entry.now in let d = s.exit.now in
+    HandledRows c.control.now c.words.now c.reals.now d.control.now d.words.now d.reals.now out later call clock a
+
+abbrev pub HandlesRows : (session : Session) (out : Numbers) → Call Input → (clock : ℕ) → Result Answer Error → Type 0
+HandlesRows s out call clock a = HandledSession s out.entry.now out.exit.now call clock a
 
 abbrev pub HandlesControl : (control out : Numbers) → Call Input → (clock : ℕ) → Result Answer Error → Type 0
 HandlesControl c out call clock a = HandledControl c.entry.now c.exit.now out.entry.now out.exit.now call clock a
 
 -- those that write no event, whatever `out` is
-abbrev pub Silent : (control words : Numbers) (reals : Reals) (texts : Numbers) → Call Input → (clock : ℕ) → Result Answer Error → Type 0
-Silent c w r t call clock a = (out : List ℕ) → Handled (before c w r t) (after c w r t) out out call clock a
+abbrev pub Silent : (session : Session) (texts : Numbers) → Call Input → (clock : ℕ) → Result Answer Error → Type 0
+Silent s t call clock a = (out : List ℕ) → Handled (store_of s.entry.now t.entry.now) (store_of s.exit.now t.exit.now) out out call clock a
 
-abbrev pub SilentRows : (control words : Numbers) (reals : Reals) → Call Input → (clock : ℕ) → Result Answer Error → Type 0
-SilentRows c w r call clock a =
-    (out : List ℕ) → HandledRows c.entry.now w.entry.now r.entry.now c.exit.now w.exit.now r.exit.now out out call clock a
+abbrev pub SilentRows : (session : Session) → Call Input → (clock : ℕ) → Result Answer Error → Type 0
+SilentRows s call clock a = (out : List ℕ) → HandledSession s out out call clock a

@@ -1,10 +1,12 @@
-// What the calls on a running session answer, and the test of a lent text that several of them make.
+// What the calls on a running session answer, and the tests that several of them begin with: of the slices and of a text that they are lent.
 #![tactic(auto)]
 
 ghost use Rattle.std.specs.Prelude.{◌≡◌};
+ghost use Rattle.control.specs.Sound.{is_sound};
+ghost use Rattle.session.specs.View.{store, is_lent, is_whole};
 ghost use Rattle.session.specs.Slices.{given, optional};
 ghost use Rattle.answers.specs.Answer.{number_of};
-ghost use Rattle.answers.specs.Check.{Checks};
+ghost use Rattle.answers.specs.Check.{Tests, Checks};
 
 // The most bytes of a name or an explanation; a longer one is `NameLong`.
 pub const NAME_LENGTH_LIMIT: usize = 254;
@@ -59,6 +61,7 @@ pub struct Answer {
 
 impl Error {
     // Its number, as docs/REFERENCE.md lists them.
+    #[tactic(auto, unfolding(crate::specs::Answer::number_of, model::specs::Plan::refusal))]
     pub fn number(self) -> u32
         ensures { result ≡ number_of self }
     {
@@ -112,6 +115,39 @@ impl Answer {
             outcome: Outcome::Accepted,
             count,
         }
+    }
+}
+
+// 21's test of a call that is lent the control words alone.
+pub fn check_sound(control: &[u64]) -> Result<(), Error>
+    ensures { Tests (is_sound control.now) result }
+{
+    if control::sound(control) {
+        Ok(())
+    } else {
+        Err(Error::BadState)
+    }
+}
+
+// The same of one that is lent the rows of requests too.
+pub fn check_lent(control: &[u64], words: &[u64], reals: &[f32]) -> Result<(), Error>
+    ensures { Tests (is_lent control.now words.now reals.now) result }
+{
+    if session::lent(control, words, reals) {
+        Ok(())
+    } else {
+        Err(Error::BadState)
+    }
+}
+
+// The same of one that is lent all four slices.
+pub fn check_whole(control: &[u64], words: &[u64], reals: &[f32], texts: &[u8]) -> Result<(), Error>
+    ensures { Tests (is_whole (store control.now words.now reals.now texts.now)) result }
+{
+    if session::whole(control, words, reals, texts) {
+        Ok(())
+    } else {
+        Err(Error::BadState)
     }
 }
 

@@ -1,7 +1,7 @@
 -- What is promised of a client's request that is lent no `out`, which is an empty one: the model's answer, or 21, by what it is lent.
 -- Assumes nothing.
 use Rattle.answers.specs.declared.Error.{Error}
-use Rattle.std.specs.Prelude.{ℕ, Bool, true, false, ◌≡◌, List, [], Float, Result, Ok, Err}
+use Rattle.std.specs.Prelude.{ℕ, List, [], Float, Result}
 use Rattle.model.specs.Call.{Input, Call}
 use Rattle.session.specs.View.{store, Lending}
 use Rattle.session.specs.Slices.{Numbers, SharedNumbers, Reals, before, after, rows_before, rows_after}
@@ -25,8 +25,3 @@ AsksRows c w r call a = (clock : ℕ) → AsksRowsAt c w r call clock a
 -- all four slices
 abbrev pub AsksAll : (control words : Numbers) (reals : Reals) (texts : Numbers) → Call Input → Result Answer Error → Type 0
 AsksAll c w r t call a = (clock : ℕ) → Answered Lending.all (before c w r t) (after c w r t) [] [] call clock a
-
--- 21's test: 21 where what is lent is damaged, and nothing else
-abbrev pub Tests : (intact : Bool) → Result (Unit {0}) Error → Type 0
-Tests intact (Ok _) = intact ≡ true
-Tests intact (Err e) = (intact ≡ false) × (e ≡ Error.BadState)

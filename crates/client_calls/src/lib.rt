@@ -4,12 +4,10 @@
 
 ghost use Rattle.std.specs.Prelude.{ℕ};
 ghost use Rattle.model.specs.Call.{Input, Plain, Call};
-ghost use Rattle.control.specs.Sound.{is_sound};
-ghost use Rattle.session.specs.View.{is_lent};
 ghost use Rattle.answers.specs.Promise.{Promise, PromiseUnchanged, PromiseRows, Reply};
 ghost use Rattle.client_requests.specs.Decision.{OnlyQueued, Waits};
 ghost use Rattle.handlers.specs.Call.{handshake_call, seat_call, device_call, touchscreen_call};
-ghost use Rattle.client_calls.specs.Request.{AsksControl, AsksRows, AsksRowsAt, AsksAll, Tests};
+ghost use Rattle.client_calls.specs.Request.{AsksControl, AsksRows, AsksRowsAt, AsksAll};
 
 use answers::{Answer, Error};
 use client_requests::{timed, untimed};
@@ -19,30 +17,9 @@ use requests::eis::{
     ConnectionRequest, DeviceRequest, HandshakeRequest, SeatRequest, TextRequest,
     TouchscreenRequest,
 };
+use session::LentSession;
 
 pub mod cells;
-
-// 21's test of the control words and the rows of requests.
-fn check_lent(control: &[u64], words: &[u64], reals: &[f32]) -> Result<(), Error>
-    ensures { Tests (is_lent control.now words.now reals.now) result }
-{
-    if session::lent(control, words, reals) {
-        Ok(())
-    } else {
-        Err(Error::BadState)
-    }
-}
-
-// The same of the control words alone.
-fn check_sound(control: &[u64]) -> Result<(), Error>
-    ensures { Tests (is_sound control.now) result }
-{
-    if control::sound(control) {
-        Ok(())
-    } else {
-        Err(Error::BadState)
-    }
-}
 
 // A timed request of which nothing is asked but a known interface.
 pub fn queue_for_interface(
@@ -55,8 +32,13 @@ pub fn queue_for_interface(
 ) -> Result<Answer, Error>
     ensures { (version : ℕ) (i : Input) → OnlyQueued capability i → Waits i request → AsksRows control words reals (Call.timed interface version i) result }
 {
-    check_lent(control, words, reals)?;
-    timed::queue_for_interface(control, words, reals, capability, interface, request)
+    answers::check_lent(control, words, reals)?;
+    let mut session = LentSession {
+        control,
+        words,
+        reals,
+    };
+    timed::queue_for_interface(&mut session, capability, interface, request)
 }
 
 // A request on a touchscreen. Its Release is `release_interface`'s: here it has no `out`.
@@ -70,17 +52,14 @@ pub fn handle_touchscreen_request(
 ) -> Result<Answer, Error>
     ensures { AsksRows control words reals (touchscreen_call request touchscreen version) result }
 {
-    check_lent(control, words, reals)?;
-    let mut out = [0u8; 0];
-    handlers::handle_touchscreen_request(
+    answers::check_lent(control, words, reals)?;
+    let mut session = LentSession {
         control,
         words,
         reals,
-        touchscreen,
-        version,
-        request,
-        &mut out,
-    )
+    };
+    let mut out = [0u8; 0];
+    handlers::handle_touchscreen_request(&mut session, touchscreen, version, request, &mut out)
 }
 
 pub fn handle_utf8_request(
@@ -93,14 +72,15 @@ pub fn handle_utf8_request(
 ) -> Result<Answer, Error>
     ensures { (version : ℕ) → AsksAll control words reals texts (Call.timed interface version (Input.Utf8 text.now)) result }
 {
-    if !session::whole(control, words, reals, texts) {
-        return Err(Error::BadState);
-    }
-    let mut out = [0u8; 0];
-    handlers::handle_text_request(
+    answers::check_whole(control, words, reals, texts)?;
+    let mut session = LentSession {
         control,
         words,
         reals,
+    };
+    let mut out = [0u8; 0];
+    handlers::handle_text_request(
+        &mut session,
         texts,
         interface,
         TextRequest::Utf8,
@@ -119,8 +99,13 @@ pub fn handle_device_request(
 ) -> Result<Answer, Error>
     ensures { AsksRowsAt control words reals (device_call request device) clock result }
 {
-    check_lent(control, words, reals)?;
-    handlers::handle_device_request(control, words, reals, device, request, clock)
+    answers::check_lent(control, words, reals)?;
+    let mut session = LentSession {
+        control,
+        words,
+        reals,
+    };
+    handlers::handle_device_request(&mut session, device, request, clock)
 }
 
 // A client's Frame by itself: of a device's requests it comes most often.
@@ -134,8 +119,13 @@ pub fn queue_frame(
 ) -> Result<Answer, Error>
     ensures { AsksRows control words reals (Call.plain (Plain.device_frame device serial time)) result }
 {
-    check_lent(control, words, reals)?;
-    untimed::queue_frame(control, words, reals, device, serial, time)
+    answers::check_lent(control, words, reals)?;
+    let mut session = LentSession {
+        control,
+        words,
+        reals,
+    };
+    untimed::queue_frame(&mut session, device, serial, time)
 }
 
 // A request on a seat. Its Release is `release_seat`'s: here it has no `out`.
@@ -148,9 +138,14 @@ pub fn handle_seat_request(
 ) -> Result<Answer, Error>
     ensures { AsksRows control words reals (seat_call request seat) result }
 {
-    check_lent(control, words, reals)?;
+    answers::check_lent(control, words, reals)?;
+    let mut session = LentSession {
+        control,
+        words,
+        reals,
+    };
     let mut out = [0u8; 0];
-    handlers::handle_seat_request(control, words, reals, seat, request, &mut out)
+    handlers::handle_seat_request(&mut session, seat, request, &mut out)
 }
 
 pub fn disconnect(
@@ -160,15 +155,14 @@ pub fn disconnect(
 ) -> Result<Answer, Error>
     ensures { AsksRows control words reals (Call.plain Plain.disconnect) result }
 {
-    check_lent(control, words, reals)?;
-    let mut out = [0u8; 0];
-    handlers::handle_connection_request(
+    answers::check_lent(control, words, reals)?;
+    let mut session = LentSession {
         control,
         words,
         reals,
-        ConnectionRequest::Disconnect,
-        &mut out,
-    )
+    };
+    let mut out = [0u8; 0];
+    handlers::handle_connection_request(&mut session, ConnectionRequest::Disconnect, &mut out)
 }
 
 pub fn release_seat(
@@ -180,8 +174,13 @@ pub fn release_seat(
 ) -> Result<Answer, Error>
     ensures { PromiseRows control words reals out (Plain.seat_release seat) result }
 {
-    check_lent(control, words, reals)?;
-    untimed::release_seat(control, words, reals, seat, out)
+    answers::check_lent(control, words, reals)?;
+    let mut session = LentSession {
+        control,
+        words,
+        reals,
+    };
+    untimed::release_seat(&mut session, seat, out)
 }
 
 // The Release of the interface for a capability.
@@ -193,21 +192,21 @@ pub fn release_interface(
 ) -> Result<Answer, Error>
     ensures { Promise control out (Plain.interface_release capability interface) result }
 {
-    check_sound(control)?;
+    answers::check_sound(control)?;
     untimed::release_interface(control, capability, interface, out)
 }
 
 pub fn sync(control: &[u64], callback: u64, version: u32, out: &mut [u8]) -> Result<Answer, Error>
     ensures { PromiseUnchanged control out (Plain.sync callback version) result }
 {
-    check_sound(control)?;
+    answers::check_sound(control)?;
     untimed::sync(callback, version, out)
 }
 
 pub fn pingpong_done(control: &[u64]) -> Result<Answer, Error>
     ensures { Reply control Plain.pingpong_done result }
 {
-    check_sound(control)?;
+    answers::check_sound(control)?;
     Ok(Answer::accepted())
 }
 
@@ -218,6 +217,6 @@ pub fn handle_handshake_request(
 ) -> Result<Answer, Error>
     ensures { AsksControl control (handshake_call request text.now) result }
 {
-    check_sound(control)?;
+    answers::check_sound(control)?;
     handlers::handle_handshake_request(request, text)
 }

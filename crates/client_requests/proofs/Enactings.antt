@@ -111,10 +111,6 @@ module _ {c e : List ℕ} (k : ℕ) (change : TouchChange) (h : EnactedControl c
 
 -- ---- Utf8
 
-pub either : {A B C D : Type 0} → (A → C) → (B → D) → A ⊎ B → C ⊎ D
-either f g (inl x) = inl (f x)
-either f g (inr y) = inr (g y)
-
 module _ (s : Store) (out : List ℕ) (interface version clock : ℕ) (text : List ℕ) (r : Result Answer Error) (whole : Whole s) (valid : is_utf8 text ≡ true) where
   abbrev call : Call Input
   call = Call.timed interface version (Input.Utf8 text)

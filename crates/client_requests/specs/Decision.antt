@@ -12,7 +12,7 @@ use Rattle.model.specs.Decide.{Found, Rule, handled_by, handler, if_held, handle
 use Rattle.model.specs.Step.{Step, unchanged, carried_out, step}
 use Rattle.control.specs.Control.{pending_limit, device_count, pending_at, core_at}
 use Rattle.session.specs.View.{Store, session, item_at}
-use Rattle.session.specs.Slices.{Numbers, Reals}
+use Rattle.session.specs.Loan as loan
 use Rattle.answers.specs.Answer.{error_of}
 use Rattle.answers.specs.Promise.{SilentRows}
 use Rattle.answers.specs.declared.Error.{Error}
@@ -89,7 +89,7 @@ abbrev pub Waits : Input → Cell → Type 0
 Waits input request = (texts : List ℕ) → item (sight input) (load input) ≡ item_at texts (row_of request)
 
 -- a request met what was decided on it
-abbrev pub CarriesOut : (control words : Numbers) (reals : Reals) → Decision → Result Answer Error → Type 0
-CarriesOut c w r d a =
-    (interface version clock : ℕ) (input : Input) (request : Cell) → Decided c.entry.now interface version (sight input) request d → Waits input request
-    → SilentRows c w r (Call.timed interface version input) clock a
+abbrev pub CarriesOut : (session : loan.Session) → Decision → Result Answer Error → Type 0
+CarriesOut s d a =
+    (interface version clock : ℕ) (input : Input) (request : Cell) → Decided s.entry.now.control.now interface version (sight input) request d → Waits input request
+    → SilentRows s (Call.timed interface version input) clock a

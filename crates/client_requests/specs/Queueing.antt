@@ -8,7 +8,7 @@ use Rattle.model.specs.Edit.{Edit}
 use Rattle.model.specs.Plan.{Plan, edit}
 use Rattle.model.specs.Decide.{decide}
 use Rattle.session.specs.View.{Store, session, request_in, Whole}
-use Rattle.session.specs.Slices.{Numbers, Reals, rows_before, rows_after}
+use Rattle.session.specs.Loan.{Session, store_of}
 use Rattle.answers.specs.Meets.{Handled}
 use Rattle.answers.specs.declared.Answer.{Answer}
 
@@ -25,7 +25,7 @@ pub record Queues (request : EisRequest) (call : Call Input) (clock : ℕ) (s : 
   pub plan : decide (view (session s)) clock (map_call sight call) ≡ edit (Edit.queue untimed ∷ [])
 
 -- the request is queued, or the queue is full
-abbrev pub QueuesRows : (control words : Numbers) (reals : Reals) → EisRequest → Result Answer Error → Type 0
-QueuesRows c w r request a =
-    (call : Call Input) (clock : ℕ) (texts out : List ℕ) → Queues request call clock (rows_before c w r texts) → Whole (rows_before c w r texts)
-    → Handled (rows_before c w r texts) (rows_after c w r texts) out out call clock a
+abbrev pub QueuesRows : (session : Session) → EisRequest → Result Answer Error → Type 0
+QueuesRows s request a =
+    (call : Call Input) (clock : ℕ) (texts out : List ℕ) → let before = store_of s.entry.now texts in Queues request call clock before → Whole before
+    → Handled before (store_of s.exit.now texts) out out call clock a

@@ -1,5 +1,5 @@
 // The timed requests. What becomes of one is decided without its payload; then it waits in its device's pending list.
-ghost use Rattle.std.specs.Prelude.{◌≡◌, true, false, map, ℕ, ◌<◌};
+ghost use Rattle.std.specs.Prelude.{◌≡◌, true, false, map, ℕ, ◌<◌, ◌≤◌, ◌⊎◌};
 ghost use Rattle.eiproto.specs.Capability.{capability_index};
 ghost use Rattle.utf8.specs.Rfc3629.{is_utf8};
 ghost use Rattle.model.specs.Call.{Kind, Input, touching, Call};
@@ -9,8 +9,10 @@ ghost use Rattle.control.specs.Table.{first};
 ghost use Rattle.control.specs.Control.{device_count, core_at, cores_of};
 ghost use Rattle.control.specs.Sound.{Sound};
 ghost use Rattle.eiproto.specs.Told.{told};
-ghost use Rattle.session.specs.View.{store, Lent, Whole};
+ghost use Rattle.session.specs.View.{Whole};
+ghost use Rattle.session.specs.Loan.{SameLoan, store_of};
 ghost use Rattle.session.specs.Enact.{EnactsControl};
+ghost use Rattle.texts.specs.Texts.{text_length_limit};
 ghost use Rattle.answers.specs.Promise.{Silent, SilentRows};
 ghost use Rattle.client_requests.specs.Decision.{amends_of, goes_down, CanChange, queue_on, Fits, Decided, OnlyQueued, OnlyHeld, Waits, CarriesOut};
 
@@ -19,6 +21,7 @@ use control::PENDING_LIMIT;
 use eiproto::event::DeviceCapability;
 use requests::cell::Cell;
 use requests::row::TEXTS_LIMIT;
+use session::LentSession;
 use texts::TEXT_LENGTH_LIMIT;
 use touches::EIS_MAX_TOUCHES;
 
@@ -154,70 +157,75 @@ fn change_touches(control: &mut [u64], k: usize, change: TouchChange)
 
 // What was decided on a request, carried out.
 pub fn queue_request(
-    control: &mut [u64],
-    words: &mut [u64],
-    reals: &mut [f32],
+    session: &mut LentSession<'_, '_, '_>,
     decision: Result<Option<Queued>, Error>,
 ) -> Result<Answer, Error>
-    requires { Lent control.old words.old reals.old × Fits control.old decision }
-    ensures { CarriesOut control words reals decision result }
+    requires { Fits session.old.control.now decision }
+    ensures step { CarriesOut session decision result }
+    ensures loan { SameLoan session.old session.new }
 {
     let Some(queued) = decision? else {
         return Ok(Answer::accepted());
     };
-    change_touches(control, queued.slot, queued.change);
-    queue::pend(control, words, reals, queued.slot, queued.request);
+    change_touches(session.control, queued.slot, queued.change);
+    queue::pend(session, queued.slot, queued.request);
     Ok(Answer::accepted())
 }
 
 // A request of which nothing is asked but a known interface.
 pub fn queue_for_interface(
-    control: &mut [u64],
-    words: &mut [u64],
-    reals: &mut [f32],
+    session: &mut LentSession<'_, '_, '_>,
     capability: DeviceCapability,
     interface: u64,
     request: Cell,
 ) -> Result<Answer, Error>
-    requires { Lent control.old words.old reals.old }
-    ensures { (version clock : ℕ) (i : Input) → OnlyQueued capability i → Waits i request → SilentRows control words reals (Call.timed interface version i) clock result }
+    ensures step { (version clock : ℕ) (i : Input) → OnlyQueued capability i → Waits i request → SilentRows session (Call.timed interface version i) clock result }
+    ensures loan { SameLoan session.old session.new }
 {
+    let control = &mut *session.control;
     let Some(k) = device_for_interface(control, capability, interface) else {
         return Ok(Answer::accepted());
     };
     if PENDING_LIMIT <= control::pending_count(control, k) {
         return Err(Error::FullPending);
     }
-    queue::pend(control, words, reals, k, request);
+    queue::pend(session, k, request);
     Ok(Answer::accepted())
+}
+
+// Whether a text may have so many bytes.
+fn is_text_length(n: usize) -> bool
+    ensures { (result ≡ true → (0 < n) × (n ≤ text_length_limit)) × (result ≡ false → (n ≡ 0) ⊎ (text_length_limit < n)) }
+{
+    0 < n && n <= TEXT_LENGTH_LIMIT
 }
 
 // Utf8, whose text is UTF-8: "0 bytes or above 254" is 6, then the pending list and the texts must have room.
 pub fn queue_utf8(
-    control: &mut [u64],
-    words: &mut [u64],
-    reals: &mut [f32],
+    session: &mut LentSession<'_, '_, '_>,
     texts: &mut [u8],
     interface: u64,
     text: &[u8],
 ) -> Result<Answer, Error>
-    requires { Whole (store control.old words.old reals.old texts.old) × (is_utf8 text.now ≡ true) }
-    ensures { (version clock : ℕ) → Silent control words reals texts (Call.timed interface version (Input.Utf8 text.now)) clock result }
+    requires { Whole (store_of session.old texts.old) × (is_utf8 text.now ≡ true) }
+    ensures step { (version clock : ℕ) → Silent session texts (Call.timed interface version (Input.Utf8 text.now)) clock result }
+    ensures loan { SameLoan session.old session.new }
 {
+    let control = &mut *session.control;
     let Some(k) = device_for_interface(control, DeviceCapability::Text, interface) else {
         return Ok(Answer::accepted());
     };
-    if text.len() == 0 || TEXT_LENGTH_LIMIT < text.len() {
+    if !is_text_length(text.len()) {
         return Err(Error::InvalidTextLength);
     }
     if PENDING_LIMIT <= control::pending_count(control, k) {
         return Err(Error::FullPending);
     }
-    let live = texts::live_texts(control, words, reals);
+    let live = texts::live_texts(session);
     if TEXTS_LIMIT <= live.count {
         return Err(Error::FullTexts);
     }
     let slot = texts::free_slot(live.used);
-    texts::pend_text(control, words, reals, texts, k, slot, text);
+    texts::pend_text(session, texts, k, slot, text);
     Ok(Answer::accepted())
 }

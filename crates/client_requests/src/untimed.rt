@@ -3,7 +3,7 @@ ghost use Rattle.std.specs.Prelude.{ℕ, List};
 ghost use Rattle.model.specs.Call.{Input, Plain, Call};
 ghost use Rattle.model.specs.Decide.{handle_seat, handle_device};
 ghost use Rattle.control.specs.Sound.{Sound};
-ghost use Rattle.session.specs.View.{Lent};
+ghost use Rattle.session.specs.Loan.{SameLoan};
 ghost use Rattle.answers.specs.Meets.{HandledControl};
 ghost use Rattle.answers.specs.Promise.{HandlesControl, HandlesRows, SilentRows};
 ghost use Rattle.client_requests.specs.Queueing.{Planned, QueuesRows};
@@ -13,24 +13,24 @@ use eiproto::eiproto_eis::CALLBACK;
 use eiproto::event::DeviceCapability;
 use events::Mark;
 use requests::request::EisRequest;
+use session::LentSession;
 use wire::backend::FIRST_SERVER_ID;
 use wire::event;
 use wire::event::Event;
 
 // A request that flushes nothing, behind all others.
 pub fn queue_untimed(
-    control: &mut [u64],
-    words: &mut [u64],
-    reals: &mut [f32],
+    session: &mut LentSession<'_, '_, '_>,
     request: EisRequest,
 ) -> Result<Answer, Error>
-    requires { Lent control.old words.old reals.old }
-    ensures { QueuesRows control words reals request result }
+    ensures step { QueuesRows session request result }
+    ensures loan { SameLoan session.old session.new }
 {
+    let control = &mut *session.control;
     if !queue::has_room(control, 1) {
         return Err(Error::FullQueue);
     }
-    queue::push(control, words, reals, request);
+    queue::push(session, request);
     Ok(Answer::accepted())
 }
 
@@ -73,33 +73,31 @@ pub fn sync_message(
 
 // "A released seat takes its devices with it .. Seat Release for an unknown seat sends nothing."
 pub fn release_seat(
-    control: &mut [u64],
-    words: &mut [u64],
-    reals: &mut [f32],
+    session: &mut LentSession<'_, '_, '_>,
     seat: u64,
     out: &mut [u8],
 ) -> Result<Answer, Error>
-    requires { Lent control.old words.old reals.old }
-    ensures { (clock : ℕ) → HandlesRows control words reals out (Call.plain (Plain.seat_release seat)) clock result }
+    ensures step { (clock : ℕ) → HandlesRows session out (Call.plain (Plain.seat_release seat)) clock result }
+    ensures loan { SameLoan session.old session.new }
 {
+    let control = &mut *session.control;
     let Some(_) = control::find_seat(control, seat) else {
         return Ok(Answer::accepted());
     };
-    removal::remove_seat(control, words, reals, seat, out)
+    removal::remove_seat(session, seat, out)
 }
 
 // Bind and RequestDevice: "on a known seat with a bit above bit 6, or a bit not in the seat's set" is 3.
 pub fn queue_for_seat(
-    control: &mut [u64],
-    words: &mut [u64],
-    reals: &mut [f32],
+    session: &mut LentSession<'_, '_, '_>,
     seat: u64,
     capabilities: u64,
     request: EisRequest,
 ) -> Result<Answer, Error>
-    requires { Lent control.old words.old reals.old }
-    ensures { (call : Call Input) (clock : ℕ) → Planned request call clock (λ v u. handle_seat v seat capabilities u) → SilentRows control words reals call clock result }
+    ensures step { (call : Call Input) (clock : ℕ) → Planned request call clock (λ v u. handle_seat v seat capabilities u) → SilentRows session call clock result }
+    ensures loan { SameLoan session.old session.new }
 {
+    let control = &mut *session.control;
     let Some(k) = control::find_seat(control, seat) else {
         return Ok(Answer::accepted());
     };
@@ -109,21 +107,20 @@ pub fn queue_for_seat(
     if !DeviceCapability::contains(control::seat_capabilities(control, k), capabilities) {
         return Err(Error::InvalidCapabilities);
     }
-    queue_untimed(control, words, reals, request)
+    queue_untimed(session, request)
 }
 
 // "If the device has pending requests, a Frame with time `now` and the session's last serial goes first .. ; then the request."
 pub fn queue_for_device(
-    control: &mut [u64],
-    words: &mut [u64],
-    reals: &mut [f32],
+    session: &mut LentSession<'_, '_, '_>,
     device: u64,
     clock: u64,
     request: EisRequest,
 ) -> Result<Answer, Error>
-    requires { Lent control.old words.old reals.old }
-    ensures { (call : Call Input) → Planned request call clock (λ v u. handle_device v clock device u) → SilentRows control words reals call clock result }
+    ensures step { (call : Call Input) → Planned request call clock (λ v u. handle_device v clock device u) → SilentRows session call clock result }
+    ensures loan { SameLoan session.old session.new }
 {
+    let control = &mut *session.control;
     let Some(k) = control::find_device(control, device) else {
         return Ok(Answer::accepted());
     };
@@ -131,31 +128,30 @@ pub fn queue_for_device(
         return Err(Error::FullQueue);
     }
     let serial = control::last_serial(control);
-    queue::frame(control, words, reals, k, serial, clock);
-    queue::push(control, words, reals, request);
+    queue::frame(session, k, serial, clock);
+    queue::push(session, request);
     Ok(Answer::accepted())
 }
 
 // A client's Frame. It comes most often, so that a caller has it in place: its answer is then not written to memory and read again.
 #[inline]
 pub fn queue_frame(
-    control: &mut [u64],
-    words: &mut [u64],
-    reals: &mut [f32],
+    session: &mut LentSession<'_, '_, '_>,
     device: u64,
     serial: u32,
     time: u64,
 ) -> Result<Answer, Error>
-    requires { Lent control.old words.old reals.old }
-    ensures { (clock : ℕ) → SilentRows control words reals (Call.plain (Plain.device_frame device serial time)) clock result }
+    ensures step { (clock : ℕ) → SilentRows session (Call.plain (Plain.device_frame device serial time)) clock result }
+    ensures loan { SameLoan session.old session.new }
 {
+    let control = &mut *session.control;
     let Some(k) = control::find_device(control, device) else {
         return Ok(Answer::accepted());
     };
     if !queue::frame_fits(control, k) {
         return Err(Error::FullQueue);
     }
-    queue::frame(control, words, reals, k, serial, time);
+    queue::frame(session, k, serial, time);
     Ok(Answer::accepted())
 }
 

@@ -1,5 +1,8 @@
 -- The call that takes every seat out and tells the client. Assumes nothing.
-use Rattle.std.specs.Prelude.{Result, Ok, Err}
+use Rattle.std.specs.Prelude as std
+use Rattle.std.specs.Prelude.{Result, Ok, Err, Some, None}
+use Rattle.std.specs.Borrow.{Bor}
+use Rattle.std.specs.Option as option
 use Rattle.model.specs.Plan as plan
 use Prim.Native.Nat.{ℕ, ◌+◌, ◌*◌, ◌≤◌, ◌<◌}
 use mathlib.Core.Path.{◌≡◌, refl, sym, ap, ap₂, ◌∙◌}
@@ -12,8 +15,8 @@ use lib.ListN.{length}
 use Rattle.eiproto.specs.declared.eiproto_enum.DisconnectReason.{DisconnectReason}
 use Rattle.eiproto.specs.Enum.{disconnect_reason_number}
 use Rattle.wire.specs.declared.event.Event.{Event}
-use Rattle.wire.specs.Bits.{splice, widths}
-use Rattle.wire.specs.Record.{layout, text_of, fixed_length, record_length, event_record}
+use Rattle.wire.specs.Bits.{widths}
+use Rattle.wire.specs.Record.{layout, text_of, fixed_length, record_length}
 use Rattle.model.specs.Call.{Input, Load, Plain, Call, Split, map_call, split}
 use Rattle.model.specs.Session.{Connection, Session, view}
 use Rattle.model.specs.Edit.{Edit, raised, connection_with, objects_with, with_connection, enact, enact_all}
@@ -24,7 +27,7 @@ use Rattle.model_steps.proofs.Counted.{removes-seats}
 use Rattle.model_steps.proofs.Steps.{step-remove, step-remove-short}
 use Rattle.control.specs.Control.{connection_of}
 use Rattle.session.specs.View.{Store, store, session_in, session, Whole}
-use Rattle.session.specs.Slices.{optional}
+use Rattle.session.specs.Slices.{given}
 use Rattle.session.specs.Enact.{EnactedControl, EnactedRows}
 use Rattle.session.proofs.Views.{enacted_join, view-connection, pending-few}
 use Rattle.events.specs.declared.Mark.{Mark}
@@ -39,14 +42,18 @@ use Rattle.answers.specs.Texts.{TextsAfter}
 use Rattle.answers.specs.Meets.{turn, Handled}
 use Rattle.answers.proofs.Meetings.{meets-done, whole-after, over-handled, told-handled}
 
--- ---- the event: a text that is not given is no part of it
+-- ---- the event: an explanation that is not given is no text
 
-lent-records : (given : Bool) (text : List ℕ) (object serial reason : ℕ)
-    → records (record { object = object; event = Event.Disconnected serial reason given; text = text } ∷ [])
-    ≡ records (record { object = object; event = Event.Disconnected serial reason (explained (optional given text)); text = explanation_text (optional given text) } ∷ [])
-unfolding records event_record record_length text_of layout explained explanation_text
-lent-records true text object serial reason = refl
-lent-records false text object serial reason = refl
+pub given_explained : (explanation : std.Option (Bor (List ℕ))) → option.is_some explanation ≡ explained (given explanation)
+unfolding explained
+given_explained None = refl
+given_explained (Some text) = refl
+
+pub given_text : (explanation : std.Option (Bor (List ℕ))) (other : Bor (List ℕ)) → other.now ≡ []
+    → (option.unwrap_or explanation other).now ≡ explanation_text (given explanation)
+unfolding explanation_text
+given_text None other e = e
+given_text (Some text) other e = refl
 
 -- its length is not the serial's matter
 sample_length : (given : Bool) (text : List ℕ) (serial reason : ℕ)
@@ -85,11 +92,13 @@ unfolding decide_plain disconnected
 disconnected-refused s w out clock reason explanation e {r} checked told =
     told-handled s out (Plain.disconnected reason explanation) clock (error_of e) r w (checked _) told
 
-module _ (s : Store) (w : Whole s) (out : List ℕ) (clock : ℕ) (reason : DisconnectReason) (given : Bool) (text : List ℕ) where
+module _ (s : Store) (w : Whole s) (out : List ℕ) (clock : ℕ) (reason : DisconnectReason) (explanation : Option (List ℕ)) where
   abbrev call : Call Input
-  call = Call.plain (Plain.disconnected reason (optional given text))
+  call = Call.plain (Plain.disconnected reason explanation)
 
-  module _ (fine : Checks (optional given text) (Ok tt)) (number : ℕ) (numbered : number ≡ disconnect_reason_number reason) where
+  -- the flag and the text of the event, and the reason's number, are the code's
+  module _ (fine : Checks explanation (Ok tt)) (flag : Bool) (flagged : flag ≡ explained explanation)
+      (text : List ℕ) (worded : text ≡ explanation_text explanation) (number : ℕ) (numbered : number ≡ disconnect_reason_number reason) where
     abbrev connection : Connection
     connection = connection_of s.control
 
@@ -100,7 +109,7 @@ module _ (s : Store) (w : Whole s) (out : List ℕ) (clock : ℕ) (reason : Disc
     last = raised (length gone) connection.last_serial
 
     abbrev ends : List Sent
-    ends = record { object = connection.id; event = Event.Disconnected last number (explained (optional given text)); text = explanation_text (optional given text) } ∷ []
+    ends = record { object = connection.id; event = Event.Disconnected last number (explained explanation); text = explanation_text explanation } ∷ []
 
     abbrev told : List Sent
     told = destroyed connection.last_serial gone ++ ends
@@ -115,42 +124,40 @@ module _ (s : Store) (w : Whole s) (out : List ℕ) (clock : ℕ) (reason : Disc
     unfolding split map_call decide decide_plain disconnected
     planned =
         fine _
-        ∙ ap₂ (plan_of (disconnect_reason_number reason) (optional given text)) (view-connection s)
+        ∙ ap₂ (plan_of (disconnect_reason_number reason) explanation) (view-connection s)
         (ap (λ (c : Connection). seats_objects c.seats (view (session s)).devices) (view-connection s) ∙ seats_objects-seen s connection.seats)
-        ∙ ap (λ (n : ℕ). plan_of n (optional given text) connection gone) (sym numbered)
+        ∙ ap (λ (n : ℕ). plan_of n explanation connection gone) (sym numbered)
 
-    ends-length : length (records ends) ≡ record_length (Event.Disconnected 0 number given) text
+    ends-length : length (records ends) ≡ record_length (Event.Disconnected 0 number flag) text
     ends-length =
-        ap length (sym (lent-records given text connection.id last number)) ∙ one_length connection.id (Event.Disconnected last number given) text
-        ∙ sample_length given text last number
+        one_length connection.id (Event.Disconnected last number (explained explanation)) (explanation_text explanation)
+        ∙ rw (← flagged, ← worded) (sample_length flag text last number)
 
-    told-length : length (records told) ≡ 14 * length gone + record_length (Event.Disconnected 0 number given) text
+    told-length : length (records told) ≡ 14 * length gone + record_length (Event.Disconnected 0 number flag) text
     told-length =
         let a = append-length (destroyed connection.last_serial gone) ends in
         let b = destroyed-length connection.last_serial gone in
         let d = ends-length in
         omega arith
 
-    pub disconnected-short : {r : Result Answer Error} → length out < 14 * length gone + record_length (Event.Disconnected 0 number given) text
+    pub disconnected-short : {r : Result Answer Error} → length out < 14 * length gone + record_length (Event.Disconnected 0 number flag) text
         → Tells r (error_of Error.ShortOut) 0 → Handled s s out out call clock r
     unfolding split
     disconnected-short {r} h =
         over-handled s out call clock (error_of Error.ShortOut) r w
         (step-remove-short t (session s) told edits planned (removes-seats _ _) (pending-few s w) (omega (arith, told-length)))
 
-    module _ (room : 14 * length gone + record_length (Event.Disconnected 0 number given) text ≤ length out) {m : List ℕ} {mark v : Mark}
+    module _ (room : 14 * length gone + record_length (Event.Disconnected 0 number flag) text ≤ length out) {m : List ℕ} {mark v : Mark}
         (p : Destroys out m mark gone v) (start : mark.at ≡ 0) (serial : mark.serial ≡ connection.last_serial) (l : length m ≡ length out) where
       sends : {later : List ℕ} {object n : ℕ} → object ≡ connection.id
-          → Sends m later v.at (record { object = object; event = Event.Disconnected v.serial number given; text = text } ∷ []) n → Sends out later 0 told n
+          → Sends m later v.at (record { object = object; event = Event.Disconnected v.serial number flag; text = text } ∷ []) n → Sends out later 0 told n
       sends {later} {object} {n} o q =
-          let q' : Sends m later v.at (record { object = connection.id; event = Event.Disconnected last number given; text = text } ∷ []) n = rw (← o, ← last_is p serial) q in
-          let e = lent-records given text connection.id last number in
+          let q' : Sends m later v.at ends n = rw (← o, ← last_is p serial, ← flagged, ← worded) q in
           let first : Sends out m 0 (destroyed connection.last_serial gone) v.at = rw (← start, ← serial) (destroys-sends p) in
-          sends_join (omega (arith, p.at, ends-length)) first
-          (record { bytes = q'.bytes ∙ ap (splice m v.at) e; next = q'.next ∙ ap (λ (x : List ℕ). v.at + length x) e })
+          sends_join (omega (arith, p.at, ends-length)) first q'
 
       pub disconnected-done : {later d c f : List ℕ} {g : List Float} {object n : ℕ} {r : Result Answer Error} → object ≡ connection.id
-          → Sends m later v.at (record { object = object; event = Event.Disconnected v.serial number given; text = text } ∷ []) n
+          → Sends m later v.at (record { object = object; event = Event.Disconnected v.serial number flag; text = text } ∷ []) n
           → EnactedControl s.control d (Edit.raise (length gone) ∷ Edit.end_connection ∷ []) → EnactedRows d s.words s.reals c f g (remove_seats (connection_of d).seats)
           → length f ≡ length s.words → length g ≡ length s.reals → Tells r plan.Result.accepted n
           → Handled s (store c f g s.texts) out later call clock r

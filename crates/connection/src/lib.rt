@@ -7,8 +7,8 @@ ghost use Rattle.model.specs.Call.{Plain, Call};
 ghost use Rattle.model.specs.Decide.{negotiated};
 ghost use Rattle.eiproto.specs.Told.{told};
 ghost use Rattle.control.specs.Control.{control_length, connection_of};
-ghost use Rattle.session.specs.View.{Lent};
-ghost use Rattle.session.specs.Slices.{optional, text, given};
+ghost use Rattle.session.specs.Loan.{SameLoan};
+ghost use Rattle.session.specs.Slices.{given};
 ghost use Rattle.answers.specs.Check.{Checks};
 ghost use Rattle.answers.specs.Promise.{Promise, Reply, PromiseRows, HandlesControl, HandlesRows};
 ghost use Rattle.connection.specs.Seat.{Tested};
@@ -18,6 +18,7 @@ use eiproto::eiproto_eis;
 use eiproto::eiproto_enum::DisconnectReason;
 use eiproto::event::DeviceCapability;
 use events::Mark;
+use session::LentSession;
 use wire::event::Event;
 use wire::{backend, event};
 
@@ -61,9 +62,7 @@ pub fn add_seat(
 ) -> Result<Answer, Error>
     ensures { Promise control out (Plain.add_seat (given name.entry) capabilities) result }
 {
-    if !control::sound(control) {
-        return Err(Error::BadState);
-    }
+    answers::check_sound(control)?;
     answers::check_optional(name)?;
     if DeviceCapability::has_unknown(capabilities) {
         return Err(Error::BadCapabilities);
@@ -71,20 +70,21 @@ pub fn add_seat(
     add_seat_at(control, name, capabilities, out)
 }
 
-// With an explanation that is fine, or none: only 19 is left. A text that is not given is left aside by the event.
+// With an explanation that is fine, or none: only 19 is left.
 fn disconnected_at(
-    control: &mut [u64],
-    words: &mut [u64],
-    reals: &mut [f32],
+    session: &mut LentSession<'_, '_, '_>,
     reason: DisconnectReason,
-    given: bool,
-    explanation: &[u8],
+    explanation: Option<&[u8]>,
     out: &mut [u8],
 ) -> Result<Answer, Error>
-    requires { Lent control.old words.old reals.old × Checks (optional given explanation.now) (Ok tt) }
-    ensures { (clock : ℕ) → HandlesRows control words reals out (Call.plain (Plain.disconnected reason (text given explanation))) clock result }
+    requires { Checks (given explanation) (Ok tt) }
+    ensures step { (clock : ℕ) → HandlesRows session out (Call.plain (Plain.disconnected reason (given explanation.entry))) clock result }
+    ensures loan { SameLoan session.old session.new }
 {
+    let control = &mut *session.control;
     let number = reason.number();
+    let explained = explanation.is_some();
+    let text = explanation.unwrap_or(b"");
     let gone = events::DESTROYED_LENGTH * events::seats_objects(control);
     let mark = Mark {
         at: 0,
@@ -93,9 +93,9 @@ fn disconnected_at(
     let sample = Event::Disconnected {
         serial: 0,
         reason: number,
-        explained: given,
+        explained,
     };
-    if out.len() < gone + event::record_length(sample, explanation) {
+    if out.len() < gone + event::record_length(sample, text) {
         return Err(Error::ShortOut);
     }
     let connection = control::connection_id(control);
@@ -103,11 +103,11 @@ fn disconnected_at(
     let told = Event::Disconnected {
         serial: last.serial,
         reason: number,
-        explained: given,
+        explained,
     };
-    let count = events::send(out, last.at, connection, told, explanation);
+    let count = events::send(out, last.at, connection, told, text);
     session::end_connection(control, last.serial);
-    removal::remove_seats(control, words, reals);
+    removal::remove_seats(session);
     Ok(Answer::sent(count))
 }
 
@@ -122,23 +122,21 @@ pub fn disconnected(
 ) -> Result<Answer, Error>
     ensures { PromiseRows control words reals out (Plain.disconnected reason (given explanation.entry)) result }
 {
-    if !session::lent(control, words, reals) {
-        return Err(Error::BadState);
-    }
+    answers::check_lent(control, words, reals)?;
     answers::check_optional(explanation)?;
-    match explanation {
-        Some(text) => disconnected_at(control, words, reals, reason, true, text, out),
-        None => disconnected_at(control, words, reals, reason, false, b"", out),
-    }
+    let mut session = LentSession {
+        control,
+        words,
+        reals,
+    };
+    disconnected_at(&mut session, reason, explanation, out)
 }
 
 // `Connection::last_serial`.
 pub fn last_serial(control: &[u64]) -> Result<Answer, Error>
     ensures { Reply control Plain.last_serial result }
 {
-    if !control::sound(control) {
-        return Err(Error::BadState);
-    }
+    answers::check_sound(control)?;
     Ok(Answer::told(Outcome::Value(control::last_serial(control))))
 }
 
@@ -155,9 +153,7 @@ fn negotiated(control: &[u64], name: &[u8]) -> Option<u32>
 pub fn has_interface(control: &[u64], name: &[u8]) -> Result<Answer, Error>
     ensures { Reply control (Plain.has_interface name.now) result }
 {
-    if !control::sound(control) {
-        return Err(Error::BadState);
-    }
+    answers::check_sound(control)?;
     if !utf8::valid(name) {
         return Err(Error::BadUtf8);
     }
@@ -169,9 +165,7 @@ pub fn has_interface(control: &[u64], name: &[u8]) -> Result<Answer, Error>
 pub fn interface_version(control: &[u64], name: &[u8]) -> Result<Answer, Error>
     ensures { Reply control (Plain.interface_version name.now) result }
 {
-    if !control::sound(control) {
-        return Err(Error::BadState);
-    }
+    answers::check_sound(control)?;
     if !utf8::valid(name) {
         return Err(Error::BadUtf8);
     }

@@ -1,7 +1,8 @@
 // `EisRequestConverter` of src/request.rs: what a client sends, gathered into timed frames, and handed over one by one.
 // A session lies in four lent slices; `session` says what they mean.
 ghost use Rattle.std.specs.Prelude.{ℕ};
-ghost use Rattle.session.specs.View.{store, Whole};
+ghost use Rattle.session.specs.View.{Whole};
+ghost use Rattle.session.specs.Loan.{SameLoan, store_of};
 ghost use Rattle.answers.specs.Promise.{PromiseAt, Handles};
 ghost use Rattle.handlers.specs.Call.{interface_call, call_of};
 ghost use Rattle.converter.specs.Next.{Begins, next_of, Delivers};
@@ -13,6 +14,7 @@ use requests::cell::Cell;
 use requests::eis::{InterfaceRequest, Request};
 use requests::request::EisRequest;
 use requests::row;
+use session::LentSession;
 
 // A client's request on the object of this id and version, at this clock. The text is that of a request that carries one.
 pub fn handle_request(
@@ -29,30 +31,54 @@ pub fn handle_request(
 ) -> Result<Answer, Error>
     ensures { PromiseAt control words reals texts out (call_of request object version text.now) clock result }
 {
-    if !session::whole(control, words, reals, texts) {
-        return Err(Error::BadState);
-    }
+    answers::check_whole(control, words, reals, texts)?;
+    let mut session = LentSession {
+        control,
+        words,
+        reals,
+    };
+    handle_on(
+        &mut session,
+        texts,
+        object,
+        version,
+        request,
+        text,
+        clock,
+        out,
+    )
+}
+
+// The same behind 21's test, for a caller that has made it.
+pub fn handle_on(
+    session: &mut LentSession<'_, '_, '_>,
+    texts: &mut [u8],
+    object: u64,
+    version: u32,
+    request: Request,
+    text: &[u8],
+    clock: u64,
+    out: &mut [u8],
+) -> Result<Answer, Error>
+    requires { Whole (store_of session.old texts.old) }
+    ensures step { Handles session texts out (call_of request object version text.now) clock result }
+    ensures loan { SameLoan session.old session.new }
+{
     match request {
         Request::Handshake(r) => handlers::handle_handshake_request(r, text),
-        Request::Connection(r) => handlers::handle_connection_request(
-            control, words, reals, r, out,
-        ),
+        Request::Connection(r) => handlers::handle_connection_request(session, r, out),
         Request::PingpongDone => Ok(Answer::accepted()),
-        Request::Seat(r) => handlers::handle_seat_request(control, words, reals, object, r, out),
-        Request::Device(r) => handlers::handle_device_request(
-            control, words, reals, object, r, clock,
-        ),
+        Request::Seat(r) => handlers::handle_seat_request(session, object, r, out),
+        Request::Device(r) => handlers::handle_device_request(session, object, r, clock),
         Request::Interface(r) => handle_interface_request(
-            control, words, reals, texts, object, version, r, text, out,
+            session, texts, object, version, r, text, out,
         ),
     }
 }
 
 // A request on an interface of a device.
 fn handle_interface_request(
-    control: &mut [u64],
-    words: &mut [u64],
-    reals: &mut [f32],
+    session: &mut LentSession<'_, '_, '_>,
     texts: &mut [u8],
     interface: u64,
     version: u32,
@@ -60,30 +86,27 @@ fn handle_interface_request(
     text: &[u8],
     out: &mut [u8],
 ) -> Result<Answer, Error>
-    requires { Whole (store control.old words.old reals.old texts.old) }
-    ensures { (clock : ℕ) → Handles control words reals texts out (interface_call request interface version text.now) clock result }
+    requires { Whole (store_of session.old texts.old) }
+    ensures step { (clock : ℕ) → Handles session texts out (interface_call request interface version text.now) clock result }
+    ensures loan { SameLoan session.old session.new }
 {
     match request {
         InterfaceRequest::Pointer(r) => handlers::handle_pointer_request(
-            control, words, reals, interface, r, out,
+            session, interface, r, out,
         ),
         InterfaceRequest::PointerAbsolute(r) => handlers::handle_pointer_absolute_request(
-            control, words, reals, interface, r, out,
+            session, interface, r, out,
         ),
-        InterfaceRequest::Scroll(r) => handlers::handle_scroll_request(
-            control, words, reals, interface, r, out,
-        ),
-        InterfaceRequest::Button(r) => handlers::handle_button_request(
-            control, words, reals, interface, r, out,
-        ),
+        InterfaceRequest::Scroll(r) => handlers::handle_scroll_request(session, interface, r, out),
+        InterfaceRequest::Button(r) => handlers::handle_button_request(session, interface, r, out),
         InterfaceRequest::Keyboard(r) => handlers::handle_keyboard_request(
-            control, words, reals, interface, r, out,
+            session, interface, r, out,
         ),
         InterfaceRequest::Touchscreen(r) => handlers::handle_touchscreen_request(
-            control, words, reals, interface, version, r, out,
+            session, interface, version, r, out,
         ),
         InterfaceRequest::Text(r) => handlers::handle_text_request(
-            control, words, reals, texts, interface, r, text, out,
+            session, texts, interface, r, text, out,
         ),
     }
 }
@@ -116,9 +139,7 @@ pub fn next_cell(
 ) -> Result<Option<Cell>, Error>
     ensures { Delivers control words reals texts buffer (next_of result) }
 {
-    if !session::whole(control, words, reals, texts) {
-        return Err(Error::BadState);
-    }
+    answers::check_whole(control, words, reals, texts)?;
     if control::queue_length(control) == 0 {
         return Ok(None);
     }

@@ -11,6 +11,7 @@ ghost use Rattle.device.specs.Notice.{notice_call, notice_event, notice_edits};
 
 use answers::{Answer, Error, Outcome};
 use eiproto::event::DeviceCapability;
+use session::LentSession;
 use wire::event;
 use wire::event::Event;
 
@@ -24,16 +25,19 @@ pub fn remove_device(
 ) -> Result<Answer, Error>
     ensures { PromiseRows control words reals out (Plain.remove_device device) result }
 {
-    if !session::lent(control, words, reals) {
-        return Err(Error::BadState);
-    }
+    answers::check_lent(control, words, reals)?;
     let Some(k) = control::find_device(control, device) else {
         return Err(Error::UnknownHandle);
     };
     if out.len() < events::DESTROYED_LENGTH * events::device_objects(control, k) {
         return Err(Error::ShortOut);
     }
-    Ok(Answer::sent(removal::retire_device(control, words, reals, k, out)))
+    let mut session = LentSession {
+        control,
+        words,
+        reals,
+    };
+    Ok(Answer::sent(removal::retire_device(&mut session, k, out)))
 }
 
 // An event that a known device is told, with the next serial.
@@ -75,9 +79,7 @@ fn enact(control: &mut [u64], k: usize, notice: Notice)
 fn notify(control: &mut [u64], device: u64, notice: Notice, out: &mut [u8]) -> Result<Answer, Error>
     ensures { Promise control out (notice_call notice device) result }
 {
-    if !control::sound(control) {
-        return Err(Error::BadState);
-    }
+    answers::check_sound(control)?;
     let Some(k) = control::find_device(control, device) else {
         return Err(Error::UnknownHandle);
     };
@@ -135,9 +137,7 @@ pub fn has_capability(
 ) -> Result<Answer, Error>
     ensures { Reply control (Plain.has_capability device capability) result }
 {
-    if !control::sound(control) {
-        return Err(Error::BadState);
-    }
+    answers::check_sound(control)?;
     let Some(k) = control::find_device(control, device) else {
         return Err(Error::UnknownHandle);
     };

@@ -5,7 +5,8 @@
 ghost use Rattle.std.specs.Prelude.{List, ℕ};
 ghost use Rattle.model.specs.Call.{Input};
 ghost use Rattle.control.specs.Sound.{Sound};
-ghost use Rattle.session.specs.View.{store, Lent, Whole};
+ghost use Rattle.session.specs.View.{Whole};
+ghost use Rattle.session.specs.Loan.{SameLoan, store_of};
 ghost use Rattle.answers.specs.Meets.{HandledControl};
 ghost use Rattle.answers.specs.Promise.{Handles, HandlesRows, SilentRows};
 ghost use Rattle.client_requests.specs.Decision.{Waits};
@@ -24,6 +25,7 @@ use requests::eis::{
     TouchscreenRequest,
 };
 use requests::request::EisRequest;
+use session::LentSession;
 
 // A handshake's request in a running session, after what its text may meet.
 pub fn handle_handshake_request(request: HandshakeRequest, text: &[u8]) -> Result<Answer, Error>
@@ -51,60 +53,49 @@ pub fn handle_handshake_request(request: HandshakeRequest, text: &[u8]) -> Resul
 }
 
 pub fn handle_connection_request(
-    control: &mut [u64],
-    words: &mut [u64],
-    reals: &mut [f32],
+    session: &mut LentSession<'_, '_, '_>,
     request: ConnectionRequest,
     out: &mut [u8],
 ) -> Result<Answer, Error>
-    requires { Lent control.old words.old reals.old }
-    ensures { (clock : ℕ) → HandlesRows control words reals out (connection_call request) clock result }
+    ensures step { (clock : ℕ) → HandlesRows session out (connection_call request) clock result }
+    ensures loan { SameLoan session.old session.new }
 {
     match request {
         ConnectionRequest::Sync { callback, version } => untimed::sync(callback, version, out),
-        ConnectionRequest::Disconnect => untimed::queue_untimed(
-            control,
-            words,
-            reals,
-            EisRequest::Disconnect,
-        ),
+        ConnectionRequest::Disconnect => untimed::queue_untimed(session, EisRequest::Disconnect),
     }
 }
 
 pub fn handle_seat_request(
-    control: &mut [u64],
-    words: &mut [u64],
-    reals: &mut [f32],
+    session: &mut LentSession<'_, '_, '_>,
     seat: u64,
     request: SeatRequest,
     out: &mut [u8],
 ) -> Result<Answer, Error>
-    requires { Lent control.old words.old reals.old }
-    ensures { (clock : ℕ) → HandlesRows control words reals out (seat_call request seat) clock result }
+    ensures step { (clock : ℕ) → HandlesRows session out (seat_call request seat) clock result }
+    ensures loan { SameLoan session.old session.new }
 {
     match request {
-        SeatRequest::Release => untimed::release_seat(control, words, reals, seat, out),
+        SeatRequest::Release => untimed::release_seat(session, seat, out),
         SeatRequest::Bind { capabilities } => {
             let bind = EisRequest::Bind { seat, capabilities };
-            untimed::queue_for_seat(control, words, reals, seat, capabilities, bind)
+            untimed::queue_for_seat(session, seat, capabilities, bind)
         }
         SeatRequest::RequestDevice { capabilities } => {
             let request_device = EisRequest::RequestDevice { seat, capabilities };
-            untimed::queue_for_seat(control, words, reals, seat, capabilities, request_device)
+            untimed::queue_for_seat(session, seat, capabilities, request_device)
         }
     }
 }
 
 pub fn handle_device_request(
-    control: &mut [u64],
-    words: &mut [u64],
-    reals: &mut [f32],
+    session: &mut LentSession<'_, '_, '_>,
     device: u64,
     request: DeviceRequest,
     clock: u64,
 ) -> Result<Answer, Error>
-    requires { Lent control.old words.old reals.old }
-    ensures { SilentRows control words reals (device_call request device) clock result }
+    ensures step { SilentRows session (device_call request device) clock result }
+    ensures loan { SameLoan session.old session.new }
 {
     let queued = match request {
         DeviceRequest::Release => EisRequest::DeviceClosed { device },
@@ -124,99 +115,106 @@ pub fn handle_device_request(
             last_serial,
             timestamp,
         } => {
-            return untimed::queue_frame(control, words, reals, device, last_serial, timestamp);
+            return untimed::queue_frame(session, device, last_serial, timestamp);
         }
         DeviceRequest::Ready => EisRequest::Ready { device },
     };
-    untimed::queue_for_device(control, words, reals, device, clock, queued)
+    untimed::queue_for_device(session, device, clock, queued)
 }
 
 // Slower for a key press: a trait with one generic handler (7 instructions), one function lent the cell as an `Option` (66).
 pub fn handle_keyboard_request(
-    control: &mut [u64],
-    words: &mut [u64],
-    reals: &mut [f32],
+    session: &mut LentSession<'_, '_, '_>,
     keyboard: u64,
     request: KeyboardRequest,
     out: &mut [u8],
 ) -> Result<Answer, Error>
-    requires { Lent control.old words.old reals.old }
-    ensures { (version clock : ℕ) → HandlesRows control words reals out (keyboard_call request keyboard version) clock result }
+    ensures step { (version clock : ℕ) → HandlesRows session out (keyboard_call request keyboard version) clock result }
+    ensures loan { SameLoan session.old session.new }
 {
     let capability = DeviceCapability::Keyboard;
     match request {
-        KeyboardRequest::Release => untimed::release_interface(control, capability, keyboard, out),
+        KeyboardRequest::Release => untimed::release_interface(
+            session.control,
+            capability,
+            keyboard,
+            out,
+        ),
         KeyboardRequest::Key { key, state } => {
             let request = cell::keyboard_key(0, 0, key, state);
-            timed::queue_for_interface(control, words, reals, capability, keyboard, request)
+            timed::queue_for_interface(session, capability, keyboard, request)
         }
     }
 }
 
 pub fn handle_pointer_request(
-    control: &mut [u64],
-    words: &mut [u64],
-    reals: &mut [f32],
+    session: &mut LentSession<'_, '_, '_>,
     pointer: u64,
     request: PointerRequest,
     out: &mut [u8],
 ) -> Result<Answer, Error>
-    requires { Lent control.old words.old reals.old }
-    ensures { (version clock : ℕ) → HandlesRows control words reals out (pointer_call request pointer version) clock result }
+    ensures step { (version clock : ℕ) → HandlesRows session out (pointer_call request pointer version) clock result }
+    ensures loan { SameLoan session.old session.new }
 {
     let capability = DeviceCapability::Pointer;
     match request {
-        PointerRequest::Release => untimed::release_interface(control, capability, pointer, out),
+        PointerRequest::Release => untimed::release_interface(
+            session.control,
+            capability,
+            pointer,
+            out,
+        ),
         PointerRequest::MotionRelative { x, y } => {
             let request = cell::pointer_motion(0, 0, x, y);
-            timed::queue_for_interface(control, words, reals, capability, pointer, request)
+            timed::queue_for_interface(session, capability, pointer, request)
         }
     }
 }
 
 pub fn handle_pointer_absolute_request(
-    control: &mut [u64],
-    words: &mut [u64],
-    reals: &mut [f32],
+    session: &mut LentSession<'_, '_, '_>,
     pointer_absolute: u64,
     request: PointerAbsoluteRequest,
     out: &mut [u8],
 ) -> Result<Answer, Error>
-    requires { Lent control.old words.old reals.old }
-    ensures { (version clock : ℕ) → HandlesRows control words reals out (pointer_absolute_call request pointer_absolute version) clock result }
+    ensures step { (version clock : ℕ) → HandlesRows session out (pointer_absolute_call request pointer_absolute version) clock result }
+    ensures loan { SameLoan session.old session.new }
 {
     let capability = DeviceCapability::PointerAbsolute;
     match request {
         PointerAbsoluteRequest::Release => untimed::release_interface(
-            control,
+            session.control,
             capability,
             pointer_absolute,
             out,
         ),
         PointerAbsoluteRequest::MotionAbsolute { x, y } => {
             let request = cell::pointer_motion_absolute(0, 0, x, y);
-            timed::queue_for_interface(control, words, reals, capability, pointer_absolute, request)
+            timed::queue_for_interface(session, capability, pointer_absolute, request)
         }
     }
 }
 
 pub fn handle_button_request(
-    control: &mut [u64],
-    words: &mut [u64],
-    reals: &mut [f32],
+    session: &mut LentSession<'_, '_, '_>,
     interface: u64,
     request: ButtonRequest,
     out: &mut [u8],
 ) -> Result<Answer, Error>
-    requires { Lent control.old words.old reals.old }
-    ensures { (version clock : ℕ) → HandlesRows control words reals out (button_call request interface version) clock result }
+    ensures step { (version clock : ℕ) → HandlesRows session out (button_call request interface version) clock result }
+    ensures loan { SameLoan session.old session.new }
 {
     let capability = DeviceCapability::Button;
     match request {
-        ButtonRequest::Release => untimed::release_interface(control, capability, interface, out),
+        ButtonRequest::Release => untimed::release_interface(
+            session.control,
+            capability,
+            interface,
+            out,
+        ),
         ButtonRequest::Button { button, state } => {
             let request = cell::button(0, 0, button, state);
-            timed::queue_for_interface(control, words, reals, capability, interface, request)
+            timed::queue_for_interface(session, capability, interface, request)
         }
     }
 }
@@ -233,30 +231,33 @@ pub fn scroll_stop(x: u32, y: u32, is_cancel: u32) -> Cell
 }
 
 pub fn handle_scroll_request(
-    control: &mut [u64],
-    words: &mut [u64],
-    reals: &mut [f32],
+    session: &mut LentSession<'_, '_, '_>,
     scroll: u64,
     request: ScrollRequest,
     out: &mut [u8],
 ) -> Result<Answer, Error>
-    requires { Lent control.old words.old reals.old }
-    ensures { (version clock : ℕ) → HandlesRows control words reals out (scroll_call request scroll version) clock result }
+    ensures step { (version clock : ℕ) → HandlesRows session out (scroll_call request scroll version) clock result }
+    ensures loan { SameLoan session.old session.new }
 {
     let capability = DeviceCapability::Scroll;
     match request {
-        ScrollRequest::Release => untimed::release_interface(control, capability, scroll, out),
+        ScrollRequest::Release => untimed::release_interface(
+            session.control,
+            capability,
+            scroll,
+            out,
+        ),
         ScrollRequest::Scroll { x, y } => {
             let request = cell::scroll_delta(0, 0, x, y);
-            timed::queue_for_interface(control, words, reals, capability, scroll, request)
+            timed::queue_for_interface(session, capability, scroll, request)
         }
         ScrollRequest::ScrollDiscrete { x, y } => {
             let request = cell::scroll_discrete(0, 0, x, y);
-            timed::queue_for_interface(control, words, reals, capability, scroll, request)
+            timed::queue_for_interface(session, capability, scroll, request)
         }
         ScrollRequest::ScrollStop { x, y, is_cancel } => {
             let request = scroll_stop(x, y, is_cancel);
-            timed::queue_for_interface(control, words, reals, capability, scroll, request)
+            timed::queue_for_interface(session, capability, scroll, request)
         }
     }
 }
@@ -302,49 +303,57 @@ fn decide_touchscreen(
 }
 
 pub fn handle_touchscreen_request(
-    control: &mut [u64],
-    words: &mut [u64],
-    reals: &mut [f32],
+    session: &mut LentSession<'_, '_, '_>,
     touchscreen: u64,
     version: u32,
     request: TouchscreenRequest,
     out: &mut [u8],
 ) -> Result<Answer, Error>
-    requires { Lent control.old words.old reals.old }
-    ensures { (clock : ℕ) → HandlesRows control words reals out (touchscreen_call request touchscreen version) clock result }
+    ensures step { (clock : ℕ) → HandlesRows session out (touchscreen_call request touchscreen version) clock result }
+    ensures loan { SameLoan session.old session.new }
 {
+    let control = &mut *session.control;
     let capability = DeviceCapability::Touch;
     match decide_touchscreen(control, touchscreen, version, request) {
-        TouchAction::Release => untimed::release_interface(control, capability, touchscreen, out),
-        TouchAction::Timed(decision) => timed::queue_request(control, words, reals, decision),
+        TouchAction::Release => untimed::release_interface(
+            session.control,
+            capability,
+            touchscreen,
+            out,
+        ),
+        TouchAction::Timed(decision) => timed::queue_request(session, decision),
     }
 }
 
 pub fn handle_text_request(
-    control: &mut [u64],
-    words: &mut [u64],
-    reals: &mut [f32],
+    session: &mut LentSession<'_, '_, '_>,
     texts: &mut [u8],
     interface: u64,
     request: TextRequest,
     text: &[u8],
     out: &mut [u8],
 ) -> Result<Answer, Error>
-    requires { Whole (store control.old words.old reals.old texts.old) }
-    ensures { (version clock : ℕ) → Handles control words reals texts out (text_call request interface version text.now) clock result }
+    requires { Whole (store_of session.old texts.old) }
+    ensures step { (version clock : ℕ) → Handles session texts out (text_call request interface version text.now) clock result }
+    ensures loan { SameLoan session.old session.new }
 {
     let capability = DeviceCapability::Text;
     match request {
-        TextRequest::Release => untimed::release_interface(control, capability, interface, out),
+        TextRequest::Release => untimed::release_interface(
+            session.control,
+            capability,
+            interface,
+            out,
+        ),
         TextRequest::Keysym { keysym, state } => {
             let request = cell::text_keysym(0, 0, keysym, state);
-            timed::queue_for_interface(control, words, reals, capability, interface, request)
+            timed::queue_for_interface(session, capability, interface, request)
         }
         TextRequest::Utf8 => {
             if !utf8::valid(text) {
                 return Err(Error::BadUtf8);
             }
-            timed::queue_utf8(control, words, reals, texts, interface, text)
+            timed::queue_utf8(session, texts, interface, text)
         }
     }
 }

@@ -33,13 +33,13 @@ module _ {s e : Store} {out later : List ℕ} {r : Result Answer Error} (a : Arg
   unfolding call_in
   handed-sync is q h = rw (eq-eqb a.request 5 is, ← q) h
 
-  pub handed-call : (a.request ≡ 5 → ⊥) → {request : Request} → request ≡ request_in a → Whole s
-      → Answered Lending.all s e out later (call_of request object version (take (a.start + a.length - a.start) (drop a.start m))) clock r
+  pub handed-call : (a.request ≡ 5 → ⊥) → {request : Request} → request ≡ request_in a
+      → Handled s e out later (call_of request object version (take (a.start + a.length - a.start) (drop a.start m))) clock r
       → Handled s e out later (call_in a object version m) clock r
   unfolding call_in
-  handed-call other q w h =
+  handed-call other q h =
       let part : a.start + a.length - a.start ≡ a.length = omega arith in
-      rw (ne_eqb a.request 5 other, ← q, ← part) (answered-handled s h (whole_is s w))
+      rw (ne_eqb a.request 5 other, ← q, ← part) h
 
 -- ---- on an object that lives
 

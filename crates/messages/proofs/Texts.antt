@@ -10,9 +10,8 @@ use Rattle.session.specs.View.{Store, session, is_whole}
 use Rattle.answers.specs.Kept.{NoText}
 use Rattle.answers.proofs.Texts.{no_text}
 use Rattle.messages.specs.Reading.{reading}
-use Rattle.messages.specs.Received.{ReceivedAs}
+use Rattle.messages.specs.Received.{Received, ReceivedAs}
 use Rattle.messages.specs.Texts.{MessageKeepsTexts}
-use Rattle.messages.specs.declared.Received.{Received}
 
 module _ (s e : Store) (out later : List ℕ) (clock : ℕ) (r : Received) where
   read_same : (x : Reading (Call Input)) → ReceivedAs s e out later x clock r → ((call : Call Input) (n : ℕ) → x ≡ Reading.request call n → NoText call)

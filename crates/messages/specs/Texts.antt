@@ -6,8 +6,7 @@ use Rattle.model_reads.specs.Message.{Reading}
 use Rattle.session.specs.View.{Store, session}
 use Rattle.answers.specs.Kept.{NoText}
 use Rattle.messages.specs.Reading.{reading}
-use Rattle.messages.specs.Received.{ReceivedFrom}
-use Rattle.messages.specs.declared.Received.{Received}
+use Rattle.messages.specs.Received.{Received, ReceivedFrom}
 
 -- Bytes that stand for no Utf8 in the session leave the text store bit for bit as it was
 abbrev pub MessageKeepsTexts : Type 0

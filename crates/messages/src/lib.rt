@@ -4,7 +4,8 @@
 
 ghost use Rattle.std.specs.Prelude.{ℕ, ◌+◌, ◌≤◌, ◌≡◌, List, Float, length, take, drop};
 ghost use Rattle.model.specs.Call.{Input, Call};
-ghost use Rattle.session.specs.View.{store, Whole};
+ghost use Rattle.session.specs.View.{Whole};
+ghost use Rattle.session.specs.Loan.{SameLoan, store_of};
 ghost use Rattle.answers.specs.Answer.{outcome_of};
 ghost use Rattle.answers.specs.Promise.{Handles};
 ghost use Rattle.requests.specs.declared.eis.Request.{Request};
@@ -17,24 +18,29 @@ use client_requests::untimed;
 use converter::request;
 use lent_read::record::RequestCell;
 use lent_read::{numbers, record};
+use objects::Object;
 use parse::{Arguments, HEADER_LENGTH};
 use requests::row;
+use session::LentSession;
 use wire::ParseError;
 
-// What becomes of the bytes.
-#[derive(Clone, Copy)]
-pub enum Received {
-    // The message is not yet whole, and nothing is taken.
+// Why no request is handed on; nothing is taken.
+// The handshake's `Unhanded` has a case more, an id that a client may not give: here that is an answer, which the request is given.
+#[derive(Clone, Copy, Debug, PartialEq, Eq)]
+pub enum Unhanded {
+    // The message is not yet whole.
     Wait,
     // 24: no object with the addressed id is alive.
     NoObject,
     // 23, and why.
     Malformed(ParseError),
-    // What the request that the message stands for was answered, and how many bytes were taken: those of the message, or none where it was refused.
-    Handed {
-        answer: Result<Answer, Error>,
-        taken: usize,
-    },
+}
+
+// What the request that the message stands for was answered, and how many bytes were taken: those of the message, or none where it was refused.
+#[derive(Clone, Copy, Debug, PartialEq, Eq)]
+pub struct Handed {
+    pub answer: Result<Answer, Error>,
+    pub taken: usize,
 }
 
 // "A refused message takes nothing."
@@ -48,6 +54,7 @@ fn taken_of(answer: Result<Answer, Error>, length: usize) -> usize
 }
 
 // The request that the arguments are of.
+#[tactic(auto, unfolding(crate::specs::Reading::request_in))]
 fn request_in(a: Arguments) -> requests::eis::Request
     ensures { result ≡ request_in a }
 {
@@ -67,9 +74,7 @@ fn request_in(a: Arguments) -> requests::eis::Request
 
 // The request of a message with these arguments. A Sync's callback is an object that its message makes.
 fn hand_on(
-    control: &mut [u64],
-    words: &mut [u64],
-    reals: &mut [f32],
+    session: &mut LentSession<'_, '_, '_>,
     texts: &mut [u8],
     object: u64,
     version: u32,
@@ -78,23 +83,20 @@ fn hand_on(
     clock: u64,
     out: &mut [u8],
 ) -> Result<Answer, Error>
-    requires { Whole (store control.old words.old reals.old texts.old) × (a.start + a.length ≤ length message.now) }
-    ensures { Handles control words reals texts out (call_in a object version message.now) clock result }
+    requires { Whole (store_of session.old texts.old) × (a.start + a.length ≤ length message.now) }
+    ensures step { Handles session texts out (call_in a object version message.now) clock result }
+    ensures loan { SameLoan session.old session.new }
 {
     if a.request == numbers::CONNECTION_SYNC {
-        return untimed::sync_message(control, a.first, row::low(a.second), out);
+        return untimed::sync_message(session.control, a.first, row::low(a.second), out);
     }
-    let start = a.start;
-    let end = start + a.length;
-    request::handle_request(
-        control,
-        words,
-        reals,
+    request::handle_on(
+        session,
         texts,
         object,
         version,
         request_in(a),
-        &message[start..end],
+        &message[a.start..a.start + a.length],
         clock,
         out,
     )
@@ -102,38 +104,35 @@ fn hand_on(
 
 // A message whose object is alive.
 fn receive_on(
-    control: &mut [u64],
-    words: &mut [u64],
-    reals: &mut [f32],
+    session: &mut LentSession<'_, '_, '_>,
     texts: &mut [u8],
     object: u64,
-    interface: u8,
-    version: u32,
+    alive: Object,
     message: &[u8],
     clock: u64,
     out: &mut [u8],
-) -> Received
-    requires { Whole (store control.old words.old reals.old texts.old) × (16 ≤ length message.now) }
-    ensures { ReceivesBy control words reals texts out (reading_on object interface version message.now) clock result }
+) -> Result<Handed, Unhanded>
+    requires { Whole (store_of session.old texts.old) × (16 ≤ length message.now) }
+    ensures step { ReceivesBy session texts out (reading_on object alive.interface alive.version message.now) clock result }
+    ensures loan { SameLoan session.old session.new }
 {
-    match parse::read_first(interface, message) {
-        Ok(None) => Received::Wait,
-        Err(e) => Received::Malformed(e),
+    // A `match`: `?` and a `From` took 20 instructions more a message.
+    match parse::read_first(alive.interface, message) {
+        Ok(None) => Err(Unhanded::Wait),
+        Err(e) => Err(Unhanded::Malformed(e)),
         Ok(Some(first)) => {
             let answer = hand_on(
-                control,
-                words,
-                reals,
+                session,
                 texts,
                 object,
-                version,
+                alive.version,
                 first.arguments,
                 &message[..first.length],
                 clock,
                 out,
             );
             let taken = taken_of(answer, first.length);
-            Received::Handed { answer, taken }
+            Ok(Handed { answer, taken })
         }
     }
 }
@@ -147,32 +146,27 @@ pub fn pending_request(
     message: &[u8],
     clock: u64,
     out: &mut [u8],
-) -> Received
+) -> Result<Handed, Unhanded>
     ensures { Receives control words reals texts out message.now clock result }
 {
+    // 21 is the answer of a request that was handed on, so the test leaves by no `?`.
     if !session::whole(control, words, reals, texts) {
-        return Received::Handed {
+        return Ok(Handed {
             answer: Err(Error::BadState),
             taken: 0,
-        };
+        });
     }
     if message.len() < HEADER_LENGTH {
-        return Received::Wait;
+        return Err(Unhanded::Wait);
     }
     let object = parse::number64(message, 0);
-    match objects::find_object(control, object) {
-        None => Received::NoObject,
-        Some(alive) => receive_on(
-            control,
-            words,
-            reals,
-            texts,
-            object,
-            alive.interface,
-            alive.version,
-            message,
-            clock,
-            out,
-        ),
-    }
+    let Some(alive) = objects::find_object(control, object) else {
+        return Err(Unhanded::NoObject);
+    };
+    let mut session = LentSession {
+        control,
+        words,
+        reals,
+    };
+    receive_on(&mut session, texts, object, alive, message, clock, out)
 }

@@ -5,7 +5,7 @@ use Rattle.model.specs.Edit.{Edit, item}
 use Rattle.control.specs.Control.{devices_limit, pending_limit, queue_limit, queue_head, queue_length, core_at}
 use Rattle.requests.specs.Row.{Row, framed_row, row_at}
 use Rattle.session.specs.View.{words_length, reals_length, pending_row, queue_row, item_at}
-use Rattle.session.specs.Slices.{Numbers, Reals, rows_before, rows_after}
+use Rattle.session.specs.Loan.{Session, store_of}
 use Rattle.session.specs.Enact.{Enacted}
 
 -- the entries that the frame of n pending requests needs: "n + 1 for a Frame", none with nothing pending
@@ -18,10 +18,10 @@ unfoldable pub has_room : List ℕ → ℕ → Bool
 has_room c n = leb (queue_length c + n) queue_limit
 
 -- a request more that is pending in slot k: its row tells what the model has of it
-abbrev pub Pends : (control words : Numbers) (reals : Reals) (k : ℕ) → Row → Type 0
-Pends c w r k row =
+abbrev pub Pends : (session : Session) (k : ℕ) → Row → Type 0
+Pends s k row =
     (texts : List ℕ) (sight : Sight) (load : Load) → item sight load ≡ item_at texts row
-    → Enacted (rows_before c w r texts) (rows_after c w r texts) (Edit.pend k sight ∷ []) load
+    → Enacted (store_of s.entry.now texts) (store_of s.exit.now texts) (Edit.pend k sight ∷ []) load
 
 -- n pending rows of slot k that there is room for in the queue
 pub record Copyable (words : List ℕ) (reals : List Float) (k n head queued : ℕ) : Type 0 where
@@ -38,8 +38,9 @@ pub record Copied (before after : ℕ → Row) (k n head queued device time : �
   pub other : (i : ℕ) → ((j : ℕ) → j < n → i ≡ queue_row head (queued + j) → ⊥) → after i ≡ before i
 
 -- "only the reference moves to the queue": each request that a frame of slot k queues names the slot that it named while it was pending
-abbrev pub SlotsStay : (control words : Numbers) (reals : Reals) (k : ℕ) → Type 0
-SlotsStay c w r k =
-    (j : ℕ) → j < (core_at c.entry.now k).pending
-    → (row_at w.exit.now r.exit.now (queue_row (queue_head c.entry.now) (queue_length c.entry.now + j))).slot
-    ≡ (row_at w.entry.now r.entry.now (pending_row k j)).slot
+abbrev pub SlotsStay : (session : Session) (k : ℕ) → Type 0
+SlotsStay s k =
+    let c = s.entry.now.control.now in
+    (j : ℕ) → j < (core_at c k).pending
+    → (row_at s.exit.now.words.now s.exit.now.reals.now (queue_row (queue_head c) (queue_length c + j))).slot
+    ≡ (row_at s.entry.now.words.now s.entry.now.reals.now (pending_row k j)).slot

@@ -8,7 +8,8 @@ ghost use Rattle.model.specs.Edit.{Edit};
 ghost use Rattle.control.specs.Control.{pending_limit, queue_limit, device_count, queue_head, queue_length, core_at, pending_at};
 ghost use Rattle.control.specs.Sound.{Sound};
 ghost use Rattle.session.specs.View.{row_count, Lent, request_in, queue_row};
-ghost use Rattle.session.specs.Enact.{EnactsControl, EnactsRows};
+ghost use Rattle.session.specs.Enact.{EnactsControl};
+ghost use Rattle.session.specs.Loan.{EnactsRows, SameLoan};
 ghost use Rattle.queue.specs.Queue.{Pends, Copyable, Copied, SlotsStay, frame_entries, has_room};
 
 use control::{PENDING_LIMIT, QUEUE_LIMIT};
@@ -16,7 +17,7 @@ use requests::cell::Cell;
 use requests::request::EisRequest;
 use requests::row::NO_SLOT;
 use requests::{cell, row};
-use session::QUEUE_START;
+use session::{LentSession, QUEUE_START};
 
 // The ring of the queued requests: the place of the oldest, and how many there are.
 #[derive(Clone, Copy, Debug, PartialEq, Eq)]
@@ -77,22 +78,32 @@ pub fn frame_fits(control: &[u64], k: usize) -> bool
 
 // A request more in the pending list of the device in slot k.
 #[tactic(auto, using(crate::proofs::Room::entries))]
-pub fn pend(control: &mut [u64], words: &mut [u64], reals: &mut [f32], k: usize, request: Cell)
-    requires { Lent control.old words.old reals.old × ((k < device_count control.old) × (pending_at control.old k < pending_limit)) }
-    ensures { Pends control words reals k (row_of request) }
+pub fn pend(session: &mut LentSession<'_, '_, '_>, k: usize, request: Cell)
+    requires { (k < device_count session.old.control.now) × (pending_at session.old.control.now k < pending_limit) }
+    ensures step { Pends session k (row_of request) }
+    ensures loan { SameLoan session.old session.new }
 {
+    let control = &mut *session.control;
     let n = control::pending_count(control, k);
-    row::put_cell(words, reals, PENDING_LIMIT * k + n, request);
+    row::put_cell(session.words, session.reals, PENDING_LIMIT * k + n, request);
     control::edits::set_pending(control, k, n + 1);
 }
 
 // An untimed request more in the queue.
-pub fn push(control: &mut [u64], words: &mut [u64], reals: &mut [f32], request: EisRequest)
-    requires { Lent control.old words.old reals.old × (queue_length control.old < queue_limit) }
-    ensures { (r : Untimed) → request_in request [] ≡ Queued.untimed r → EnactsRows control words reals (Edit.queue r ∷ []) }
+pub fn push(session: &mut LentSession<'_, '_, '_>, request: EisRequest)
+    requires { queue_length session.old.control.now < queue_limit }
+    ensures step { (r : Untimed) → request_in request [] ≡ Queued.untimed r → EnactsRows session (Edit.queue r ∷ []) }
+    ensures loan { SameLoan session.old session.new }
 {
+    let control = &mut *session.control;
     let ring = Ring::of(control);
-    row::put(words, reals, ring.row(ring.length), request, NO_SLOT);
+    row::put(
+        session.words,
+        session.reals,
+        ring.row(ring.length),
+        request,
+        NO_SLOT,
+    );
     control::edits::set_queue(control, ring.head, ring.length + 1);
 }
 
@@ -123,29 +134,25 @@ fn copy_pending(
 
 // "Every pending request, in arrival order, gets the frame's time and is queued, then the Frame itself", and nothing where nothing is pending.
 #[tactic(auto, using(crate::proofs::Room::entries))]
-pub fn frame(
-    control: &mut [u64],
-    words: &mut [u64],
-    reals: &mut [f32],
-    k: usize,
-    serial: u32,
-    time: u64,
-)
-    requires { Lent control.old words.old reals.old × ((k < device_count control.old) × (queue_length control.old + frame_entries (pending_at control.old k) ≤ queue_limit)) }
-    ensures { EnactsRows control words reals (Edit.frame k serial time ∷ []) × SlotsStay control words reals k }
+pub fn frame(session: &mut LentSession<'_, '_, '_>, k: usize, serial: u32, time: u64)
+    requires { (k < device_count session.old.control.now) × (queue_length session.old.control.now + frame_entries (pending_at session.old.control.now k) ≤ queue_limit) }
+    ensures step { EnactsRows session (Edit.frame k serial time ∷ []) × SlotsStay session k }
+    ensures loan { SameLoan session.old session.new }
 {
+    let control = &mut *session.control;
     let n = control::pending_count(control, k);
     if n == 0 {
         return;
     }
     let ring = Ring::of(control);
     let device = control::device_id(control, k);
-    copy_pending(words, reals, k, n, ring, device, time);
+    copy_pending(session.words, session.reals, k, n, ring, device, time);
+    let frame = cell::frame(device, serial, time);
     row::put_cell(
-        words,
-        reals,
+        session.words,
+        session.reals,
         ring.row(ring.length + n),
-        cell::frame(device, serial, time),
+        frame,
     );
     control::edits::set_queue(control, ring.head, ring.length + n + 1);
     control::edits::set_pending(control, k, 0);

@@ -5,7 +5,8 @@ use Rattle.model.specs.Session.{view}
 use Rattle.model.specs.Edit.{Edit}
 use Rattle.model.specs.Decide.{destroyed, retire_seat, decide_plain}
 use Rattle.control.specs.Control.{connection_of}
-use Rattle.session.specs.Slices.{Numbers, Reals}
+use Rattle.session.specs.Loan.{Session}
+use Rattle.session.specs.Slices.{Numbers}
 use Rattle.session.specs.View.{store, session}
 use Rattle.session.specs.Enact.{EnactedRows}
 use Rattle.events.specs.Events.{Sends}
@@ -16,9 +17,10 @@ pub record Retired (c w : List ℕ) (r : List Float) (d v : List ℕ) (q : List 
   pub enacted : EnactedRows c w r d v q (Edit.raise (length objects) ∷ edits)
 
 -- the same, said of the slices that a function is lent
-abbrev pub Retires : (control words : Numbers) (reals : Reals) (out : Numbers) → (objects : List ℕ) → List Edit → (count : ℕ) → Type 0
-Retires c w r out objects edits count =
-    Retired c.entry.now w.entry.now r.entry.now c.exit.now w.exit.now r.exit.now out.entry.now out.exit.now objects edits count
+abbrev pub Retires : (session : Session) (out : Numbers) → (objects : List ℕ) → List Edit → (count : ℕ) → Type 0
+Retires s out objects edits count =
+    let c = s.entry.now in let d = s.exit.now in
+    Retired c.control.now c.words.now c.reals.now d.control.now d.words.now d.reals.now out.entry.now out.exit.now objects edits count
 
 -- the model retires the seat at this call, whatever the requests and the texts are
 abbrev pub Retirement : (call : Plain) (clock seat : ℕ) (control : List ℕ) → Type 0

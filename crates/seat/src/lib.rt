@@ -11,6 +11,7 @@ ghost use Rattle.seat.specs.Seat.{made_with, Tested};
 use answers::{Answer, Error, Outcome};
 use eiproto::eiproto_enum::DeviceType;
 use eiproto::event::DeviceCapability;
+use session::LentSession;
 use wire::backend;
 
 // The capabilities that a device on the seat in slot k is made with: "Capabilities that were not advertised on the seat will be ignored.", and "a
@@ -69,9 +70,7 @@ pub fn add_device(
 ) -> Result<Answer, Error>
     ensures { Promise control out (Plain.add_device seat (given name.entry) kind capabilities) result }
 {
-    if !control::sound(control) {
-        return Err(Error::BadState);
-    }
+    answers::check_sound(control)?;
     answers::check_optional(name)?;
     if DeviceCapability::has_unknown(capabilities) {
         return Err(Error::BadCapabilities);
@@ -92,11 +91,14 @@ pub fn remove_seat(
 ) -> Result<Answer, Error>
     ensures { PromiseRows control words reals out (Plain.remove_seat seat) result }
 {
-    if !session::lent(control, words, reals) {
-        return Err(Error::BadState);
-    }
+    answers::check_lent(control, words, reals)?;
     let Some(_) = control::find_seat(control, seat) else {
         return Err(Error::UnknownHandle);
     };
-    removal::remove_seat(control, words, reals, seat, out)
+    let mut session = LentSession {
+        control,
+        words,
+        reals,
+    };
+    removal::remove_seat(&mut session, seat, out)
 }

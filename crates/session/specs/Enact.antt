@@ -4,7 +4,7 @@ use Rattle.control.specs.Sound.{Sound}
 use Rattle.model.specs.Call.{Load}
 use Rattle.model.specs.Edit.{Edit, enact_all}
 use Rattle.session.specs.View.{Store, store, session}
-use Rattle.session.specs.Slices.{Numbers, Reals, before, after}
+use Rattle.session.specs.Slices.{Numbers}
 
 -- s are the slices before, e those after
 pub record Enacted (s e : Store) (edits : List Edit) (load : Load) : Type 0 where
@@ -23,9 +23,3 @@ EnactedRows c w r e v q edits = (texts : List ℕ) (load : Load) → Enacted (st
 
 abbrev pub EnactsControl : (control : Numbers) → List Edit → Type 0
 EnactsControl c edits = EnactedControl c.entry.now c.exit.now edits
-
-abbrev pub EnactsRows : (control words : Numbers) (reals : Reals) → List Edit → Type 0
-EnactsRows c w r edits = EnactedRows c.entry.now w.entry.now r.entry.now c.exit.now w.exit.now r.exit.now edits
-
-abbrev pub EnactsAll : (control words : Numbers) (reals : Reals) (texts : Numbers) → List Edit → Load → Type 0
-EnactsAll c w r t edits load = Enacted (before c w r t) (after c w r t) edits load

@@ -1,3 +1,4 @@
 pub mod View
 pub mod Slices
 pub mod Enact
+pub mod Loan

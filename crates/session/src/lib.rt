@@ -7,7 +7,7 @@ ghost use Rattle.touches.specs.Touches.{touches_limit, member};
 ghost use Rattle.model.specs.Edit.{Amend, Edit, raised};
 ghost use Rattle.control.specs.Control.{seats_limit, devices_limit, seat_count, device_count, connection_of, touches_at};
 ghost use Rattle.control.specs.Sound.{Sound};
-ghost use Rattle.session.specs.View.{last_id, is_lent, is_whole};
+ghost use Rattle.session.specs.View.{last_id, is_lent, is_whole, Lent};
 ghost use Rattle.session.specs.View.{store};
 ghost use Rattle.session.specs.Enact.{EnactsControl};
 
@@ -28,6 +28,32 @@ pub const REALS_LENGTH: usize = ROW_REALS * ROW_COUNT;
 pub const SLOT_LENGTH: usize = 256;
 
 pub const TEXTS_LENGTH: usize = SLOT_LENGTH * TEXTS_LIMIT;
+
+// The control words and the rows of requests that a call is lent, behind refusal 21's test: that they hold a session is said here alone. The texts
+// are lent beside it.
+#[derive(Drop)]
+pub struct LentSession<'c, 'w, 'r> {
+    pub control: &'c mut [u64],
+    pub words: &'w mut [u64],
+    pub reals: &'r mut [f32],
+    ghost lent: { Lent control.now words.now reals.now },
+}
+
+impl LentSession<'_, '_, '_> {
+    pub fn seat_count(&self) -> usize
+        ensures { result ≡ seat_count self.now.control.now }
+    {
+        let control = &*self.control;
+        control::seat_count(control)
+    }
+
+    pub fn device_count(&self) -> usize
+        ensures { result ≡ device_count self.now.control.now }
+    {
+        let control = &*self.control;
+        control::device_count(control)
+    }
+}
 
 // Refusal 21's test, of a call that is lent the control words and the rows of requests. Its time does not grow with what is queued.
 pub fn lent(control: &[u64], words: &[u64], reals: &[f32]) -> bool

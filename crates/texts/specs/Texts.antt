@@ -8,8 +8,8 @@ use Rattle.model.specs.Edit.{Edit}
 use Rattle.model.specs.Step.{counts}
 use Rattle.control.specs.Control.{pending_limit, queue_limit, device_count, pending_at}
 use Rattle.session.specs.View.{Store, store, row_count, words_length, reals_length, slot_length, session, Free, Whole}
-use Rattle.session.specs.Slices.{Numbers, Reals}
-use Rattle.session.specs.Enact.{EnactsAll}
+use Rattle.session.specs.Slices.{Numbers}
+use Rattle.session.specs.Loan.{Session, EnactsAll}
 use Rattle.texts.specs.declared.LiveTexts.{LiveTexts}
 
 -- how many of the first n slots are a text's
@@ -61,6 +61,6 @@ pub record Pendable (s : Store) (k slot : ℕ) (text : List ℕ) : Type 0 where
   pub free : Free s.control (row_at s.words s.reals) slot
 
 -- it is pending then, its bytes stand at the start of the slot, and no other byte of the texts was written
-abbrev pub PendsText : (control words : Numbers) (reals : Reals) (texts : Numbers) (k slot : ℕ) (text : List ℕ) → Type 0
-PendsText c w r t k slot text =
-    EnactsAll c w r t (Edit.pend k (sight (Input.Utf8 text)) ∷ []) (Load.Text text) × (t.exit.now ≡ splice t.entry.now (slot_length * slot) text)
+abbrev pub PendsText : (session : Session) (texts : Numbers) (k slot : ℕ) (text : List ℕ) → Type 0
+PendsText s t k slot text =
+    EnactsAll s t (Edit.pend k (sight (Input.Utf8 text)) ∷ []) (Load.Text text) × (t.exit.now ≡ splice t.entry.now (slot_length * slot) text)

@@ -6,13 +6,14 @@ ghost use Rattle.eiproto.specs.Bits.{bit, bits_of};
 ghost use Rattle.requests.specs.Row.{texts_limit, row_at};
 ghost use Rattle.wire.specs.Bits.{splice};
 ghost use Rattle.control.specs.Control.{queue_limit};
-ghost use Rattle.session.specs.View.{store, row_count, slot_length, Lent};
+ghost use Rattle.session.specs.View.{row_count, slot_length};
+ghost use Rattle.session.specs.Loan.{SameLoan, store_of};
 ghost use Rattle.texts.specs.Texts.{Scannable, Counted, FirstRun, Live, Pendable, PendsText};
 
 use control::{PENDING_LIMIT, QUEUE_LIMIT};
 use requests::row::TEXTS_LIMIT;
 use requests::{cell, row};
-use session::{QUEUE_START, SLOT_LENGTH};
+use session::{LentSession, QUEUE_START, SLOT_LENGTH};
 
 // The most bytes of a text, a name or an explanation: "above 254" is refused.
 pub const TEXT_LENGTH_LIMIT: usize = 254;
@@ -61,10 +62,12 @@ fn to_the_end(head: usize, queued: usize) -> usize
 }
 
 // The texts that are live, by one pass over the pending and queued requests.
-pub fn live_texts(control: &[u64], words: &[u64], reals: &[f32]) -> LiveTexts
-    requires { Lent control.now words.now reals.now }
-    ensures { Live control.now words.now reals.now result }
+pub fn live_texts(session: &LentSession<'_, '_, '_>) -> LiveTexts
+    ensures { Live session.now.control.now session.now.words.now session.now.reals.now result }
 {
+    let control = &*session.control;
+    let words = &*session.words;
+    let reals = &*session.reals;
     let mut live = LiveTexts { count: 0, used: 0 };
     for k in 0..control::device_count(control) {
         let n = control::pending_count(control, k);
@@ -99,21 +102,20 @@ fn put_text(texts: &mut [u8], slot: usize, text: &[u8])
 
 // A text more in the pending list of the device in slot k, in a slot that is free. No other byte of the texts is written.
 pub fn pend_text(
-    control: &mut [u64],
-    words: &mut [u64],
-    reals: &mut [f32],
+    session: &mut LentSession<'_, '_, '_>,
     texts: &mut [u8],
     k: usize,
     slot: usize,
     text: &[u8],
 )
-    requires { Pendable (store control.old words.old reals.old texts.old) k slot text.now }
-    ensures { PendsText control words reals texts k slot text.now }
+    requires { Pendable (store_of session.old texts.old) k slot text.now }
+    ensures step { PendsText session texts k slot text.now }
+    ensures loan { SameLoan session.old session.new }
 {
     put_text(texts, slot, text);
     // Its device and its time come with its frame.
     let request = cell::text_utf8(0, 0, text.len() as u8, slot);
-    queue::pend(control, words, reals, k, request);
+    queue::pend(session, k, request);
 }
 
 // Copies the first n bytes of a slot to a buffer, whose other bytes are as they were.
@@ -121,6 +123,10 @@ pub fn copy_text(texts: &[u8], slot: usize, n: usize, buffer: &mut [u8])
     requires { (slot_length * slot + n ≤ length texts.now) × (n ≤ length buffer.old) }
     ensures { buffer.new ≡ splice buffer.old 0 (take n (drop (slot_length * slot) texts.now)) }
 {
+    // Most requests have no text, and a copy of no byte would be a call all the same.
+    if n == 0 {
+        return;
+    }
     let at = SLOT_LENGTH * slot;
     buffer[..n].copy_from_slice(&texts[at..at + n]);
 }

@@ -30,14 +30,6 @@ returns-in_default c =
     _ (seat_version n) (common c.args.capabilities (negotiated_capabilities n)) c.next_id-id.ensures refl refl (fewer_at)
     (ids_spent_lem _ 1 (sym c.new_objects.ensures ∙ c.in_default.is)) (refl, refl)
 
-pub seat_length-requires : goal.seat_length-requires
-seat_length-requires c =
-    let cut_at : let a = c.args in c.common-set.result ≡ common a.capabilities (negotiated_capabilities (connection_of a.control.now)) = c.common-set.ensures ∙ ap (common c.args.capabilities) c.negotiated_capabilities-negotiated.ensures in
-    let small_at : c.common-set.result < 128 = let a = c.args in
-    let known = c.requires.known in
-    omega (arith, cut_at, common-le a.capabilities (negotiated_capabilities (connection_of a.control.now)) (omega arith)) in
-    small_at
-
 -- 19
 pub returns-then-out-seat_length : goal.returns-then-out-seat_length
 returns-then-out-seat_length c =
@@ -51,15 +43,7 @@ returns-then-out-seat_length c =
 
 pub announce_seat-count-requires : goal.announce_seat-count-requires
 announce_seat-count-requires c =
-    let cut_at : let a = c.args in c.common-set.result ≡ common a.capabilities (negotiated_capabilities (connection_of a.control.now)) = c.common-set.ensures ∙ ap (common c.args.capabilities) c.negotiated_capabilities-negotiated.ensures in
-    let small_at : c.common-set.result < 128 = let a = c.args in
-    let known = c.requires.known in
-    omega (arith, cut_at, common-le a.capabilities (negotiated_capabilities (connection_of a.control.now)) (omega arith)) in
-    record {
-      sound = c.requires.sound;
-      known = small_at;
-      room = omega (arith, c.seat_length.ensures (connection_of c.args.control.now), c.if-out-seat_length.false);
-    }
+    record { sound = c.requires.sound; room = omega (arith, c.seat_length.ensures (connection_of c.args.control.now), c.if-out-seat_length.false) }
 
 pub add_seat-requires : goal.add_seat-requires
 add_seat-requires c =

@@ -1,46 +1,40 @@
 -- 21, 12 and 19 leave all as it was; else the event is sent, its serial is the last one, and the device is changed as the notice says. Assumes nothing.
 use Rattle.answers.specs.Answer.{error_of}
-use mathlib.Core.Path.{◌≡◌, sym, ap, ◌∙◌, refl}
-use mathlib.Core.Bool.{true}
+use mathlib.Core.Path.{sym, ap, ◌∙◌, refl}
 use mathlib.Core.List.{[]}
 use native.Mathlib.Omega.{arith}
 use lib.ListN.{length}
 use Rattle.model.specs.Call.{Load}
 use Rattle.model.specs.Edit.{next_serial}
 use Rattle.eiproto.specs.Told.{told}
-use Rattle.control.specs.Sound.{is_sound}
 use Rattle.control.proofs.Sounds.{sound_bounds}
 use Rattle.session.specs.View.{store}
 use Rattle.session.proofs.Views.{found_bound}
 use Rattle.answers.specs.declared.Error.{Error}
-use Rattle.answers.proofs.Meetings.{failed, passed, unsound_answered, sound-answered, told-handled, ends}
+use Rattle.answers.proofs.Meetings.{unsound_answered, sound-answered, told-handled, ends}
 use Rattle.removal.proofs.Retiring.{raise-count}
 use Rattle.device.specs.Notice.{notice_call}
 use Rattle.device.proofs.Plans.{notice_unknown}
 use Rattle.device.proofs.Devices.{raise_one, notice_room, notice_short, notice_told}
-use Rattle.std.proofs.lemmas.Bool.{not_from_false, not_from_true}
 use Rattle.device.proofs.notify.Goals as goal
 
-pub returns-then-not-sound : goal.returns-then-not-sound
-returns-then-not-sound c = λ clock. unsound_answered (failed c.sound.ensures (not_from_false _ c.if-not-sound.true)) refl
+pub returns-in_err-check_sound : goal.returns-in_err-check_sound
+returns-in_err-check_sound c = λ clock. unsound_answered c.in_err-check_sound.ensures c.from_residual.ensures.1
 
 pub find_device-requires : goal.find_device-requires
 find_device-requires c =
-    let sound_at : is_sound c.args.control.now ≡ true = passed c.sound.ensures (not_from_true _ c.if-not-sound.false) in
-    sound_bounds _ (sound_at)
+    sound_bounds _ c.in_ok-check_sound.ensures
 
 pub last_serial-requires : goal.last_serial-requires
 last_serial-requires c =
-    let sound_at : is_sound c.args.control.now ≡ true = passed c.sound.ensures (not_from_true _ c.if-not-sound.false) in
-    (sound_bounds _ (sound_at)).long
+    (sound_bounds _ c.in_ok-check_sound.ensures).long
 
 -- 19
 pub returns-then-out-fixed_length : goal.returns-then-out-fixed_length
 returns-then-out-fixed_length c =
-    let sound_at : is_sound c.args.control.now ≡ true = passed c.sound.ensures (not_from_true _ c.if-not-sound.false) in
     let a = c.args in
     λ clock.
-    sound-answered (sound_at)
+    sound-answered c.in_ok-check_sound.ensures
     (λ words reals texts whole.
     notice_short (store a.control.now words reals texts) whole a.out.now a.device clock a.notice _
     (sym c.find_device.ensures ∙ ap told c.in-Some.is) (c.next_serial-serial.ensures ∙ ap next_serial c.last_serial.ensures)
@@ -52,8 +46,7 @@ send-count-requires c =
 
 pub raise-requires : goal.raise-requires
 raise-requires c =
-    let sound_at : is_sound c.args.control.now ≡ true = passed c.sound.ensures (not_from_true _ c.if-not-sound.false) in
-    sound_bounds _ (sound_at)
+    sound_bounds _ c.in_ok-check_sound.ensures
 
 pub enact-requires : goal.enact-requires
 enact-requires c =
@@ -65,10 +58,9 @@ enact-requires c =
 -- sent
 pub returns : goal.returns
 returns c =
-    let sound_at : is_sound c.args.control.now ≡ true = passed c.sound.ensures (not_from_true _ c.if-not-sound.false) in
     let a = c.args in
     λ clock.
-    sound-answered (sound_at)
+    sound-answered c.in_ok-check_sound.ensures
     (λ words reals texts whole.
     notice_told (store a.control.now words reals texts) whole a.out.now a.device clock a.notice _
     (sym c.find_device.ensures ∙ ap told c.in-Some.is) (c.next_serial-serial.ensures ∙ ap next_serial c.last_serial.ensures)
@@ -78,10 +70,9 @@ returns c =
 -- 12
 pub returns-in_default : goal.returns-in_default
 returns-in_default c =
-    let sound_at : is_sound c.args.control.now ≡ true = passed c.sound.ensures (not_from_true _ c.if-not-sound.false) in
     let a = c.args in
     λ clock.
-    sound-answered (sound_at)
+    sound-answered c.in_ok-check_sound.ensures
     (λ words reals texts whole.
     let s = store a.control.now words reals texts in
     told-handled s a.out.now (notice_call a.notice a.device) clock (error_of Error.UnknownHandle) _ whole

@@ -9,16 +9,16 @@ use Rattle.requests.specs.declared.eis.ConnectionRequest.{ConnectionRequest}
 use Rattle.handlers.proofs.Plain.{for_call}
 use Rattle.handlers.proofs.handle_connection_request.Goals as goal
 
-pub returns-in-Sync : goal.returns-in-Sync
-returns-in-Sync c =
+pub returns-in-Sync-clause-step : goal.returns-in-Sync-clause-step
+returns-in-Sync-clause-step c =
     let a = c.args in
     λ clock texts whole.
-    for_call clock (ap (λ (x : ConnectionRequest). connection_call x) c.in-Sync.is) (c.sync.ensures a.control.now clock a.words.now a.reals.now texts whole)
+    for_call clock (ap (λ (x : ConnectionRequest). connection_call x) c.in-Sync.is) (c.sync.ensures a.session.now.control.now clock a.session.now.words.now a.session.now.reals.now texts whole)
 
-pub returns-in-Disconnect : goal.returns-in-Disconnect
+pub returns-in-Disconnect-clause-step : goal.returns-in-Disconnect-clause-step
 unfolding map_call decide decide_plain request_in
-returns-in-Disconnect c =
+returns-in-Disconnect-clause-step c =
     let a = c.args in
     λ clock texts whole.
     for_call clock (ap (λ (x : ConnectionRequest). connection_call x) c.in-Disconnect.is)
-    (c.queue_untimed.ensures (Call.plain Plain.disconnect) clock texts a.out.now (record { untimed = Untimed.Disconnect; is = refl; plan = refl }) whole)
+    (c.queue_untimed.ensures.step (Call.plain Plain.disconnect) clock texts a.out.now (record { untimed = Untimed.Disconnect; is = refl; plan = refl }) whole)

@@ -8,22 +8,27 @@ use Rattle.model.specs.Edit.{item}
 use Rattle.model.specs.Decide.{handler}
 use Rattle.session.specs.View.{request_in, item_in, request_at, item_at}
 use Rattle.handlers.specs.Call.{pointer_call}
+use Rattle.answers.proofs.Meetings.{lent-still}
 use Rattle.handlers.proofs.Plain.{for_call}
 use Rattle.handlers.proofs.Timed.{row-waits}
 use Rattle.handlers.proofs.handle_pointer_request.Goals as goal
 
-pub returns-in-Release : goal.returns-in-Release
-returns-in-Release c =
+pub invariant_of-session : goal.invariant_of-session
+invariant_of-session c =
+    record { lent = lent-still 0 c.args.session.now.lent (c.release_interface.ensures 0) }
+
+pub returns-in-Release-clause-step : goal.returns-in-Release-clause-step
+returns-in-Release-clause-step c =
     let a = c.args in
     λ version clock texts whole.
     for_call clock (ap (λ (x : PointerRequest). pointer_call x a.pointer version) c.in-Release.is)
-    (c.release_interface.ensures clock a.words.now a.reals.now texts whole)
+    (c.release_interface.ensures clock a.session.now.words.now a.session.now.reals.now texts whole)
 
-pub returns-in-MotionRelative : goal.returns-in-MotionRelative
+pub returns-in-MotionRelative-clause-step : goal.returns-in-MotionRelative-clause-step
 unfolding handler sight load item item_at request_at request_in item_in entry
-returns-in-MotionRelative c =
+returns-in-MotionRelative-clause-step c =
     let a = c.args in
     λ version clock texts whole.
     for_call clock (ap (λ (x : PointerRequest). pointer_call x a.pointer version) c.in-MotionRelative.is)
-    (c.queue_for_interface.ensures version clock (Input.MotionRelative _ _) (record { by = refl; valid = refl })
+    (c.queue_for_interface.ensures.step version clock (Input.MotionRelative _ _) (record { by = refl; valid = refl })
     (row-waits (Input.MotionRelative _ _) (EisRequest.PointerMotion 0 0 _ _) c.pointer_motion-request.ensures (λ t. refl)) a.out.now texts whole)

@@ -9,24 +9,24 @@ use Rattle.requests.specs.declared.eis.SeatRequest.{SeatRequest}
 use Rattle.handlers.proofs.Plain.{for_call}
 use Rattle.handlers.proofs.handle_seat_request.Goals as goal
 
-pub returns-in-Release : goal.returns-in-Release
-returns-in-Release c =
+pub returns-in-Release-clause-step : goal.returns-in-Release-clause-step
+returns-in-Release-clause-step c =
     let a = c.args in
     λ clock texts whole.
-    for_call clock (ap (λ (x : SeatRequest). seat_call x a.seat) c.in-Release.is) (c.release_seat.ensures clock texts whole)
+    for_call clock (ap (λ (x : SeatRequest). seat_call x a.seat) c.in-Release.is) (c.release_seat.ensures.step clock texts whole)
 
-pub returns-in-Bind : goal.returns-in-Bind
+pub returns-in-Bind-clause-step : goal.returns-in-Bind-clause-step
 unfolding map_call decide decide_plain request_in
-returns-in-Bind c =
+returns-in-Bind-clause-step c =
     let a = c.args in
     λ clock texts whole.
     for_call clock (ap (λ (x : SeatRequest). seat_call x a.seat) c.in-Bind.is)
-    (c.queue_for_seat.ensures (Call.plain (Plain.bind a.seat _)) clock (record { untimed = Untimed.Bind a.seat _; is = refl; plan = λ v. refl }) a.out.now texts whole)
+    (c.queue_for_seat.ensures.step (Call.plain (Plain.bind a.seat _)) clock (record { untimed = Untimed.Bind a.seat _; is = refl; plan = λ v. refl }) a.out.now texts whole)
 
-pub returns-in-RequestDevice : goal.returns-in-RequestDevice
+pub returns-in-RequestDevice-clause-step : goal.returns-in-RequestDevice-clause-step
 unfolding map_call decide decide_plain request_in
-returns-in-RequestDevice c =
+returns-in-RequestDevice-clause-step c =
     let a = c.args in
     λ clock texts whole.
     for_call clock (ap (λ (x : SeatRequest). seat_call x a.seat) c.in-RequestDevice.is)
-    (c.queue_for_seat-in-RequestDevice.ensures (Call.plain (Plain.request_device a.seat _)) clock (record { untimed = Untimed.RequestDevice a.seat _; is = refl; plan = λ v. refl }) a.out.now texts whole)
+    (c.queue_for_seat-in-RequestDevice.ensures.step (Call.plain (Plain.request_device a.seat _)) clock (record { untimed = Untimed.RequestDevice a.seat _; is = refl; plan = λ v. refl }) a.out.now texts whole)

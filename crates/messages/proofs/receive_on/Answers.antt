@@ -7,7 +7,6 @@ use Rattle.std.specs.Prelude.{Ok, Some}
 use Rattle.std.specs.Prelude as rust
 use Rattle.parse.proofs.Firsts.{first-within}
 use Rattle.messages.specs.Reading.{read_as}
-use Rattle.messages.specs.declared.Received.{Received}
 use Rattle.messages.proofs.Bytes.{read_is}
 use Rattle.messages.proofs.receive_on.Goals as goal
 
@@ -22,27 +21,27 @@ hand_on-answer-requires c =
     let e : c.read_first.result ≡ Ok (Some c.in-Ok-Some.first) = cc in
     (c.requires.0, (first-within _ _ _ _ (sym e ∙ c.read_first.ensures)).text)
 
-pub returns-in-Ok-None : goal.returns-in-Ok-None
+pub returns-in-Ok-None-clause-step : goal.returns-in-Ok-None-clause-step
 unfolding read_as
-returns-in-Ok-None c =
+returns-in-Ok-None-clause-step c =
     let a = c.args in
     let e : c.read_first.result ≡ Ok rust.None = cc in
-    rw (read_is a.object a.interface a.version a.message.now c.read_first.ensures e) (refl, (refl, refl))
+    rw (read_is a.object a.alive.interface a.alive.version a.message.now c.read_first.ensures e) (refl, (refl, refl))
 
-pub returns-in-Err : goal.returns-in-Err
+pub returns-in-Err-clause-step : goal.returns-in-Err-clause-step
 unfolding read_as
-returns-in-Err c =
+returns-in-Err-clause-step c =
     let a = c.args in
-    rw (read_is a.object a.interface a.version a.message.now c.read_first.ensures c.in-Err.is) (refl, (refl, refl))
+    rw (read_is a.object a.alive.interface a.alive.version a.message.now c.read_first.ensures c.in-Err.is) (refl, (refl, refl))
 
-pub returns-in-Ok-Some : goal.returns-in-Ok-Some
+pub returns-in-Ok-Some-clause-step : goal.returns-in-Ok-Some-clause-step
 unfolding read_as
-returns-in-Ok-Some c =
+returns-in-Ok-Some-clause-step c =
     let a = c.args in
     let e : c.read_first.result ≡ Ok (Some c.in-Ok-Some.first) = cc in
-    rw (read_is a.object a.interface a.version a.message.now c.read_first.ensures e)
+    rw (read_is a.object a.alive.interface a.alive.version a.message.now c.read_first.ensures e)
     (record {
       answer = c.hand_on-answer.result;
-      told = ap (λ (n : ℕ). Received.Handed c.hand_on-answer.result n) c.taken_of-taken.ensures;
-      handled = c.hand_on-answer.ensures;
+      told = ap (λ (n : ℕ). Ok (record { answer = c.hand_on-answer.result; taken = n })) c.taken_of-taken.ensures;
+      handled = c.hand_on-answer.ensures.step;
     })

@@ -4,9 +4,9 @@ use Rattle.queue.proofs.Entries.{untimed-request}
 use Rattle.queue.proofs.Edits.{enacted, pushed}
 use Rattle.queue.proofs.push.Goals as goal
 
-pub returns : goal.returns
-returns c =
+pub returns-clause-step : goal.returns-clause-step
+returns-clause-step c =
     λ u what texts load.
     enacted c.set_queue.ensures.sound
-    (pushed c.requires.0.sound c.put.ensures c.set_queue.ensures c.of-ring.ensures.0 c.of-ring.ensures.1 (omega (arith, c.of-ring.ensures.1, c.requires.1))
+    (pushed c.args.session.now.lent.sound c.put.ensures c.set_queue.ensures c.of-ring.ensures.0 c.of-ring.ensures.1 (omega (arith, c.of-ring.ensures.1, c.requires))
     (omega (arith, c.row.ensures.0)) (omega arith) texts u load (untimed-request texts c.args.request _ u what))

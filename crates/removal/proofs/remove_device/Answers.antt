@@ -4,8 +4,8 @@ use Rattle.std.specs.Float.{nan}
 use Rattle.removal.proofs.Rows.{device-out}
 use Rattle.removal.proofs.remove_device.Goals as goal
 
-pub returns : goal.returns
-returns c =
+pub returns-clause-step : goal.returns-clause-step
+returns-clause-step c =
     let a = c.args in
-    device-out a.control.now a.words.now c.shift.new.a a.reals.now c.shift-2.new.a a.k (c.shift.ensures 0) (c.shift-2.ensures nan) (omega arith) (omega arith)
-    (omega arith) (omega arith) (omega arith) (omega arith) c.remove_device_row.new.control c.requires.0.sound c.requires.1 c.remove_device_row.ensures
+    device-out a.session.now.control.now a.session.now.words.now c.shift.new.a a.session.now.reals.now c.shift-2.new.a a.k (c.shift.ensures 0) (c.shift-2.ensures nan) (omega arith) (omega arith)
+    (omega arith) (omega arith) (omega arith) (omega arith) c.remove_device_row.new.control c.args.session.now.lent.sound c.requires c.remove_device_row.ensures

@@ -2,14 +2,15 @@
 use Prim.Native.Nat.{ℕ, ◌-◌, ◌≤◌}
 use mathlib.Core.List.{List}
 use Rattle.control.specs.Control.{device_count}
-use Rattle.session.specs.View.{store, Lent}
+use Rattle.session.specs.Loan.{SameLoan, store_of}
 use Rattle.removal.proofs.Loops.{Dropping}
 use Rattle.removal.proofs.remove_devices_of.Given as goal
 
 abbrev pub invariant-loop-k : goal.invariant-loop-k
 invariant-loop-k l =
-    (l.k ≤ device_count l.control) × (Lent l.control l.words l.reals × ((texts : List ℕ) → Dropping (store l.initial.control l.initial.words l.initial.reals texts) (store l.control l.words l.reals texts) l.seat l.k))
+    (l.k ≤ device_count l.session.control.now)
+    × (SameLoan l.initial.session l.session × ((texts : List ℕ) → Dropping (store_of l.initial.session texts) (store_of l.session texts) l.seat l.k))
 
 abbrev pub decreases-loop-k : goal.decreases-loop-k
 decreases-loop-k l =
-    device_count l.control - l.k
+    device_count l.session.control.now - l.k

@@ -40,12 +40,6 @@ returns-in_default c =
     _ _ _ _ c.made_with-made.ensures c.next_id-id.ensures refl refl (fewer_at)
     (omega (arith, ids_spent_lem _ _ (sym c.new_objects.ensures ∙ c.in_default.is), c.count.ensures)) (refl, refl)
 
-pub device_length-requires : goal.device_length-requires
-device_length-requires c =
-    let small_at : c.made_with-made.result < 128 = let a = c.args in
-    made-small a.control.now a.k a.capabilities c.requires.known c.made_with-made.ensures in
-    small_at
-
 -- 19
 pub returns-then-out-device_length : goal.returns-then-out-device_length
 returns-then-out-device_length c =
@@ -60,12 +54,10 @@ returns-then-out-device_length c =
 
 pub announce_device-count-requires : goal.announce_device-count-requires
 announce_device-count-requires c =
-    let small_at : c.made_with-made.result < 128 = let a = c.args in
-    made-small a.control.now a.k a.capabilities c.requires.known c.made_with-made.ensures in
     let left_at : c.next_id-id.result + 1 + length (bits_of c.made_with-made.result) ≤ 0xffff_ffff_ffff_ffff = omega (arith, ids-left _ _ (sym c.new_objects.ensures ∙ c.in-Some.is), c.count.ensures) in
     let bytes_at : (kind : ℕ) → c.device_length.result ≡ length (records (device_events (connection_of c.args.control.now) c.args.seat c.next_id-id.result c.device_version-version.result (given c.args.name) kind c.made_with-made.result)) = λ kind. let a = c.args in
     c.device_length.ensures (connection_of a.control.now) a.seat kind (made-part a.control.now a.k a.capabilities c.made_with-made.ensures) in
-    record { sound = c.requires.sound; known = small_at; ids = left_at; room = omega (arith, bytes_at c.number-number.result, c.if-out-device_length.false) }
+    record { sound = c.requires.sound; ids = left_at; room = omega (arith, bytes_at c.number-number.result, c.if-out-device_length.false) }
 
 pub add_device-requires : goal.add_device-requires
 add_device-requires c =

@@ -9,12 +9,12 @@ use Rattle.session.specs.Enact.{Enacted}
 use Rattle.texts.proofs.Slots.{text-pended}
 use Rattle.texts.proofs.pend_text.Goals as goal
 
-pub returns : goal.returns
-returns c =
+pub returns-clause-step : goal.returns-clause-step
+returns-clause-step c =
     let a = c.args in
     let placed =
     subst
-    (λ (ts : List ℕ). Enacted (store a.control.now a.words.now a.reals.now a.texts.now) (store c.pend.new.control c.pend.new.words c.pend.new.reals ts) (Edit.pend a.k (sight (Input.Utf8 a.text.now)) ∷ []) (Load.Text a.text.now))
+    (λ (ts : List ℕ). Enacted (store a.session.now.control.now a.session.now.words.now a.session.now.reals.now a.texts.now) (store c.pend.new.session.control.now c.pend.new.session.words.now c.pend.new.session.reals.now ts) (Edit.pend a.k (sight (Input.Utf8 a.text.now)) ∷ []) (Load.Text a.text.now))
     (sym c.put_text.ensures)
-    (text-pended a.texts.now a.text.now a.slot c.requires.low c.requires.short c.requires.whole.texts_long a.k c.requires.free c.text_utf8-request.ensures c.pend.ensures) in
+    (text-pended a.texts.now a.text.now a.slot c.requires.low c.requires.short c.requires.whole.texts_long a.k c.requires.free c.text_utf8-request.ensures c.pend.ensures.step) in
     (placed, c.put_text.ensures)

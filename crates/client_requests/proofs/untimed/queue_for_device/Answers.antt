@@ -19,15 +19,15 @@ pub frame_entries-requires : goal.frame_entries-requires
 frame_entries-requires c =
     let a = c.args in
     let f = sym c.find_device.ensures ∙ ap told c.in-Some.is in
-    (c.requires.sound, (device-passes a.control.now (λ d. eqb d.id a.device) _ f).within)
+    (c.args.session.now.lent.sound, (device-passes a.session.now.control.now (λ d. eqb d.id a.device) _ f).within)
 
-pub returns-then-not-has_room : goal.returns-then-not-has_room
-returns-then-not-has_room c =
+pub returns-then-not-has_room-clause-step : goal.returns-then-not-has_room-clause-step
+returns-then-not-has_room-clause-step c =
     let a = c.args in
     let f = sym c.find_device.ensures ∙ ap told c.in-Some.is in
     λ call x out texts w.
-    let s = store a.control.now a.words.now a.reals.now texts in
-    flush_full s out call a.clock _ _ (connection_of a.control.now).last_serial a.clock (device-passes a.control.now (λ d. eqb d.id a.device) _ f).within x.untimed
+    let s = store a.session.now.control.now a.session.now.words.now a.session.now.reals.now texts in
+    flush_full s out call a.clock _ _ (connection_of a.session.now.control.now).last_serial a.clock (device-passes a.session.now.control.now (λ d. eqb d.id a.device) _ f).within x.untimed
     (x.plan (view (session s)) ∙ device_flush s a.device f a.clock x.untimed refl) c.frame_entries.ensures.0 w
     (sym c.has_room.ensures ∙ not-true _ (not_from_false _ c.if-not-has_room.true)) (refl, refl)
 
@@ -35,44 +35,35 @@ pub frame-requires : goal.frame-requires
 frame-requires c =
     let a = c.args in
     let f = sym c.find_device.ensures ∙ ap told c.in-Some.is in (
-      c.requires,
-      (
-        (device-passes a.control.now (λ d. eqb d.id a.device) _ f).within,
-        room_flush a.control.now _ c.frame_entries.ensures.0 (sym c.has_room.ensures ∙ not-false _ (not_from_true _ c.if-not-has_room.false)),
-      ),
+      (device-passes a.session.now.control.now (λ d. eqb d.id a.device) _ f).within,
+      room_flush a.session.now.control.now _ c.frame_entries.ensures.0 (sym c.has_room.ensures ∙ not-false _ (not_from_true _ c.if-not-has_room.false)),
     )
 
 pub push-requires : goal.push-requires
 push-requires c =
     let a = c.args in
     let f = sym c.find_device.ensures ∙ ap told c.in-Some.is in
-    let o = c.frame.ensures.0 [] Load.None in (
-      record {
-        sound = o.sound;
-        words_long = c.frame.auto.words ∙ c.requires.words_long;
-        reals_long = c.frame.auto.reals ∙ c.requires.reals_long;
-      },
-      room-behind (store a.control.now a.words.now a.reals.now []) _ _ _ _ (device-passes a.control.now (λ d. eqb d.id a.device) _ f).within
-          c.frame_entries.ensures.0 (sym c.has_room.ensures ∙ not-false _ (not_from_true _ c.if-not-has_room.false)) o,
-    )
+    let o = c.frame.ensures.step.0 [] Load.None in
+    room-behind (store a.session.now.control.now a.session.now.words.now a.session.now.reals.now []) _ _ _ _ (device-passes a.session.now.control.now (λ d. eqb d.id a.device) _ f).within
+    c.frame_entries.ensures.0 (sym c.has_room.ensures ∙ not-false _ (not_from_true _ c.if-not-has_room.false)) o
 
-pub returns : goal.returns
-returns c =
+pub returns-clause-step : goal.returns-clause-step
+returns-clause-step c =
     let a = c.args in
     let f = sym c.find_device.ensures ∙ ap told c.in-Some.is in
     λ call x out texts w.
-    let s = store a.control.now a.words.now a.reals.now texts in
-    let o = enacted_join (c.frame.ensures.0 texts _) (c.push.ensures x.untimed x.is texts _) in
-    flush_done s out call a.clock _ _ _ a.clock (device-passes a.control.now (λ d. eqb d.id a.device) _ f).within x.untimed
+    let s = store a.session.now.control.now a.session.now.words.now a.session.now.reals.now texts in
+    let o = enacted_join (c.frame.ensures.step.0 texts _) (c.push.ensures.step x.untimed x.is texts _) in
+    flush_done s out call a.clock _ _ _ a.clock (device-passes a.session.now.control.now (λ d. eqb d.id a.device) _ f).within x.untimed
     (x.plan (view (session s)) ∙ device_flush s a.device f a.clock x.untimed c.last_serial-serial.ensures) c.frame_entries.ensures.0
     (sym c.has_room.ensures ∙ not-false _ (not_from_true _ c.if-not-has_room.false))
-    (whole-rows w o (c.push.auto.words ∙ c.frame.auto.words) (c.push.auto.reals ∙ c.frame.auto.reals)) o (ends c.accepted-2.ensures)
+    (whole-rows w o ((c.push.new.session.lent.words_long ∙ sym c.args.session.now.lent.words_long)) ((c.push.new.session.lent.reals_long ∙ sym c.args.session.now.lent.reals_long))) o (ends c.accepted-2.ensures)
 
-pub returns-in_default : goal.returns-in_default
-returns-in_default c =
+pub returns-in_default-clause-step : goal.returns-in_default-clause-step
+returns-in_default-clause-step c =
     let a = c.args in
     λ call x out texts w.
-    let s = store a.control.now a.words.now a.reals.now texts in
+    let s = store a.session.now.control.now a.session.now.words.now a.session.now.reals.now texts in
     handled-answer s out call a.clock _ w
     (x.plan (view (session s)) ∙ device-none s a.device (sym c.find_device.ensures ∙ ap told c.in_default.is) a.clock x.untimed)
     (ends c.accepted.ensures)

@@ -14,38 +14,38 @@ use Rattle.client_requests.proofs.Handling.{handled-answer, seat-none, seat_stra
 use Rattle.std.proofs.lemmas.Bool.{not_from_false, not_from_true}
 use Rattle.client_requests.proofs.untimed.queue_for_seat.Goals as goal
 
-pub returns-then-has_unknown : goal.returns-then-has_unknown
-returns-then-has_unknown c =
+pub returns-then-has_unknown-clause-step : goal.returns-then-has_unknown-clause-step
+returns-then-has_unknown-clause-step c =
     let a = c.args in
     let f = sym c.find_seat.ensures ∙ ap told c.in-Some.is in
     λ call clock x out texts w.
-    let s = store a.control.now a.words.now a.reals.now texts in
+    let s = store a.session.now.control.now a.session.now.words.now a.session.now.reals.now texts in
     handled-answer s out call clock _ w (x.plan (view (session s)) ∙ seat_strange s a.seat a.capabilities x.untimed f (sym c.has_unknown.ensures ∙ c.if-has_unknown.true)) (refl, refl)
 
 pub seat_capabilities-requires : goal.seat_capabilities-requires
 seat_capabilities-requires c =
     let a = c.args in
     let f = sym c.find_seat.ensures ∙ ap told c.in-Some.is in
-    (c.requires.sound.long, omega (arith, c.requires.sound.seats, (seat-passes a.control.now (λ t. eqb t.id a.seat) _ f).within))
+    (c.args.session.now.lent.sound.long, omega (arith, c.args.session.now.lent.sound.seats, (seat-passes a.session.now.control.now (λ t. eqb t.id a.seat) _ f).within))
 
-pub returns-then-not-contains : goal.returns-then-not-contains
-returns-then-not-contains c =
+pub returns-then-not-contains-clause-step : goal.returns-then-not-contains-clause-step
+returns-then-not-contains-clause-step c =
     let a = c.args in
     let f = sym c.find_seat.ensures ∙ ap told c.in-Some.is in
     λ call clock x out texts w.
-    let s = store a.control.now a.words.now a.reals.now texts in
+    let s = store a.session.now.control.now a.session.now.words.now a.session.now.reals.now texts in
     handled-answer s out call clock _ w
     (x.plan (view (session s)) ∙ seat_lacks s a.seat a.capabilities x.untimed f (sym c.has_unknown.ensures ∙ c.if-has_unknown.false)
     (ap (λ (m : ℕ). contains m a.capabilities) (sym c.seat_capabilities.ensures) ∙ sym c.contains.ensures ∙ not-true _ (not_from_false _ c.if-not-contains.true)))
     (refl, refl)
 
-pub returns : goal.returns
-returns c =
+pub returns-clause-step : goal.returns-clause-step
+returns-clause-step c =
     let a = c.args in
     let f = sym c.find_seat.ensures ∙ ap told c.in-Some.is in
     λ call clock x out texts w.
-    let s = store a.control.now a.words.now a.reals.now texts in
-    c.queue_untimed.ensures call clock texts out
+    let s = store a.session.now.control.now a.session.now.words.now a.session.now.reals.now texts in
+    c.queue_untimed.ensures.step call clock texts out
     (record {
       untimed = x.untimed;
       is = x.is;
@@ -54,11 +54,11 @@ returns c =
     })
     w
 
-pub returns-in_default : goal.returns-in_default
-returns-in_default c =
+pub returns-in_default-clause-step : goal.returns-in_default-clause-step
+returns-in_default-clause-step c =
     let a = c.args in
     λ call clock x out texts w.
-    let s = store a.control.now a.words.now a.reals.now texts in
+    let s = store a.session.now.control.now a.session.now.words.now a.session.now.reals.now texts in
     handled-answer s out call clock _ w
     (x.plan (view (session s)) ∙ seat-none s a.seat a.capabilities x.untimed (sym c.find_seat.ensures ∙ ap told c.in_default.is))
     (ends c.accepted.ensures)

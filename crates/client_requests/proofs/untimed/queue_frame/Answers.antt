@@ -16,16 +16,16 @@ pub frame_fits-requires : goal.frame_fits-requires
 frame_fits-requires c =
     let a = c.args in
     let f = sym c.find_device.ensures ∙ ap told c.in-Some.is in
-    (c.requires.sound, (device-passes a.control.now (λ d. eqb d.id a.device) _ f).within)
+    (c.args.session.now.lent.sound, (device-passes a.session.now.control.now (λ d. eqb d.id a.device) _ f).within)
 
-pub returns-then-not-frame_fits : goal.returns-then-not-frame_fits
-returns-then-not-frame_fits c =
+pub returns-then-not-frame_fits-clause-step : goal.returns-then-not-frame_fits-clause-step
+returns-then-not-frame_fits-clause-step c =
     let a = c.args in
     let f = sym c.find_device.ensures ∙ ap told c.in-Some.is in
     λ clock out texts w.
-    let s = store a.control.now a.words.now a.reals.now texts in
+    let s = store a.session.now.control.now a.session.now.words.now a.session.now.reals.now texts in
     frame_full s out (Call.plain (Plain.device_frame a.device a.serial a.time)) clock _ _ a.serial a.time
-    (device-passes a.control.now (λ d. eqb d.id a.device) _ f).within
+    (device-passes a.session.now.control.now (λ d. eqb d.id a.device) _ f).within
     (frame-plan (view (session s)) clock a.device a.serial a.time ∙ device_frame_lem s a.device f a.serial a.time) refl w
     (sym c.frame_fits.ensures ∙ not-true _ (not_from_false _ c.if-not-frame_fits.true)) (refl, refl)
 
@@ -33,30 +33,27 @@ pub frame-requires : goal.frame-requires
 frame-requires c =
     let a = c.args in
     let f = sym c.find_device.ensures ∙ ap told c.in-Some.is in (
-      c.requires,
-      (
-        (device-passes a.control.now (λ d. eqb d.id a.device) _ f).within,
-        room-frame a.control.now _ refl (sym c.frame_fits.ensures ∙ not-false _ (not_from_true _ c.if-not-frame_fits.false)),
-      ),
+      (device-passes a.session.now.control.now (λ d. eqb d.id a.device) _ f).within,
+      room-frame a.session.now.control.now _ refl (sym c.frame_fits.ensures ∙ not-false _ (not_from_true _ c.if-not-frame_fits.false)),
     )
 
-pub returns : goal.returns
-returns c =
+pub returns-clause-step : goal.returns-clause-step
+returns-clause-step c =
     let a = c.args in
     let f = sym c.find_device.ensures ∙ ap told c.in-Some.is in
     λ clock out texts w.
-    let s = store a.control.now a.words.now a.reals.now texts in
-    let o = c.frame.ensures.0 texts _ in
+    let s = store a.session.now.control.now a.session.now.words.now a.session.now.reals.now texts in
+    let o = c.frame.ensures.step.0 texts _ in
     frame-done s out (Call.plain (Plain.device_frame a.device a.serial a.time)) clock _ _ a.serial a.time
-    (device-passes a.control.now (λ d. eqb d.id a.device) _ f).within
+    (device-passes a.session.now.control.now (λ d. eqb d.id a.device) _ f).within
     (frame-plan (view (session s)) clock a.device a.serial a.time ∙ device_frame_lem s a.device f a.serial a.time) refl
-    (sym c.frame_fits.ensures ∙ not-false _ (not_from_true _ c.if-not-frame_fits.false)) (whole-rows w o c.frame.auto.words c.frame.auto.reals) o (ends c.accepted-2.ensures)
+    (sym c.frame_fits.ensures ∙ not-false _ (not_from_true _ c.if-not-frame_fits.false)) (whole-rows w o (c.frame.new.session.lent.words_long ∙ sym c.args.session.now.lent.words_long) (c.frame.new.session.lent.reals_long ∙ sym c.args.session.now.lent.reals_long)) o (ends c.accepted-2.ensures)
 
-pub returns-in_default : goal.returns-in_default
-returns-in_default c =
+pub returns-in_default-clause-step : goal.returns-in_default-clause-step
+returns-in_default-clause-step c =
     let a = c.args in
     λ clock out texts w.
-    let s = store a.control.now a.words.now a.reals.now texts in
+    let s = store a.session.now.control.now a.session.now.words.now a.session.now.reals.now texts in
     handled-answer s out (Call.plain (Plain.device_frame a.device a.serial a.time)) clock _ w
     (frame-plan (view (session s)) clock a.device a.serial a.time
     ∙ frame-none s a.device (sym c.find_device.ensures ∙ ap told c.in_default.is) a.serial a.time)

@@ -7,20 +7,20 @@ use Rattle.client_requests.proofs.Handling.{room_one, whole-rows, queue_full, qu
 use Rattle.std.proofs.lemmas.Bool.{not_from_false, not_from_true}
 use Rattle.client_requests.proofs.untimed.queue_untimed.Goals as goal
 
-pub returns-then-not-has_room : goal.returns-then-not-has_room
-returns-then-not-has_room c =
+pub returns-then-not-has_room-clause-step : goal.returns-then-not-has_room-clause-step
+returns-then-not-has_room-clause-step c =
     let a = c.args in
     λ call clock texts out x w.
-    queue_full (store a.control.now a.words.now a.reals.now texts) out call clock _ x.untimed x.plan w (sym c.has_room.ensures ∙ not-true _ (not_from_false _ c.if-not-has_room.true)) (refl, refl)
+    queue_full (store a.session.now.control.now a.session.now.words.now a.session.now.reals.now texts) out call clock _ x.untimed x.plan w (sym c.has_room.ensures ∙ not-true _ (not_from_false _ c.if-not-has_room.true)) (refl, refl)
 
 pub push-requires : goal.push-requires
 push-requires c =
-    (c.requires, room_one c.args.control.now (sym c.has_room.ensures ∙ not-false _ (not_from_true _ c.if-not-has_room.false)))
+    room_one c.args.session.now.control.now (sym c.has_room.ensures ∙ not-false _ (not_from_true _ c.if-not-has_room.false))
 
-pub returns : goal.returns
-returns c =
+pub returns-clause-step : goal.returns-clause-step
+returns-clause-step c =
     let a = c.args in
     λ call clock texts out x w.
-    let o = c.push.ensures x.untimed x.is texts _ in
-    queue-done (store a.control.now a.words.now a.reals.now texts) out call clock _ x.untimed x.plan (sym c.has_room.ensures ∙ not-false _ (not_from_true _ c.if-not-has_room.false))
-    (whole-rows w o c.push.auto.words c.push.auto.reals) o (ends c.accepted.ensures)
+    let o = c.push.ensures.step x.untimed x.is texts _ in
+    queue-done (store a.session.now.control.now a.session.now.words.now a.session.now.reals.now texts) out call clock _ x.untimed x.plan (sym c.has_room.ensures ∙ not-false _ (not_from_true _ c.if-not-has_room.false))
+    (whole-rows w o (c.push.new.session.lent.words_long ∙ sym c.args.session.now.lent.words_long) (c.push.new.session.lent.reals_long ∙ sym c.args.session.now.lent.reals_long)) o (ends c.accepted.ensures)

@@ -8,18 +8,18 @@ use Rattle.client_requests.proofs.Handling.{handled-answer, seat_unknown, seat_p
 use Rattle.client_requests.proofs.untimed.release_seat.Goals as goal
 
 -- it stands
-pub returns : goal.returns
-returns c =
+pub returns-clause-step : goal.returns-clause-step
+returns-clause-step c =
     let a = c.args in
     λ clock.
-    c.remove_seat.ensures (Plain.seat_release a.seat) clock
-    (λ w r t. seat_plan_lem (store a.control.now w r t) a.seat clock (sym c.find_seat.ensures ∙ ap told c.in-Some.is))
+    c.remove_seat.ensures.step (Plain.seat_release a.seat) clock
+    (λ w r t. seat_plan_lem (store a.session.now.control.now w r t) a.seat clock (sym c.find_seat.ensures ∙ ap told c.in-Some.is))
 
 -- it does not
-pub returns-in_default : goal.returns-in_default
-returns-in_default c =
+pub returns-in_default-clause-step : goal.returns-in_default-clause-step
+returns-in_default-clause-step c =
     let a = c.args in
     λ clock texts whole.
-    let s = store a.control.now a.words.now a.reals.now texts in
+    let s = store a.session.now.control.now a.session.now.words.now a.session.now.reals.now texts in
     handled-answer s a.out.now (Call.plain (Plain.seat_release a.seat)) clock _ whole
     (seat_unknown s a.seat clock (sym c.find_seat.ensures ∙ ap told c.in_default.is)) (ends c.accepted.ensures)
