@@ -61,12 +61,7 @@ pub fn opcode_of(interface: u32, kind: u8) -> Option<u32>
     if kind == 0 {
         return None;
     }
-    for opcode in 0..OPCODES as u32 {
-        if kind_at(interface, opcode) == kind {
-            return Some(opcode);
-        }
-    }
-    None
+    (0..OPCODES as u32).find(|opcode| kind_at(interface, *opcode) == kind)
 }
 
 // What a value is. In a record an interface is a number of one byte, in a message a name; a text is the rest of a record, behind a byte for

@@ -17,8 +17,9 @@ use wire::{backend, event};
 pub const NAME_LENGTH_LIMIT: usize = 254;
 
 // The client's name, or that it has not been said. The bytes past its length say nothing. No `Option`: a length above the limit is a
-// damaged handshake whether a name is given or not (`is_sound`, `Handled`).
-#[derive(Clone, Copy)]
+// damaged handshake whether a name is given or not (`is_sound`, `Handled`). No `PartialEq`, here and in what holds a name: it would compare
+// those bytes too.
+#[derive(Clone, Copy, Debug)]
 pub struct Name {
     pub bytes: [u8; NAME_LENGTH_LIMIT],
     pub length: usize,
@@ -27,7 +28,7 @@ pub struct Name {
 
 // A handshake under way. Its context type is there once it was said; its interfaces are the versions negotiated, in the order of their
 // numbers, from 1 on.
-#[derive(Clone, Copy)]
+#[derive(Clone, Copy, Debug)]
 pub struct EisHandshaker {
     pub name: Name,
     pub context: Option<ContextType>,
@@ -37,7 +38,7 @@ pub struct EisHandshaker {
 }
 
 // What a client may send. The text of Name, of InterfaceVersion and of another request that has one is lent beside it.
-#[derive(Clone, Copy)]
+#[derive(Clone, Copy, Debug, PartialEq, Eq)]
 pub enum HandshakeMessage {
     HandshakeVersion { version: u32 },
     Name,
@@ -50,7 +51,7 @@ pub enum HandshakeMessage {
 
 // What a Finish settles that succeeds, and what the session goes on from: its serial and the next object id. It shares no struct with
 // `EisHandshaker`: the context type is settled here and the next id another, so a part of three fields would only lengthen each path.
-#[derive(Clone, Copy)]
+#[derive(Clone, Copy, Debug)]
 pub struct EisHandshakeResp {
     pub connection: u64,
     pub name: Name,
@@ -75,7 +76,7 @@ pub enum HandshakeError {
 
 // What a call gives: the handshake after it, its outcome, with what a Finish settled, and how many bytes of events were written:
 // `MissingInterface` is refused behind its report, so that the count is no part of the outcome.
-#[derive(Clone, Copy)]
+#[derive(Clone, Copy, Debug)]
 pub struct HandshakeAnswer {
     pub handshaker: EisHandshaker,
     pub outcome: Result<Option<EisHandshakeResp>, HandshakeError>,
@@ -90,6 +91,7 @@ impl HandshakeError {
     }
 }
 
+#[tactic(auto, unfolding(crate::specs::View::no_name))]
 fn no_name() -> Name
     ensures { result ≡ no_name }
 {
@@ -137,6 +139,9 @@ fn name_of(text: &[u8]) -> Name
         given: true,
     }
 }
+
+// `is_sound` is asked from here on, behind 21's test. As a fact of `EisHandshaker` it would leave no handshake that 21 could refuse (`Handled`;
+// the edit damaged_is_taken), and a type of a sound one would only be opened again in each of these.
 
 // Name.
 fn set_name(h: EisHandshaker, text: &[u8]) -> Result<EisHandshaker, HandshakeError>
@@ -217,6 +222,7 @@ fn complete(interfaces: [Option<u32>; 12]) -> bool
 }
 
 // Writes an event of the handshake at a place of the buffer, or nothing where there is no room, and answers how many bytes.
+#[tactic(auto, unfolding(crate::specs::Handshake::sent))]
 fn send(out: &mut [u8], at: usize, e: Event) -> usize
     ensures { PutWhole out.old out.new at (paper.sent e) result }
 {
@@ -273,6 +279,7 @@ fn response_of(h: EisHandshaker, next: u64) -> EisHandshakeResp
     requires { next ≡ h.next + 1 }
     ensures { (response_of result ≡ paper.settled (view_of h)) × (result.name ≡ h.name) }
 {
+    // A variable: an array that goes straight from field to field gets no proof.
     let interfaces = h.interfaces;
     EisHandshakeResp {
         connection: h.next,

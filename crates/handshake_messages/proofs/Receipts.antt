@@ -22,18 +22,18 @@ use Rattle.handshake.specs.declared.handshake.EisHandshaker.{EisHandshaker}
 use Rattle.handshake.specs.declared.handshake.HandshakeError.{HandshakeError}
 use Rattle.handshake.proofs.Answers.{sound_is}
 use Rattle.handshake_messages.specs.Reading.{object_of, is_peer_id, check_id, body_read, reading_of, request_in, is_handed, whole, Follows, Received}
-use Rattle.handshake_messages.specs.declared.Reading.{Reading}
+use Rattle.parse.specs.declared.First.{First}
 use Rattle.handshake_messages.specs.declared.Unhanded.{Unhanded}
 use Rattle.handshake_messages.specs.declared.HandshakeReceived.{HandshakeReceived}
 
 -- ---- a request that was read
 
-read_in : Reading → rust.Result Reading Unhanded → Reading
+read_in : First → rust.Result First Unhanded → First
 read_in x (Ok y) = y
 read_in x (Err why) = x
 
 -- by which side a test came to it
-either : {P : Type 0} (t : Bool) {x y z : rust.Result Reading Unhanded} → (t ≡ true → x ≡ z → P) → (t ≡ false → y ≡ z → P) → cond t x y ≡ z → P
+either : {P : Type 0} (t : Bool) {x y z : rust.Result First Unhanded} → (t ≡ true → x ≡ z → P) → (t ≡ false → y ≡ z → P) → cond t x y ≡ z → P
 either true f g = f refl
 either false f g = g refl
 
@@ -51,8 +51,8 @@ module _ (m : List ℕ) (a : Arguments) (n : ℕ) where
       is : whole f.arguments f.length ≡ whole a n → IsFirst m a n
       is s =
           let e = ap (read_in (record { arguments = f.arguments; length = f.length })) s in
-          let x : f.arguments ≡ a = ap (λ (z : Reading). z.arguments) e in
-          let y : f.length ≡ n = ap (λ (z : Reading). z.length) e in
+          let x : f.arguments ≡ a = ap (λ (z : First). z.arguments) e in
+          let y : f.length ≡ n = ap (λ (z : First). z.length) e in
           rw (x, y) at (first-within i m f.arguments f.length q)
 
   body : (o : rust.Option ℕ) → body_read o m ≡ whole a n → IsFirst m a n
@@ -71,13 +71,13 @@ pub received-damaged : (h : EisHandshaker) (m out : List ℕ) {r : HandshakeRece
 unfolding is_sound
 received-damaged h m out l e = record { damaged = λ _. (e, refl); received = λ t. absurd (false≢true (sym (lt-leb h.name.length 254 l) ∙ t)) }
 
-pub received : (h : EisHandshaker) (m : List ℕ) {out later : List ℕ} {reading : rust.Result Reading Unhanded} {r : HandshakeReceived} → h.name.length ≤ 254
+pub received : (h : EisHandshaker) (m : List ℕ) {out later : List ℕ} {reading : rust.Result First Unhanded} {r : HandshakeReceived} → h.name.length ≤ 254
     → reading ≡ reading_of h.next m → Follows reading h m out later r → Received h m out later r
 unfolding view_of
 received h m {out} {later} {r = r} l e f =
     record {
       damaged = λ t. absurd (false≢true (sym t ∙ sound_is h l));
-      received = λ _. subst (λ (x : rust.Result Reading Unhanded). Follows x h m out later r) e f;
+      received = λ _. subst (λ (x : rust.Result First Unhanded). Follows x h m out later r) e f;
     }
 
 -- "a refused message takes nothing"
@@ -92,7 +92,7 @@ taken-err (Err e) n t = refl
 -- ---- what a call promised
 
 -- the request that was handed on
-abbrev pub handed_in : rust.Result Reading Unhanded → (message : List ℕ) → paper.Message
+abbrev pub handed_in : rust.Result First Unhanded → (message : List ℕ) → paper.Message
 handed_in (Ok x) m = request_in x.arguments (take x.length m)
 handed_in (Err why) m = paper.Message.Finish
 
@@ -106,6 +106,6 @@ handed-handled h m {out} {later} {r} a t =
       done = λ s. go (reading_of h.next m) (a.received s);
     }
   where
-    go : (x : rust.Result Reading Unhanded) → Follows x h m out later r → Done h out later (paper.handle_request (view_of h) (handed_in x m) (length out)) r.answer
+    go : (x : rust.Result First Unhanded) → Follows x h m out later r → Done h out later (paper.handle_request (view_of h) (handed_in x m) (length out)) r.answer
     go (Ok x) f = f.done
     go (Err why) f = absurd (false≢true (sym (ap (λ (y : HandshakeReceived). is_handed y.told) f.0) ∙ t))

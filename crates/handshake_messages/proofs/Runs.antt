@@ -15,7 +15,7 @@ use Rattle.handshake.specs.declared.handshake.EisHandshaker.{EisHandshaker}
 use Rattle.handshake.specs.declared.handshake.HandshakeAnswer.{HandshakeAnswer}
 use Rattle.handshake_messages.specs.Reading.{handshake_reading, request_in, Nothing, HandedOn, Follows}
 use Rattle.handshake_messages.specs.Run.{TurnSeen, step_in, is_refused, nothing, handed, message_turn, turn, turns, MessageExchange, HandshakeTurn, answer_of, given_of, seen_of, Turned, HandshakeTurns, SeenIsTurns, EqualTurns}
-use Rattle.handshake_messages.specs.declared.Reading.{Reading}
+use Rattle.parse.specs.declared.First.{First}
 use Rattle.handshake_messages.specs.declared.Unhanded.{Unhanded}
 use Rattle.handshake_messages.specs.declared.HandshakeReceived.{HandshakeReceived}
 
@@ -59,7 +59,7 @@ module _ (h : EisHandshaker) (sound : is_sound h ≡ true) (x : MessageExchange)
       let s = meets-seen x.out m in
       ((λ i. TurnSeen.message (a.told i) (e i) (s i)), m.sound)
 
-  followed : (f : rust.Result Reading Unhanded) → Follows f h x.bytes x.out x.later x.received → Left (message_turn f (view_of h) x.bytes (length x.out))
+  followed : (f : rust.Result First Unhanded) → Follows f h x.bytes x.out x.later x.received → Left (message_turn f (view_of h) x.bytes (length x.out))
   unfolding message_turn
   followed (Ok f) a = handed_on (request_in f.arguments (take f.length x.bytes)) f.length a
   followed (Err why) a = not-handed why a

@@ -9,7 +9,7 @@ use Rattle.wire.specs.Ids.{first_server_id}
 use Rattle.wire.specs.declared.ParseError.{ParseError}
 use Rattle.handshake.specs.Handshake.{Message}
 use Rattle.handshake_messages.specs.Reading.{reading_of, request_in}
-use Rattle.handshake_messages.specs.declared.Reading.{Reading}
+use Rattle.parse.specs.declared.First.{First}
 use Rattle.handshake_messages.specs.declared.Unhanded.{Unhanded}
 use Rattle.std.specs.Prelude.{Ok, Err}
 use Rattle.std.specs.Prelude as rust
@@ -19,7 +19,7 @@ data Seen : Type 0 where
   request : Message → (length : ℕ) → Seen
   other : Unhanded → Seen
 
-seen : List ℕ → rust.Result Reading Unhanded → Seen
+seen : List ℕ → rust.Result First Unhanded → Seen
 unfolding request_in
 seen m (Ok x) = Seen.request (request_in x.arguments (take x.length m)) x.length
 seen m (Err why) = Seen.other why

@@ -14,7 +14,7 @@ use Rattle.handshake.specs.Handshake as paper
 use Rattle.handshake.specs.View.{view_of, is_sound, is_refusal, request_of, unfinished, Done}
 use Rattle.handshake.specs.declared.handshake.EisHandshaker.{EisHandshaker}
 use Rattle.handshake.specs.declared.handshake.HandshakeError.{HandshakeError}
-use Rattle.handshake_messages.specs.declared.Reading.{Reading}
+use Rattle.parse.specs.declared.First.{First}
 use Rattle.handshake_messages.specs.declared.Unhanded.{Unhanded}
 use Rattle.handshake_messages.specs.declared.HandshakeCall.{HandshakeCall}
 use Rattle.handshake_messages.specs.declared.HandshakeReceived.{HandshakeReceived}
@@ -39,10 +39,10 @@ unfoldable pub is_peer_id : ℕ → Bool
 is_peer_id id = ltb 0 id && ltb id first_server_id
 
 -- a request's arguments with the length of its message
-abbrev pub whole : Arguments → (length : ℕ) → rust.Result Reading Unhanded
+abbrev pub whole : Arguments → (length : ℕ) → rust.Result First Unhanded
 whole a n = Ok (record { arguments = a; length = n })
 
-unfoldable pub check_id : ReadFirst → rust.Result Reading Unhanded
+unfoldable pub check_id : ReadFirst → rust.Result First Unhanded
 unfolding is_peer_id
 check_id (Ok None) = Err Unhanded.Wait
 check_id (Err e) = Err (Unhanded.Malformed e)
@@ -51,17 +51,17 @@ check_id (Ok (Some f)) =
     cond (eqb a.request sync) (cond (is_peer_id a.first) (whole a f.length) (Err Unhanded.InvalidId)) (whole a f.length)
 
 -- its length and its arguments, by `first_of` of parse/specs/First
-unfoldable pub body_read : rust.Option ℕ → (message : List ℕ) → rust.Result Reading Unhanded
+unfoldable pub body_read : rust.Option ℕ → (message : List ℕ) → rust.Result First Unhanded
 unfolding first_of check_id
 body_read None m = Err Unhanded.NoObject
 body_read (Some interface) m = check_id (first_of interface m)
 
-unfoldable pub reading_of : (next : ℕ) → (message : List ℕ) → rust.Result Reading Unhanded
+unfoldable pub reading_of : (next : ℕ) → (message : List ℕ) → rust.Result First Unhanded
 unfolding le64 object_of body_read
 reading_of next m = cond (ltb (length m) 16) (Err Unhanded.Wait) (body_read (object_of next (le64 m 0)) m)
 
 -- HOW A MESSAGE IS READ. "Fewer than 16 bytes: WAIT. From 16 on: 24; then HeaderLength; then WAIT; then the rest of 23; then 25"
-abbrev pub handshake_reading : paper.Handshake → (message : List ℕ) → rust.Result Reading Unhanded
+abbrev pub handshake_reading : paper.Handshake → (message : List ℕ) → rust.Result First Unhanded
 handshake_reading h m = reading_of h.next_id m
 
 -- ---- the request that it stands for
@@ -109,7 +109,7 @@ pub record HandedOn (h : EisHandshaker) (request : paper.Message) (length : ℕ)
   pub done : Done h out later (paper.handle_request (view_of h) request (lib.ListN.length out)) r.answer
   pub taken : r.taken ≡ cond (is_refusal r.answer.outcome) 0 length
 
-abbrev pub Follows : rust.Result Reading Unhanded → EisHandshaker → (message out later : List ℕ) → HandshakeReceived → Type 0
+abbrev pub Follows : rust.Result First Unhanded → EisHandshaker → (message out later : List ℕ) → HandshakeReceived → Type 0
 Follows (Ok x) h m out later r = HandedOn h (request_in x.arguments (take x.length m)) x.length out later r
 Follows (Err why) h m out later r = Nothing h out later why r
 

@@ -8,7 +8,7 @@ use Rattle.handshake.specs.Run.{Call, HandshakeExchange, call_of, seen_in, seen}
 use Rattle.handshake.specs.declared.handshake.EisHandshaker.{EisHandshaker}
 use Rattle.handshake.specs.declared.handshake.HandshakeAnswer.{HandshakeAnswer}
 use Rattle.handshake_messages.specs.Reading.{request_in, handshake_reading, Told, Received}
-use Rattle.handshake_messages.specs.declared.Reading.{Reading}
+use Rattle.parse.specs.declared.First.{First}
 use Rattle.handshake_messages.specs.declared.Unhanded.{Unhanded}
 use Rattle.handshake_messages.specs.declared.HandshakeReceived.{HandshakeReceived}
 
@@ -41,7 +41,7 @@ nothing why h = TurnSeen.message (Err why) 0 (record { handshake = h; outcome = 
 abbrev pub handed : (length : ℕ) → paper.Step → TurnSeen
 handed n s = TurnSeen.message (Ok tt) (cond (is_refused s.outcome) 0 n) s
 
-unfoldable pub message_turn : rust.Result Reading Unhanded → paper.Handshake → (message : List ℕ) → (room : ℕ) → TurnSeen
+unfoldable pub message_turn : rust.Result First Unhanded → paper.Handshake → (message : List ℕ) → (room : ℕ) → TurnSeen
 unfolding request_in paper.handle_request
 message_turn (Ok x) h m room = handed x.length (paper.handle_request h (request_in x.arguments (take x.length m)) room)
 message_turn (Err why) h m room = nothing why h

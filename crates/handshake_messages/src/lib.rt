@@ -12,6 +12,7 @@ use handshake::handshake::{
 };
 use parse::{Arguments, First, HEADER_LENGTH};
 use requests::eis::RequestKind;
+use requests::row;
 use wire::{ParseError, backend};
 
 // The numbers of the handshake's requests, and that of a Sync.
@@ -27,15 +28,8 @@ const INTERFACE_VERSION: u64 = RequestKind::HandshakeInterfaceVersion as u64;
 
 const SYNC: u64 = RequestKind::ConnectionSync as u64;
 
-// A whole message on an object that lives: its request's arguments, and how many bytes it has.
-#[derive(Clone, Copy)]
-pub struct Reading {
-    pub arguments: Arguments,
-    pub length: usize,
-}
-
 // Why a message's request is not handed on: it is not yet whole, on no object that lives, malformed, or has an id that a client may not give.
-#[derive(Clone, Copy)]
+#[derive(Clone, Copy, Debug, PartialEq, Eq)]
 pub enum Unhanded {
     Wait,
     NoObject,
@@ -44,7 +38,7 @@ pub enum Unhanded {
 }
 
 // What a call gives: the answer to the request (of one that was not handed on, the handshake as it was), and how many bytes of the slice were taken.
-#[derive(Clone, Copy)]
+#[derive(Clone, Copy, Debug)]
 pub struct HandshakeReceived {
     pub told: Result<(), Unhanded>,
     pub answer: HandshakeAnswer,
@@ -76,42 +70,34 @@ fn is_peer_id(id: u64) -> bool
 
 // What was read of a message on an object that lives. A callback's id has to be one of the client's.
 #[tactic(auto, unfolding(crate::specs::Reading::check_id))]
-fn check_id(first: Result<Option<First>, ParseError>) -> Result<Reading, Unhanded>
+fn check_id(first: Result<Option<First>, ParseError>) -> Result<First, Unhanded>
     ensures { result ≡ check_id first }
 {
     match first {
         Ok(None) => Err(Unhanded::Wait),
         Err(e) => Err(Unhanded::Malformed(e)),
-        Ok(Some(First { arguments, length })) => {
-            if arguments.request == SYNC && !is_peer_id(arguments.first) {
+        Ok(Some(message)) => {
+            if message.arguments.request == SYNC && !is_peer_id(message.arguments.first) {
                 return Err(Unhanded::InvalidId);
             }
-            Ok(Reading { arguments, length })
+            Ok(message)
         }
     }
 }
 
-// The first message of a slice, on a handshake whose next id is this.
+// The first message of a slice, whole and on an object that lives, on a handshake whose next id is this.
 #[tactic(auto, unfolding(crate::specs::Reading::reading_of, crate::specs::Reading::body_read))]
-pub fn read(next: u64, message: &[u8]) -> Result<Reading, Unhanded>
+pub fn read(next: u64, message: &[u8]) -> Result<First, Unhanded>
     ensures { result ≡ reading_of next message.now }
 {
     if message.len() < HEADER_LENGTH {
         return Err(Unhanded::Wait);
     }
-    match find_object(next, parse::number64(message, 0)) {
-        Some(interface) => check_id(parse::read_first(interface, message)),
-        None => Err(Unhanded::NoObject),
-    }
+    let interface = find_object(next, parse::number64(message, 0)).ok_or(Unhanded::NoObject)?;
+    check_id(parse::read_first(interface, message))
 }
 
-// The low 32 bits.
-fn low(n: u64) -> u32
-    ensures { result ≡ n % 4294967296 }
-{
-    (n % 4294967296) as u32
-}
-
+// Any number but 1 is the other's, as `context_type_in` has it: what is neither was no argument (`parse`), so this is no `TryFrom`.
 fn context_type(n: u64) -> ContextType
     ensures { result ≡ context_type_in n }
 {
@@ -123,7 +109,7 @@ fn context_type(n: u64) -> ContextType
 }
 
 // A request as the handshake takes it, and how many bytes of its text are lent with it.
-#[derive(Clone, Copy)]
+#[derive(Clone, Copy, Debug, PartialEq, Eq)]
 struct HandshakeCall {
     request: HandshakeMessage,
     length: usize,
@@ -136,7 +122,7 @@ fn call_of(a: Arguments) -> HandshakeCall
     match a.request {
         HANDSHAKE_VERSION => HandshakeCall {
             request: HandshakeMessage::HandshakeVersion {
-                version: low(a.first),
+                version: row::low(a.first),
             },
             length: 0,
         },
@@ -156,7 +142,7 @@ fn call_of(a: Arguments) -> HandshakeCall
         },
         INTERFACE_VERSION => HandshakeCall {
             request: HandshakeMessage::InterfaceVersion {
-                version: low(a.first),
+                version: row::low(a.first),
             },
             length: a.length,
         },
@@ -192,14 +178,14 @@ pub fn pending_request(h: EisHandshaker, message: &[u8], out: &mut [u8]) -> Hand
         };
     }
     match read(h.next, message) {
-        Ok(reading) => {
-            let answer = hand_on(h, reading.arguments, &message[..reading.length], out);
+        Ok(first) => {
+            let answer = hand_on(h, first.arguments, &message[..first.length], out);
             HandshakeReceived {
                 told: Ok(()),
                 answer,
                 // A refused message takes nothing.
                 taken: if answer.outcome.is_ok() {
-                    reading.length
+                    first.length
                 } else {
                     0
                 },

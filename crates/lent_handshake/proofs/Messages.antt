@@ -23,7 +23,7 @@ use Rattle.handshake.specs.declared.handshake.EisHandshakeResp.{EisHandshakeResp
 use Rattle.handshake.specs.declared.handshake.HandshakeAnswer.{HandshakeAnswer}
 use Rattle.handshake_messages.specs.Reading.{reading_of, handshake_reading, Told, is_handed}
 use Rattle.handshake_messages.specs.Reading as by_value
-use Rattle.handshake_messages.specs.declared.Reading.{Reading}
+use Rattle.parse.specs.declared.First.{First}
 use Rattle.handshake_messages.specs.declared.Unhanded.{Unhanded}
 use Rattle.handshake_messages.specs.declared.HandshakeReceived.{HandshakeReceived}
 use Rattle.handshake_messages.proofs.Receipts.{handed_in, handed-handled}
@@ -125,13 +125,13 @@ module _ (w n c : List ℕ) (h : EisHandshaker) (lent : is_lent w n ≡ true) (i
   nothing-received f =
       record {
         damaged = λ d. absurd (false≢true (sym f ∙ ap (λ (x : HandshakeReceived). is_handed x.told) (a.damaged (sym whole ∙ d)).0));
-        received = λ t. subst (λ (x : rust.Result Reading Unhanded). Follows x w n w n c c message out later (reply_in r)) same (go (reading_of h.next message) (a.received (sym whole ∙ t)));
+        received = λ t. subst (λ (x : rust.Result First Unhanded). Follows x w n w n c c message out later (reply_in r)) same (go (reading_of h.next message) (a.received (sym whole ∙ t)));
       }
     where
       left : {s : HandshakeReceived} → (r ≡ s) × (later ≡ out) → Untouched w n w n c c out later (reply_in s) (reply_in r)
       left e = record { reply = ap reply_in e.0; words = refl; name = refl; control = refl; bytes = e.1 }
 
-      go : (x : rust.Result Reading Unhanded) → by_value.Follows x h message out later r → Follows x w n w n c c message out later (reply_in r)
+      go : (x : rust.Result First Unhanded) → by_value.Follows x h message out later r → Follows x w n w n c c message out later (reply_in r)
       go (Ok x) e = absurd (false≢true (sym f ∙ ap is_handed e.told))
       go (Err why) e = left e
 
@@ -151,7 +151,7 @@ module _ (w n c : List ℕ) (h : EisHandshaker) (lent : is_lent w n ≡ true) (i
                 let g = ap (λ (y : HandshakeReceived). is_finished y.answer.outcome) e.0 in
                 record { reply = ap reply_in e.0; words = (s.refused f).0; name = (s.refused f).1; control = s.control g; bytes = e.1 };
             received = λ x.
-                subst (λ (y : rust.Result Reading Unhanded). Follows y w n v m c d message out later (reply_in r)) same
+                subst (λ (y : rust.Result First Unhanded). Follows y w n v m c d message out later (reply_in r)) same
                 (go (reading_of h.next message) (a.received (sym whole ∙ x)) ((settled-handled w n h lent is long _ handled s).handled (held x)) (λ p q. s.begun p (settles w n h lent is long _ handled p (held x) q)));
           }
         where
@@ -161,7 +161,7 @@ module _ (w n c : List ℕ) (h : EisHandshaker) (lent : is_lent w n ≡ true) (i
           not : {y : HandshakeReceived} {P : Type 0} → r ≡ y → is_handed y.told ≡ false → P
           not e f = absurd (false≢true (sym f ∙ sym (ap (λ (x : HandshakeReceived). is_handed x.told) e) ∙ t))
 
-          go : (y : rust.Result Reading Unhanded) → by_value.Follows y h message out later r
+          go : (y : rust.Result First Unhanded) → by_value.Follows y h message out later r
               → Holds v m out later (paper.handle_request (handshake_in w n) (handed_in y message) (length out)) (reply_of r.answer)
               → ((p : paper.Response) → (paper.handle_request (handshake_in w n) (handed_in y message) (length out)).outcome ≡ paper.Result.finished p → Begun d p)
               → Follows y w n v m c d message out later (reply_in r)

@@ -11,7 +11,7 @@ use Rattle.handshake.specs.View.{view_of, is_sound, number, HandshakeOutcome, ou
 use Rattle.handshake.specs.declared.handshake.HandshakeError.{HandshakeError}
 use Rattle.handshake.specs.declared.handshake.HandshakeAnswer.{HandshakeAnswer}
 use Rattle.handshake_messages.specs.Reading.{handshake_reading, request_in}
-use Rattle.handshake_messages.specs.declared.Reading.{Reading}
+use Rattle.parse.specs.declared.First.{First}
 use Rattle.handshake_messages.specs.declared.Unhanded.{Unhanded}
 use Rattle.model.specs.Session.{fresh}
 use Rattle.control.specs.Table.{tab}
@@ -153,7 +153,7 @@ pub record HandedOn (w n v m c d out later : List ℕ) (request : paper.Message)
   pub control : is_finished r.reply.outcome ≡ false → d ≡ c
   pub begun : (p : paper.Response) → (paper.handle_request (handshake_in w n) request (length out)).outcome ≡ paper.Result.finished p → Begun d p
 
-abbrev pub Follows : rust.Result Reading Unhanded → (w n v m c d message out later : List ℕ) → MessageReply → Type 0
+abbrev pub Follows : rust.Result First Unhanded → (w n v m c d message out later : List ℕ) → MessageReply → Type 0
 Follows (Ok x) w n v m c d message out later r = HandedOn w n v m c d out later (request_in x.arguments (take x.length message)) x.length r
 Follows (Err why) w n v m c d message out later r = Untouched w n v m c d out later (nothing_reply why) r
 

@@ -16,6 +16,7 @@ use handshake::handshake::{
     NAME_LENGTH_LIMIT, Name,
 };
 use handshake_messages::Unhanded;
+use requests::row;
 
 // The words: how long the name is, whether it was said, the context type, the serial, the next id; then a word for each interface. They
 // are no struct: the caller's memory holds them (`bozterrun_handshake_new`).
@@ -36,24 +37,28 @@ const INTERFACES: usize = 12;
 pub const HANDSHAKE_LENGTH: usize = VERSIONS + INTERFACES;
 
 // What a call answers besides the slices.
-#[derive(Clone, Copy)]
+#[derive(Clone, Copy, Debug)]
 pub struct HandshakeReply {
     pub outcome: Result<Option<EisHandshakeResp>, HandshakeError>,
     pub count: usize,
 }
 
-// The low 32 bits.
-fn low(n: u64) -> u32
-    ensures { result ≡ n % 4294967296 }
-{
-    (n % 4294967296) as u32
+impl From<HandshakeAnswer> for HandshakeReply {
+    ghost from_gives = { λ answer reply. reply ≡ record { outcome = answer.outcome; count = answer.count } };
+
+    fn from(answer: HandshakeAnswer) -> HandshakeReply {
+        HandshakeReply {
+            outcome: answer.outcome,
+            count: answer.count,
+        }
+    }
 }
 
 // 0 is no version, and any other number one above the version.
 fn version_of(n: u64) -> Option<u32>
     ensures { told result ≡ version_at n }
 {
-    if n == 0 { None } else { Some(low(n - 1)) }
+    if n == 0 { None } else { Some(row::low(n - 1)) }
 }
 
 fn version_word(version: Option<u32>) -> u64
@@ -65,7 +70,7 @@ fn version_word(version: Option<u32>) -> u64
     }
 }
 
-// The number of a context type, 0 where none was said. Any other number counts as none.
+// The number of a context type, 0 where none was said. Any other number counts as none, also one above 32 bits: `try_from` would take two steps.
 #[tactic(auto, unfolding(crate::specs::Lent::context_at))]
 fn context_of(n: u64) -> Option<ContextType>
     ensures { told result ≡ context_at n }
@@ -106,6 +111,7 @@ fn load(words: &[u64], name: &[u8]) -> EisHandshaker
 {
     let mut bytes = [0; NAME_LENGTH_LIMIT];
     bytes.copy_from_slice(name);
+    // A variable: an array that a call gives gets no proof straight in a literal.
     let interfaces = load_versions(words);
     EisHandshaker {
         name: Name {
@@ -115,7 +121,7 @@ fn load(words: &[u64], name: &[u8]) -> EisHandshaker
         },
         context: context_of(words[CONTEXT]),
         interfaces,
-        serial: low(words[SERIAL]),
+        serial: row::low(words[SERIAL]),
         next: words[NEXT],
     }
 }
@@ -129,6 +135,7 @@ fn store_versions(words: &mut [u64], versions: [Option<u32>; INTERFACES])
     }
 }
 
+// Of a handshake that is not damaged (as `handshake` asks it, no fact of the type).
 #[tactic(auto, using(crate::proofs::Words::words_long, crate::proofs::Words::name_long))]
 fn store(words: &mut [u64], name: &mut [u8], h: EisHandshaker)
     requires { (is_lent words.old name.old ≡ true) × (is_sound h ≡ true) }
@@ -176,10 +183,7 @@ pub fn new(words: &mut [u64], name: &mut [u8], serial: u32, out: &mut [u8]) -> H
     }
     let answer = EisHandshaker::new(serial, out);
     store(words, name, answer.handshaker);
-    HandshakeReply {
-        outcome: answer.outcome,
-        count: answer.count,
-    }
+    answer.into()
 }
 
 // `EisHandshaker::handle_request`. No session is begun from what a Finish settles: `finish` does that.
@@ -199,10 +203,7 @@ pub fn handle_request(
     if answer.outcome.is_ok() {
         store(words, name, answer.handshaker);
     }
-    HandshakeReply {
-        outcome: answer.outcome,
-        count: answer.count,
-    }
+    answer.into()
 }
 
 // Keeps what an answer gives: the handshake where it is no refusal, and where it is a Finish that succeeded, the session that it begins.
@@ -233,14 +234,11 @@ pub fn finish(
     }
     let answer = load(words, name).handle_request(HandshakeMessage::Finish, b"", out);
     settle(words, name, control, answer);
-    HandshakeReply {
-        outcome: answer.outcome,
-        count: answer.count,
-    }
+    answer.into()
 }
 
 // What a message answers besides the slices: what became of it, the reply to its request, and how many of its bytes were taken.
-#[derive(Clone, Copy)]
+#[derive(Clone, Copy, Debug)]
 pub struct MessageReply {
     pub told: Result<(), Unhanded>,
     pub reply: HandshakeReply,
@@ -266,16 +264,12 @@ pub fn pending_request(
         };
     }
     let received = handshake_messages::pending_request(load(words, name), message, out);
-    let answer = received.answer;
     if received.told.is_ok() {
-        settle(words, name, control, answer);
+        settle(words, name, control, received.answer);
     }
     MessageReply {
         told: received.told,
-        reply: HandshakeReply {
-            outcome: answer.outcome,
-            count: answer.count,
-        },
+        reply: received.answer.into(),
         taken: received.taken,
     }
 }

@@ -16,6 +16,7 @@ use wire::event;
 use wire::event::{Fields, Number};
 
 // Numbers at a place of a message; 0 where it ends before.
+#[tactic(auto, unfolding(crate::specs::Read::word_at))]
 fn word_at(message: &[u8], at: usize) -> u32
     requires { at ≤ 1000 }
     ensures { result ≡ word_at message.now at }
@@ -26,6 +27,7 @@ fn word_at(message: &[u8], at: usize) -> u32
     parse::number32(message, at)
 }
 
+#[tactic(auto, unfolding(crate::specs::Read::double_at))]
 fn double_at(message: &[u8], at: usize) -> u64
     requires { at ≤ 1000 }
     ensures { result ≡ double_at message.now at }
@@ -129,17 +131,16 @@ fn read_argument(argument: EventArgument, message: &[u8], p: ReadSoFar) -> ReadS
     requires { (p.at ≤ 600) × (p.start + p.length ≤ length message.now) }
     ensures { Onward message.now p (argument_read argument message.now p) result }
 {
-    let at = p.at;
     match argument {
         EventArgument::None => ReadSoFar { value: 0, ..p },
         EventArgument::Uint32 | EventArgument::Reason | EventArgument::DeviceType => ReadSoFar {
-            at: at + 4,
-            value: u64::from(word_at(message, at)),
+            at: p.at + 4,
+            value: u64::from(word_at(message, p.at)),
             ..p
         },
         EventArgument::Uint64 => ReadSoFar {
-            at: at + 8,
-            value: double_at(message, at),
+            at: p.at + 8,
+            value: double_at(message, p.at),
             ..p
         },
         EventArgument::Interface => with_name(message, p),

@@ -3,13 +3,12 @@
 
 ghost use Rattle.std.specs.Prelude.{◌+◌, ◌≤◌, ◌<◌, true, ◌≡◌, length, take};
 ghost use Rattle.eiproto.specs.Interface.{interface_name};
-ghost use Rattle.wire.specs.Put.{Wrote};
 ghost use Rattle.event_messages.specs.Message.{le, padded, string, message};
 ghost use Rattle.event_messages.specs.Shape.{fixed_size, sent, sent_arguments, allowed, allowed_all};
 ghost use Rattle.event_messages.specs.Stands.{Stands, Turned};
 ghost use Rattle.event_messages.specs.declared.MessageError.{MessageError};
 ghost use Rattle.message_writer.specs.Number.{big_at, values_in};
-ghost use Rattle.message_writer.specs.Puts.{Puts, CanPut};
+ghost use Rattle.message_writer.specs.Puts.{Puts, Begins, Sends, HasRoom, CanSend};
 
 use eiproto::eiproto_eis;
 use event_messages::{EventArgument, MessageError, Shape, Values};
@@ -78,78 +77,79 @@ pub fn message_length(s: Shape, v: Values, text: &[u8]) -> usize
     16 + (a + (b + c))
 }
 
-// The k low bytes of x at a place of the buffer, the least significant first.
-fn put(out: &mut [u8], at: usize, k: usize, x: u64) -> usize
-    requires { (k ≤ 8) × (at + k ≤ length out.old) }
-    ensures { Wrote out.old out.new at k (le k x) result }
-{
-    event::put_text(out, at, &x.to_le_bytes()[..k])
+// A buffer with room for a message, and the place behind those of its bytes that are written.
+#[derive(Drop)]
+struct Sent<'a> {
+    out: &'a mut [u8],
+    at: usize,
 }
 
-fn put_string(out: &mut [u8], at: usize, text: &[u8]) -> usize
-    requires { (length text.now ≤ 254) × (at + length (string text.now) ≤ length out.old) }
-    ensures { Puts out.old out.new at (string text.now) result }
-{
-    let size = text.len();
-    let start = put(out, at, 4, (size + 1) as u64);
-    let end = event::put_text(out, start, text);
-    put(out, end, (size + 4) / 4 * 4 - size, 0)
-}
-
-// The bytes of an interface's name, with zeros behind them.
-fn name_of(interface: u8) -> [u8; 19]
-    ensures { take (length (interface_name interface)) result ≡ interface_name interface }
-{
-    let mut name = [0u8; 19];
-    let size = eiproto_eis::name_len(interface);
-    for i in 0..size {
-        name[i] = eiproto_eis::name_byte(interface, i);
+impl<'a> Sent<'a> {
+    fn new(out: &'a mut [u8]) -> Sent<'a>
+        ensures { Begins out.entry result }
+    {
+        Sent { out, at: 0 }
     }
-    name
-}
 
-fn put_name(out: &mut [u8], at: usize, interface: u8) -> usize
-    requires { at + length (string (interface_name interface)) ≤ length out.old }
-    ensures { Puts out.old out.new at (string (interface_name interface)) result }
-{
-    let name = name_of(interface);
-    let size = eiproto_eis::name_len(interface);
-    put_string(out, at, &name[..size])
-}
+    // The k low bytes of x, the least significant first.
+    fn number(&mut self, k: usize, x: u64)
+        requires { (k ≤ 8) × HasRoom self.old k }
+        ensures { Sends self.old self.new (le k x) }
+    {
+        self.bytes(&x.to_le_bytes()[..k])
+    }
 
-fn put_argument(out: &mut [u8], at: usize, argument: EventArgument, x: u64, text: &[u8]) -> usize
-    requires { CanPut out.old at argument x text.now }
-    ensures { Puts out.old out.new at (sent argument x text.now) result }
-{
-    match argument {
-        EventArgument::None => at,
-        EventArgument::Uint32 | EventArgument::Reason | EventArgument::DeviceType => {
-            put(out, at, 4, x)
-        }
-        EventArgument::Uint64 => put(out, at, 8, x),
-        EventArgument::Interface => put_name(out, at, x as u8),
-        EventArgument::Text => put_string(out, at, text),
-        EventArgument::Explanation => {
-            if x == 128 {
-                return put_string(out, at, text);
+    fn bytes(&mut self, bytes: &[u8])
+        requires { HasRoom self.old (length bytes.now) }
+        ensures { Sends self.old self.new bytes.now }
+    {
+        self.at = event::put_text(self.out, self.at, bytes);
+    }
+
+    fn string(&mut self, text: &[u8])
+        requires { (length text.now ≤ 254) × HasRoom self.old (length (string text.now)) }
+        ensures { Sends self.old self.new (string text.now) }
+    {
+        let size = text.len();
+        self.number(4, (size + 1) as u64);
+        self.bytes(text);
+        self.number((size + 4) / 4 * 4 - size, 0)
+    }
+
+    fn argument(&mut self, argument: EventArgument, x: u64, text: &[u8])
+        requires { CanSend self.old argument x text.now }
+        ensures { Sends self.old self.new (sent argument x text.now) }
+    {
+        match argument {
+            EventArgument::None => {}
+            EventArgument::Uint32 | EventArgument::Reason | EventArgument::DeviceType => {
+                self.number(4, x)
             }
-            put(out, at, 4, 0)
+            EventArgument::Uint64 => self.number(8, x),
+            EventArgument::Interface => self.string(eiproto_eis::name(x as u8)),
+            EventArgument::Text => self.string(text),
+            EventArgument::Explanation => {
+                if x == 128 {
+                    return self.string(text);
+                }
+                self.number(4, 0)
+            }
         }
     }
-}
 
-fn put_arguments(out: &mut [u8], at: usize, s: Shape, v: Values, text: &[u8]) -> usize
-    requires { (allowed_all s v text.now ≡ true) × (at + length (sent_arguments s v text.now) ≤ length out.old) }
-    ensures { Puts out.old out.new at (sent_arguments s v text.now) result }
-{
-    if s.swapped {
-        let behind_two = put_argument(out, at, s.second, v.second, text);
-        let behind_one = put_argument(out, behind_two, s.first, v.first, text);
-        return put_argument(out, behind_one, s.third, v.third, text);
+    fn arguments(&mut self, s: Shape, v: Values, text: &[u8])
+        requires { (allowed_all s v text.now ≡ true) × HasRoom self.old (length (sent_arguments s v text.now)) }
+        ensures { Sends self.old self.new (sent_arguments s v text.now) }
+    {
+        if s.swapped {
+            self.argument(s.second, v.second, text);
+            self.argument(s.first, v.first, text);
+            return self.argument(s.third, v.third, text);
+        }
+        self.argument(s.first, v.first, text);
+        self.argument(s.second, v.second, text);
+        self.argument(s.third, v.third, text)
     }
-    let behind_one = put_argument(out, at, s.first, v.first, text);
-    let behind_two = put_argument(out, behind_one, s.second, v.second, text);
-    put_argument(out, behind_two, s.third, v.third, text)
 }
 
 // Writes the message of an event to the front of the buffer, where there is room for it, and answers how many bytes.
@@ -165,10 +165,12 @@ pub fn put_message(
     ensures { Puts out.old out.new 0 (message object opcode (sent_arguments s v text.now)) result }
 {
     let length = message_length(s, v, text);
-    let id = put(out, 0, 8, object);
-    let long = put(out, id, 4, length as u64);
-    let code = put(out, long, 4, opcode as u64);
-    put_arguments(out, code, s, v, text)
+    let mut sent = Sent::new(out);
+    sent.number(8, object);
+    sent.number(4, length as u64);
+    sent.number(4, opcode as u64);
+    sent.arguments(s, v, text);
+    sent.at
 }
 
 // The record written as a message to an object of the interface, 0 for the handshake's.

@@ -11,7 +11,6 @@ use lib.ListN.{length, take, drop}
 use lib.Seq.{take-append_seam}
 use Rattle.wire.specs.Bits.{splice}
 use Rattle.model.specs.Call.{Input, Load, Call, split}
-use Rattle.wire.specs.declared.ParseError.{ParseError}
 use Rattle.model.specs.Session.{Queued, Session, view}
 use Rattle.model.specs.Plan.{records}
 use Rattle.model.specs.Plan as plan
@@ -26,9 +25,10 @@ use Rattle.session.specs.View.{Store, session, is_whole, Lending, is_intact}
 use Rattle.session.proofs.Views.{whole_is}
 use Rattle.answers.specs.declared.Answer.{Answer}
 use Rattle.answers.specs.Meets.{Handled, Answered}
-use Rattle.messages.specs.declared.Received.{Received}
+use Rattle.messages.specs.declared.Handed as messages
+use Rattle.messages.specs.declared.Unhanded.{Unhanded}
 use Rattle.messages.specs.Reading.{reading}
-use Rattle.messages.specs.Received.{Told, ReceivedAs}
+use Rattle.messages.specs.Received.{Received, Told, ReceivedAs}
 use Rattle.messages.specs.Same.{SameMessage}
 use Rattle.messages.proofs.Matching.{same_matched}
 use Rattle.converter.specs.Next.{given_in as next_given}
@@ -67,22 +67,12 @@ delivered-append (Exchange.asked clock buffer later answer e ∷ zs) ys =
 -- ---- what is received
 
 is_handed : Received → Bool
-is_handed Received.Wait = false
-is_handed Received.NoObject = false
-is_handed (Received.Malformed p) = false
-is_handed (Received.Handed a n) = true
+is_handed (Err why) = false
+is_handed (Ok handed) = true
 
-not-wait : {a : Result Answer Error} {n : ℕ} → Received.Wait ≡ Received.Handed a n → ⊥
+unhanded : {why : Unhanded} {h : messages.Handed} → ◌≡◌ {A = Received} (Err why) (Ok h) → ⊥
 unfolding is_handed
-not-wait e = false≢true (ap is_handed e)
-
-not-no_object : {a : Result Answer Error} {n : ℕ} → Received.NoObject ≡ Received.Handed a n → ⊥
-unfolding is_handed
-not-no_object e = false≢true (ap is_handed e)
-
-not-malformed : {p : ParseError} {a : Result Answer Error} {n : ℕ} → Received.Malformed p ≡ Received.Handed a n → ⊥
-unfolding is_handed
-not-malformed e = false≢true (ap is_handed e)
+unhanded e = false≢true (ap is_handed e)
 
 -- on a session that is not damaged, what the model says is what is promised of every call
 handled-answered : (s e : Store) (out later : List ℕ) (call : Call Input) (clock : ℕ) (answer : Result Answer Error) → is_whole s ≡ true → Handled s e out later call clock answer
@@ -149,13 +139,13 @@ reads_are_singles s (Made.read rs lent clock out later answer e ∷ xs) whole (M
 reads_are_singles s (Made.message bytes clock out later received e ∷ xs) whole (MadeCalls.message h rest) =
     by_reading (reading (view (session s)) bytes) refl (h.read whole) (λ w. reads_are_singles e xs w rest)
   where
-    told : (answer : Received) → ((a : Result Answer Error) (n : ℕ) → answer ≡ Received.Handed a n → ⊥) → Told s e out later answer received
+    told : (answer : Received) → ((h : messages.Handed) → answer ≡ Ok h → ⊥) → Told s e out later answer received
         → (is_whole e ≡ true → Replaced e xs) → Replaced s (Made.message bytes clock out later received e ∷ xs)
     told answer other t later_ones =
         let r = later_ones (rw t.1.0 whole) in
         record {
           singles = r.singles;
-          are = Singles.told (λ a n q. other a n (sym t.0 ∙ q)) r.are;
+          are = Singles.told (λ h q. other h (sym t.0 ∙ q)) r.are;
           calls = rw (← t.1.0) r.calls;
           after = ap (λ (m : Store). slices_after m r.singles) (sym t.1.0) ∙ r.after;
           delivered = r.delivered;
@@ -163,9 +153,9 @@ reads_are_singles s (Made.message bytes clock out later received e ∷ xs) whole
 
     by_reading : (x : Reading (Call Input)) → reading (view (session s)) bytes ≡ x → ReceivedAs s e out later x clock received
         → (is_whole e ≡ true → Replaced e xs) → Replaced s (Made.message bytes clock out later received e ∷ xs)
-    by_reading Reading.wait q t later_ones = told Received.Wait (λ a n z. not-wait z) t later_ones
-    by_reading Reading.no_object q t later_ones = told Received.NoObject (λ a n z. not-no_object z) t later_ones
-    by_reading (Reading.malformed p) q t later_ones = told (Received.Malformed p) (λ a n z. not-malformed z) t later_ones
+    by_reading Reading.wait q t later_ones = told (Err Unhanded.Wait) (λ h z. unhanded z) t later_ones
+    by_reading Reading.no_object q t later_ones = told (Err Unhanded.NoObject) (λ h z. unhanded z) t later_ones
+    by_reading (Reading.malformed p) q t later_ones = told (Err (Unhanded.Malformed p)) (λ h z. unhanded z) t later_ones
     by_reading (Reading.request call n) q t later_ones =
         let r = later_ones (whole_is e t.handled.whole) in
         record {

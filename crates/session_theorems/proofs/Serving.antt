@@ -15,7 +15,7 @@ use Rattle.handshake.proofs.Runs.{response_in, request_settles}
 use Rattle.handshake_messages.specs.Reading.{request_in, handshake_reading, Nothing, Follows}
 use Rattle.handshake_messages.specs.Run as handshake
 use Rattle.handshake_messages.specs.Run.{TurnSeen, step_in, HandshakeTurn, answer_of, Turned, HandshakeTurns}
-use Rattle.handshake_messages.specs.declared.Reading.{Reading}
+use Rattle.parse.specs.declared.First.{First}
 use Rattle.handshake_messages.specs.declared.Unhanded.{Unhanded}
 use Rattle.handshake_messages.specs.declared.HandshakeReceived.{HandshakeReceived}
 use Rattle.handshake_messages.proofs.Runs.{meets-seen, turning, equal_turns}
@@ -54,7 +54,7 @@ settles h (HandshakeTurn.message x) sound a f = go (handshake_reading (view_of h
     not : {why : Unhanded} → Nothing h x.out x.later why x.received → {P : Type 0} → P
     not n = absurd (false≢true (sym (ap (λ (r : HandshakeReceived). is_finished r.answer.outcome) n.0) ∙ f))
 
-    go : (g : rust.Result Reading Unhanded) → Follows g h x.bytes x.out x.later x.received → response_of (view.response_in x.received.answer.outcome) ≡ paper.settled (view_of h)
+    go : (g : rust.Result First Unhanded) → Follows g h x.bytes x.out x.later x.received → response_of (view.response_in x.received.answer.outcome) ≡ paper.settled (view_of h)
     go (Ok g) on = settles_met h (request_in g.arguments (take g.length x.bytes)) x.received.answer f on.done.meets
     go (Err why) n = not n
 

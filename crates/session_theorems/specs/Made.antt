@@ -20,9 +20,10 @@ use Rattle.reads.specs.declared.record.RequestRecord.{RequestRecord}
 use Rattle.reads.specs.Record.{entry_of}
 use Rattle.reads.specs.Handed.{opened, Handed}
 use Rattle.reads.specs.Agrees.{first_of}
-use Rattle.messages.specs.declared.Received.{Received}
+use Rattle.messages.specs.declared.Handed as messages
+use Rattle.messages.specs.declared.Unhanded.{Unhanded}
 use Rattle.messages.specs.Reading.{reading}
-use Rattle.messages.specs.Received.{ReceivedFrom}
+use Rattle.messages.specs.Received.{Received, ReceivedFrom}
 use Rattle.messages.specs.Same.{SameMessage}
 use Rattle.session_theorems.specs.Trail.{Exchange, turn_of, Calls, slices_after, serial_in, seen, FreshCalls, delivered_to}
 
@@ -63,10 +64,11 @@ pub data MadeCalls : Store → List Made → Type 0 where
 
 -- what is seen of a message: that it waits, its refusal, or what is seen of its request with the bytes taken
 abbrev pub received_seen : (later : List ℕ) → Store → Received → Reading Observed
-received_seen later e Received.Wait = Reading.wait
-received_seen later e Received.NoObject = Reading.no_object
-received_seen later e (Received.Malformed p) = Reading.malformed p
-received_seen later e (Received.Handed answer taken) =
+received_seen later e (Err Unhanded.Wait) = Reading.wait
+received_seen later e (Err Unhanded.NoObject) = Reading.no_object
+received_seen later e (Err (Unhanded.Malformed p)) = Reading.malformed p
+received_seen later e (Ok handed) =
+    let answer = handed.answer in
     Reading.request
     (record {
       outcome = outcome_of answer;
@@ -75,7 +77,7 @@ received_seen later e (Received.Handed answer taken) =
       last_serial = serial_in e;
       given = [];
     })
-    taken
+    handed.taken
 
 -- what is seen, payload aside; of a read "the number accepted ..., the number of event bytes these wrote, and the first refusal", the bytes and the last serial
 abbrev pub seen_of : Made → ObservedAct
@@ -134,10 +136,10 @@ pub data Singles : (s : Store) → List Made → List Exchange → Type 0 where
       → InTurn clock out later (entries_of records lent) answer zs → Singles e xs ys → Singles s (Made.read records lent clock out later answer e ∷ xs) (zs ++ ys)
   handed : {s : Store} {bytes : List ℕ} {clock : ℕ} {out later : List ℕ} {call : Call Input} {n : ℕ} {other : call ≡ Call.plain Plain.next_request → ⊥} {answer : Result Answer Error} {e : Store}
       {xs : List Made} {ys : List Exchange} → reading (view (session s)) bytes ≡ Reading.request call n → Singles e xs ys
-      → Singles s (Made.message bytes clock out later (Received.Handed answer (taken_of (outcome_of answer) n)) e ∷ xs)
+      → Singles s (Made.message bytes clock out later (Ok (record { answer = answer; taken = taken_of (outcome_of answer) n })) e ∷ xs)
       (Exchange.called call other clock out later answer e ∷ ys)
   told : {s : Store} {bytes : List ℕ} {clock : ℕ} {out later : List ℕ} {received : Received} {e : Store} {xs : List Made} {ys : List Exchange}
-      → ((answer : Result Answer Error) (taken : ℕ) → received ≡ Received.Handed answer taken → ⊥) → Singles e xs ys → Singles s (Made.message bytes clock out later received e ∷ xs) ys
+      → ((handed : messages.Handed) → received ≡ Ok handed → ⊥) → Singles e xs ys → Singles s (Made.message bytes clock out later received e ∷ xs) ys
 
 -- what `next_request` gave, and of it the timed requests of a device; a read gives none, and a message neither
 unfoldable pub delivered_in : List Made → List (Queued Load)

@@ -8,7 +8,8 @@ use native.Mathlib.Omega.{arith}
 use borrow.Author.Tests.{eq-eqb, ne_eqb, le-leb, lt-leb}
 use lib.ListN.{length, get_or, take, drop, set, length-drop, drop_of_length-le}
 use lib.Seq.{drop-cons, take-suc-set}
-use Rattle.utf8_cases.specs.Hex.{value_of, behind, byte, bytes_of}
+use Rattle.script.specs.Number.{digit}
+use Rattle.utf8_cases.specs.Hex.{behind, byte, bytes_of}
 
 pub behind-none : (o : Option (List ℕ)) → o ≡ behind [] o
 behind-none none = refl
@@ -37,7 +38,7 @@ unfolding bytes_of
 cut_first c [] e h = rw (ne_eqb c 0x20 e)
 cut_first c (d ∷ l) e h = absurd (omega (arith, h))
 
-pair-first : (c d : ℕ) (l : List ℕ) → (c ≡ 0x20 → ⊥) → bytes_of (c ∷ d ∷ l) ≡ byte (value_of c) (value_of d) (bytes_of l)
+pair-first : (c d : ℕ) (l : List ℕ) → (c ≡ 0x20 → ⊥) → bytes_of (c ∷ d ∷ l) ≡ byte (digit c) (digit d) (bytes_of l)
 unfolding bytes_of
 pair-first c d l e = rw (ne_eqb c 0x20 e)
 
@@ -51,7 +52,7 @@ module _ (line text : List ℕ) (i n : ℕ) (h : i < length line) (v : bytes_of 
         let s : length (drop (suc i) line) < 1 = rw length-drop (omega arith) in
         sym (v ∙ rw (drop-cons line i 0, cut_first (get_or line i 0) (drop (suc i) line) e s))
 
-    pub pair : 2 ≤ length line - i → bytes_of line ≡ behind (take n text) (byte (value_of (get_or line i 0)) (value_of (get_or line (i + 1) 0)) (bytes_of (drop (i + 2) line)))
+    pub pair : 2 ≤ length line - i → bytes_of line ≡ behind (take n text) (byte (digit (get_or line i 0)) (digit (get_or line (i + 1) 0)) (bytes_of (drop (i + 2) line)))
     pair k = v ∙ rw (two line i (omega arith), pair-first (get_or line i 0) (get_or line (i + 1) 0) (drop (i + 2) line) e)
 
 -- two digits, and then others

@@ -1,14 +1,7 @@
 -- Bytes in hexadecimal. Assumes nothing.
-use Rattle.std.specs.Prelude.{ℕ, ◌+◌, ◌-◌, ◌*◌, cond, ◌&&◌, List, [], ◌∷◌, ◌++◌, leb, eqb}
+use Rattle.std.specs.Prelude.{ℕ, ◌+◌, ◌*◌, cond, ◌&&◌, List, [], ◌∷◌, ◌++◌, leb, eqb}
+use Rattle.script.specs.Number.{digit}
 use Rattle.std.proofs.Math.Option.{Option, none, some}
-
--- the value of a digit, in small or in capital letters; 16 where the character is none
-unfoldable pub value_of : ℕ → ℕ
-value_of c =
-    cond (leb 0x30 c && leb c 0x39) (c - 0x30)
-    (cond (leb 0x61 c && leb c 0x66) (c - 0x61 + 10)
-    (cond (leb 0x41 c && leb c 0x46) (c - 0x41 + 10)
-    16))
 
 -- bytes behind bytes that were read before
 abbrev pub behind : List ℕ → Option (List ℕ) → Option (List ℕ)
@@ -21,7 +14,7 @@ byte high low others = cond (leb high 15 && leb low 15) (behind ((high * 16 + lo
 
 -- the bytes that a line stands for: two digits each, and spaces around them
 unfoldable pub bytes_of : List ℕ → Option (List ℕ)
-unfolding value_of byte
+unfolding digit byte
 bytes_of [] = some []
 bytes_of (c ∷ []) = cond (eqb c 0x20) (some []) none
-bytes_of (c ∷ d ∷ l) = cond (eqb c 0x20) (bytes_of (d ∷ l)) (byte (value_of c) (value_of d) (bytes_of l))
+bytes_of (c ∷ d ∷ l) = cond (eqb c 0x20) (bytes_of (d ∷ l)) (byte (digit c) (digit d) (bytes_of l))

@@ -3,13 +3,12 @@
 #![tactic(auto)]
 
 ghost use Rattle.std.specs.Prelude.{◌≡◌, ◌≤◌, length, IfOk, IfSome};
-ghost use Rattle.utf8_cases.specs.Hex.{value_of};
 ghost use Rattle.utf8_cases.specs.Answers.{Read, is_comment, answer_to};
 
 use std::io;
 use std::io::{Read, Write};
 
-#[derive(Clone, Copy)]
+#[derive(Clone, Copy, Debug, PartialEq, Eq)]
 enum Verdict {
     Comment,
     // The line has more than 1,024 characters.
@@ -17,17 +16,6 @@ enum Verdict {
     NotHexadecimal,
     Valid,
     NotValid,
-}
-
-fn value_of(c: u8) -> u8
-    ensures { result ≡ value_of c }
-{
-    match c {
-        b'0'..=b'9' => c - b'0',
-        b'a'..=b'f' => c - b'a' + 10,
-        b'A'..=b'F' => c - b'A' + 10,
-        _ => 16,
-    }
 }
 
 // Puts the bytes that the line stands for at the start of text, and answers how many they are. None: it is not in hexadecimal.
@@ -45,8 +33,8 @@ fn bytes_of(line: &[u8], text: &mut [u8]) -> Option<usize>
             if line.len() - i < 2 {
                 return None;
             }
-            let high = value_of(line[i]);
-            let low = value_of(line[i + 1]);
+            let high = script::value_of(line[i]);
+            let low = script::value_of(line[i + 1]);
             if 15 < high {
                 return None;
             }

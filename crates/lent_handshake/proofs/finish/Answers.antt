@@ -21,4 +21,4 @@ settle-requires c =
 pub returns : goal.returns
 returns c =
     let l = lent-whole c.args.words.now c.args.name.now c.args.control.now (sym c.if-not-lent_with.ensures) in
-    settled-finished _ _ _ l.0 c.load.ensures.result_value c.load.ensures.length_value _ c.handle_request-answer.ensures c.settle.ensures l.1 refl
+    rw c.into.ensures (settled-finished _ _ _ l.0 c.load.ensures.result_value c.load.ensures.length_value _ c.handle_request-answer.ensures c.settle.ensures l.1 refl)

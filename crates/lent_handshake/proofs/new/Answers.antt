@@ -15,4 +15,4 @@ store-requires c =
 pub returns : goal.returns
 returns c =
     let l = sym c.if-not-lent.ensures in
-    lent-started l c.new-answer.ensures c.store.ensures
+    rw c.into.ensures (lent-started l c.new-answer.ensures c.store.ensures)
