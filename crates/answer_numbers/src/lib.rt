@@ -1,4 +1,4 @@
-// What a call answers, as numbers: for C and Rust.
+// What a call answers, as numbers: for C and Rust, and for the lines of a trail.
 #![tactic(auto)]
 
 ghost use Rattle.std.specs.Prelude.{◌≡◌};
@@ -7,7 +7,7 @@ ghost use Rattle.answer_numbers.specs.Numbers.{ending_status, status_of, ending_
 
 use answers::{Answer, Error, Outcome};
 
-// Not a refusal: nothing is queued, or the interface was not negotiated.
+// Not a refusal: nothing is queued, or the interface was not negotiated. These stay numbers: they are statuses of include/bozterrun.h.
 pub const NONE: u32 = 64;
 
 // An argument that stands for no case of its enum. It is tested before anything else, and nothing is touched.

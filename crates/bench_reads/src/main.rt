@@ -23,13 +23,13 @@ struct Session {
 impl Session {
     // What a client sends in turn i: its requests in one read, or each on its own.
     fn send(&mut self, whole: bool, i: u64) {
+        if whole {
+            return read::keys(self, i);
+        }
         let control = &mut self.control;
         let words = &mut self.words;
         let reals = &mut self.reals;
         let texts = &mut self.texts;
-        if whole {
-            return read::keys(control, words, reals, texts, i);
-        }
         bench_calls::many_keys(control, words, reals, texts, 31);
         bench_calls::without_text(
             control,

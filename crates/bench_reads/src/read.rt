@@ -1,4 +1,5 @@
 // The read of a turn: 31 keys and their frame, gathered and handed over in one call.
+use crate::Session;
 use bench_calls::DEVICE;
 use eiproto::eiproto_enum::KeyState;
 use reads::record::RequestRecord;
@@ -17,7 +18,7 @@ fn key(code: u32) -> RequestRecord {
     }
 }
 
-pub fn keys(control: &mut [u64], words: &mut [u64], reals: &mut [f32], texts: &mut [u8], i: u64) {
+pub fn keys(session: &mut Session, i: u64) {
     let mut out = [0u8; 16];
     let frame = RequestRecord {
         object: DEVICE,
@@ -30,5 +31,15 @@ pub fn keys(control: &mut [u64], words: &mut [u64], reals: &mut [f32], texts: &m
     for k in 0..31 {
         records[k] = key(k as u32);
     }
-    read_array::handle_array(control, words, reals, texts, records, 32, b"", 5, &mut out);
+    read_array::handle_array(
+        &mut session.control,
+        &mut session.words,
+        &mut session.reals,
+        &mut session.texts,
+        records,
+        32,
+        b"",
+        5,
+        &mut out,
+    );
 }

@@ -4,7 +4,8 @@ use Rattle.wire.specs.declared.ParseError.{ParseError}
 use Rattle.answers.specs.Answer.{outcome_of, count_of}
 use Rattle.answers.specs.declared.Answer.{Answer}
 use Rattle.answers.specs.declared.Error.{Error}
-use Rattle.messages.specs.declared.Received.{Received}
+use Rattle.messages.specs.Received.{Received}
+use Rattle.messages.specs.declared.Unhanded as session
 use Rattle.handshake.specs.View.{is_finished}
 use Rattle.handshake_messages.specs.Reading.{Told}
 use Rattle.handshake_messages.specs.declared.Unhanded.{Unhanded}
@@ -14,6 +15,17 @@ use Rattle.lent_handshake.specs.declared.MessageReply.{MessageReply}
 use Rattle.bozterrun.specs.Reply.{Number}
 use Rattle.answer_numbers.specs.Numbers.{status_of, version_in, malformed_number, no_object_number, invalid_id_number, wait_number}
 use Rattle.bozterrun.specs.declared.message.MessageTold.{MessageTold}
+use Rattle.bozterrun.specs.declared.message.ParseErrorCase.{ParseErrorCase}
+
+-- the cases of `ParseError` as C has them
+abbrev pub case_number : ParseErrorCase → ℕ
+case_number ParseErrorCase.EndOfMessage = 1
+case_number ParseErrorCase.Utf8 = 2
+case_number ParseErrorCase.InvalidOpcode = 3
+case_number ParseErrorCase.InvalidVariant = 4
+case_number ParseErrorCase.HeaderLength = 5
+case_number ParseErrorCase.MessageLength = 6
+case_number ParseErrorCase.InvalidNull = 7
 
 -- nothing is taken or written, and there is no more to tell
 abbrev pub bare : (status : ℕ) → MessageTold
@@ -45,10 +57,10 @@ told_answer a taken =
     }
 
 abbrev pub told_received : Received → MessageTold
-told_received Received.Wait = bare wait_number
-told_received Received.NoObject = bare no_object_number
-told_received (Received.Malformed e) = told_error e
-told_received (Received.Handed a taken) = told_answer a taken
+told_received (Err session.Unhanded.Wait) = bare wait_number
+told_received (Err session.Unhanded.NoObject) = bare no_object_number
+told_received (Err (session.Unhanded.Malformed e)) = told_error e
+told_received (Ok handed) = told_answer handed.answer handed.taken
 
 -- the same in a handshake
 abbrev pub told_unhanded : Unhanded → MessageTold

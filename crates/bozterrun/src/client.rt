@@ -6,12 +6,13 @@ ghost use Rattle.model.specs.Call.{Input, Plain, Call};
 ghost use Rattle.answers.specs.Answer.{count_of};
 ghost use Rattle.answers.specs.Promise.{Promise, PromiseUnchanged, PromiseRows, Reply};
 ghost use Rattle.client_requests.specs.Decision.{OnlyQueued, Waits};
-ghost use Rattle.handlers.specs.Call.{handshake_call, device_call};
+ghost use Rattle.handlers.specs.Call.{handshake_call, seat_call, device_call, touchscreen_call};
 ghost use Rattle.client_calls.specs.Request.{AsksControl, AsksRows, AsksRowsAt, AsksAll};
 ghost use Rattle.bozterrun.specs.Reply.{Replies, Told, ToldTimed, Sent, Detailed, Pressed, Kept, KeptRows};
 ghost use Rattle.answer_numbers.specs.Numbers.{bad_argument};
 ghost use Rattle.bozterrun.specs.Numbers.{handshake_request, IsCapability, NoCapability};
 
+use crate::told;
 use answer_numbers::BAD_ARGUMENT;
 use client_calls::cells;
 use eiproto::event::DeviceCapability;
@@ -236,7 +237,27 @@ pub extern "C" fn bozterrun_text_utf8(
     answer_numbers::status(answer)
 }
 
-// The version counts for Cancel alone: Down, Motion and Up are at version 1.
+// A touch request other than Cancel, for which alone the version counts.
+fn touch(
+    control: &mut [u64],
+    words: &mut [u64],
+    reals: &mut [f32],
+    touchscreen: u64,
+    request: TouchscreenRequest,
+) -> u32
+    ensures { Told (AsksRows control words reals (touchscreen_call request touchscreen 1)) result }
+{
+    let answer = client_calls::handle_touchscreen_request(
+        control,
+        words,
+        reals,
+        touchscreen,
+        1,
+        request,
+    );
+    answer_numbers::status(answer)
+}
+
 #[unsafe(no_mangle)]
 pub extern "C" fn bozterrun_touchscreen_down(
     control: &mut [u64],
@@ -250,15 +271,7 @@ pub extern "C" fn bozterrun_touchscreen_down(
     ensures { Told (AsksRows control words reals (Call.timed touchscreen 1 (Input.Down touchid x y))) result }
 {
     let request = TouchscreenRequest::Down { touchid, x, y };
-    let answer = client_calls::handle_touchscreen_request(
-        control,
-        words,
-        reals,
-        touchscreen,
-        1,
-        request,
-    );
-    answer_numbers::status(answer)
+    touch(control, words, reals, touchscreen, request)
 }
 
 #[unsafe(no_mangle)]
@@ -274,15 +287,7 @@ pub extern "C" fn bozterrun_touchscreen_motion(
     ensures { Told (AsksRows control words reals (Call.timed touchscreen 1 (Input.Motion touchid x y))) result }
 {
     let request = TouchscreenRequest::Motion { touchid, x, y };
-    let answer = client_calls::handle_touchscreen_request(
-        control,
-        words,
-        reals,
-        touchscreen,
-        1,
-        request,
-    );
-    answer_numbers::status(answer)
+    touch(control, words, reals, touchscreen, request)
 }
 
 #[unsafe(no_mangle)]
@@ -296,15 +301,7 @@ pub extern "C" fn bozterrun_touchscreen_up(
     ensures { Told (AsksRows control words reals (Call.timed touchscreen 1 (Input.Up touchid))) result }
 {
     let request = TouchscreenRequest::Up { touchid };
-    let answer = client_calls::handle_touchscreen_request(
-        control,
-        words,
-        reals,
-        touchscreen,
-        1,
-        request,
-    );
-    answer_numbers::status(answer)
+    touch(control, words, reals, touchscreen, request)
 }
 
 // Refusal 2 tells the interface and the version.
@@ -330,10 +327,7 @@ pub extern "C" fn bozterrun_touchscreen_cancel(
         version,
         request,
     );
-    let refused = answer_numbers::refused_version(answer);
-    *refused_interface = refused.interface;
-    *refused_version = refused.version;
-    answer_numbers::status(answer)
+    told::detailed(answer, refused_interface, refused_version)
 }
 
 // A request on a device other than its Frame.
@@ -430,6 +424,20 @@ pub extern "C" fn bozterrun_device_frame(
     answer_numbers::status(answer)
 }
 
+// A request on a seat other than its Release.
+fn seat_request(
+    control: &mut [u64],
+    words: &mut [u64],
+    reals: &mut [f32],
+    seat: u64,
+    request: SeatRequest,
+) -> u32
+    ensures { Told (AsksRows control words reals (seat_call request seat)) result }
+{
+    let answer = client_calls::handle_seat_request(control, words, reals, seat, request);
+    answer_numbers::status(answer)
+}
+
 #[unsafe(no_mangle)]
 pub extern "C" fn bozterrun_seat_bind(
     control: &mut [u64],
@@ -441,8 +449,7 @@ pub extern "C" fn bozterrun_seat_bind(
     ensures { Told (AsksRows control words reals (Call.plain (Plain.bind seat capabilities))) result }
 {
     let request = SeatRequest::Bind { capabilities };
-    let answer = client_calls::handle_seat_request(control, words, reals, seat, request);
-    answer_numbers::status(answer)
+    seat_request(control, words, reals, seat, request)
 }
 
 #[unsafe(no_mangle)]
@@ -456,8 +463,7 @@ pub extern "C" fn bozterrun_seat_request_device(
     ensures { Told (AsksRows control words reals (Call.plain (Plain.request_device seat capabilities))) result }
 {
     let request = SeatRequest::RequestDevice { capabilities };
-    let answer = client_calls::handle_seat_request(control, words, reals, seat, request);
-    answer_numbers::status(answer)
+    seat_request(control, words, reals, seat, request)
 }
 
 #[unsafe(no_mangle)]
@@ -472,8 +478,7 @@ pub extern "C" fn bozterrun_seat_release(
     ensures { Sent (PromiseRows control words reals out (Plain.seat_release seat)) result count }
 {
     let answer = client_calls::release_seat(control, words, reals, seat, out);
-    *count = answer_numbers::count(answer);
-    answer_numbers::status(answer)
+    told::sent(answer, count)
 }
 
 // The Release of the interface for a capability, which is told by its mask.
@@ -488,17 +493,12 @@ pub extern "C" fn bozterrun_interface_release(
     ensures sent { (c : DeviceCapability) → IsCapability capability c → Sent (Promise control out (Plain.interface_release c interface)) result count }
     ensures value { NoCapability capability → (result ≡ bad_argument) × (Kept control × (Kept out × (count.new ≡ 0))) }
 {
-    match DeviceCapability::from_mask(capability) {
-        None => {
-            *count = 0;
-            BAD_ARGUMENT
-        }
-        Some(known) => {
-            let answer = client_calls::release_interface(control, known, interface, out);
-            *count = answer_numbers::count(answer);
-            answer_numbers::status(answer)
-        }
-    }
+    let Some(capability) = DeviceCapability::from_mask(capability) else {
+        *count = 0;
+        return BAD_ARGUMENT;
+    };
+    let answer = client_calls::release_interface(control, capability, interface, out);
+    told::sent(answer, count)
 }
 
 // Refusal 2 tells the interface and the version.
@@ -515,11 +515,8 @@ pub extern "C" fn bozterrun_connection_sync(
     ensures { Replies (PromiseUnchanged control out (Plain.sync callback version)) result (λ a. (count.new ≡ count_of a) × Detailed refused_interface refused_version a) }
 {
     let answer = client_calls::sync(control, callback, version, out);
-    let refused = answer_numbers::refused_version(answer);
     *count = answer_numbers::count(answer);
-    *refused_interface = refused.interface;
-    *refused_version = refused.version;
-    answer_numbers::status(answer)
+    told::detailed(answer, refused_interface, refused_version)
 }
 
 #[unsafe(no_mangle)]
@@ -546,21 +543,15 @@ pub extern "C" fn bozterrun_pingpong_done(control: &[u64]) -> u32
 fn handshake_request(opcode: u32, value: u32) -> HandshakeRequest
     ensures { result ≡ handshake_request opcode value }
 {
-    if opcode == 0 {
-        return HandshakeRequest::HandshakeVersion { version: value };
-    }
-    if opcode == 1 {
-        return HandshakeRequest::Finish;
-    }
-    if opcode == 2 {
-        return HandshakeRequest::ContextType {
+    match opcode {
+        0 => HandshakeRequest::HandshakeVersion { version: value },
+        1 => HandshakeRequest::Finish,
+        2 => HandshakeRequest::ContextType {
             context_type: value,
-        };
+        },
+        3 => HandshakeRequest::Name,
+        _ => HandshakeRequest::InterfaceVersion { version: value },
     }
-    if opcode == 3 {
-        return HandshakeRequest::Name;
-    }
-    HandshakeRequest::InterfaceVersion { version: value }
 }
 
 // A handshake's request in a running session, by its opcode: it is refused, and the number says why.

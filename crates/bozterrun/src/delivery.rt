@@ -1,33 +1,13 @@
 // The next request for the station.
-ghost use Rattle.std.specs.Prelude.{◌≡◌};
-ghost use Rattle.bozterrun.specs.Delivery.{numbers_of, coordinates_of, Tells};
+ghost use Rattle.bozterrun.specs.Delivery.{Tells};
 
 use answer_numbers::NONE;
 use converter::request;
-use requests::cell::Cell;
 
 // How many numbers and coordinates a request has.
 const NUMBERS: usize = 5;
 
 const COORDINATES: usize = 2;
-
-fn put_numbers(numbers: &mut [u64; NUMBERS], given: Cell)
-    ensures { numbers.new ≡ numbers_of given }
-{
-    *numbers = [
-        given.kind,
-        given.object,
-        given.time,
-        given.extra,
-        given.flag,
-    ];
-}
-
-fn put_coordinates(coordinates: &mut [f32; COORDINATES], given: Cell)
-    ensures { coordinates.new ≡ coordinates_of given }
-{
-    *coordinates = [given.x, given.y];
-}
 
 // The oldest queued request, taken out of the queue: its numbers, its coordinates, and its text in the buffer.
 #[unsafe(no_mangle)]
@@ -44,8 +24,14 @@ pub extern "C" fn bozterrun_next_request(
 {
     match request::next_cell(control, words, reals, texts, buffer) {
         Ok(Some(given)) => {
-            put_numbers(numbers, given);
-            put_coordinates(coordinates, given);
+            *numbers = [
+                given.kind,
+                given.object,
+                given.time,
+                given.extra,
+                given.flag,
+            ];
+            *coordinates = [given.x, given.y];
             0
         }
         Ok(None) => NONE,

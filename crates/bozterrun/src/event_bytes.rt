@@ -5,7 +5,25 @@ ghost use Rattle.event_messages.specs.declared.MessageError.{MessageError};
 ghost use Rattle.bozterrun.specs.Events.{error_number, written_status, written_count, Turns};
 
 use answer_numbers::{MALFORMED, UNSENDABLE};
+use answers::Error;
 use event_messages::MessageError;
+
+// What was written, as numbers.
+fn tell(written: Result<usize, MessageError>, count: &mut usize) -> u32
+    ensures status_is { result ≡ written_status written }
+    ensures count_is { count.new ≡ written_count written }
+{
+    match written {
+        Ok(bytes) => {
+            *count = bytes;
+            0
+        }
+        Err(error) => {
+            *count = 0;
+            error_number(error)
+        }
+    }
+}
 
 fn error_number(error: MessageError) -> u32
     ensures { result ≡ error_number error }
@@ -13,25 +31,7 @@ fn error_number(error: MessageError) -> u32
     match error {
         MessageError::Unsendable => UNSENDABLE,
         MessageError::Malformed => MALFORMED,
-        MessageError::ShortOut => 19,
-    }
-}
-
-fn status(written: Result<usize, MessageError>) -> u32
-    ensures { result ≡ written_status written }
-{
-    match written {
-        Ok(_) => 0,
-        Err(error) => error_number(error),
-    }
-}
-
-fn count_of(written: Result<usize, MessageError>) -> usize
-    ensures { result ≡ written_count written }
-{
-    match written {
-        Ok(count) => count,
-        Err(_) => 0,
+        MessageError::ShortOut => Error::ShortOut.number(),
     }
 }
 
@@ -46,8 +46,7 @@ pub extern "C" fn bozterrun_write_message(
     ensures { Turns (Stands interface bytes.now) MessageError.Unsendable out count result }
 {
     let written = message_writer::write_message(interface, bytes, out);
-    *count = count_of(written);
-    status(written)
+    tell(written, count)
 }
 
 // Such a message read back as the record.
@@ -61,6 +60,5 @@ pub extern "C" fn bozterrun_read_message(
     ensures { Turns (λ bytes. Stands interface bytes message.now) MessageError.Malformed out count result }
 {
     let written = message_reader::read_message(interface, message, out);
-    *count = count_of(written);
-    status(written)
+    tell(written, count)
 }

@@ -12,6 +12,7 @@ ghost use Rattle.bozterrun.specs.Numbers.{IsContext, NoContext};
 use answer_numbers::BAD_ARGUMENT;
 use eiproto::eiproto_enum::ContextType;
 use handshake::handshake::{EisHandshakeResp, HandshakeError, HandshakeMessage};
+use lent_handshake::HandshakeReply;
 
 pub fn status(outcome: Result<Option<EisHandshakeResp>, HandshakeError>) -> u32
     ensures { result ≡ status_of outcome }
@@ -20,6 +21,15 @@ pub fn status(outcome: Result<Option<EisHandshakeResp>, HandshakeError>) -> u32
         Ok(_) => 0,
         Err(error) => error.number(),
     }
+}
+
+// A reply as numbers: the status, and how many bytes of events were written.
+fn tell(reply: HandshakeReply, count: &mut usize) -> u32
+    ensures status_is { result ≡ status_of reply.outcome }
+    ensures count_is { count.new ≡ reply.count }
+{
+    *count = reply.count;
+    status(reply.outcome)
 }
 
 #[unsafe(no_mangle)]
@@ -33,9 +43,7 @@ pub extern "C" fn bozterrun_handshake_new(
     ensures { Counted (Starts words name out serial) result count }
 {
     let reply = lent_handshake::new(words, name, serial, out);
-    let outcome = reply.outcome;
-    *count = reply.count;
-    status(outcome)
+    tell(reply, count)
 }
 
 // A message that writes no event.
@@ -44,8 +52,7 @@ fn message(words: &mut [u64], name: &mut [u8], sent: HandshakeMessage, text: &[u
 {
     let mut none = [0u8; 0];
     let reply = lent_handshake::handle_request(words, name, sent, text, &mut none);
-    let outcome = reply.outcome;
-    status(outcome)
+    status(reply.outcome)
 }
 
 #[unsafe(no_mangle)]
@@ -80,10 +87,10 @@ pub extern "C" fn bozterrun_handshake_context_type(
     ensures says { (c : ContextType) → IsContext kind c → Says words name (paper.Message.Context c) result }
     ensures by_index { (n : ℕ) → NoContext kind n → (result ≡ bad_argument) × (Kept words × Kept name) }
 {
-    match ContextType::try_from(kind) {
-        Err(_) => BAD_ARGUMENT,
-        Ok(context) => message(words, name, HandshakeMessage::ContextType { context }, b""),
-    }
+    let Ok(context) = ContextType::try_from(kind) else {
+        return BAD_ARGUMENT;
+    };
+    message(words, name, HandshakeMessage::ContextType { context }, b"")
 }
 
 #[unsafe(no_mangle)]
@@ -123,9 +130,7 @@ pub extern "C" fn bozterrun_handshake_finish(
     ensures { Counted (Finishes words name control out) result count }
 {
     let reply = lent_handshake::finish(words, name, control, out);
-    let outcome = reply.outcome;
-    *count = reply.count;
-    status(outcome)
+    tell(reply, count)
 }
 
 // Who the client says it is.
@@ -147,7 +152,7 @@ pub extern "C" fn bozterrun_handshake_client(
             error.number()
         }
         Ok(client) => {
-            *given = client.given as u32;
+            *given = u32::from(client.given);
             *length = client.length;
             *context = client.context;
             0

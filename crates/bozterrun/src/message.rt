@@ -3,20 +3,32 @@ ghost use Rattle.std.specs.Prelude.{◌≡◌, cond};
 ghost use Rattle.handshake.specs.View.{is_finished};
 ghost use Rattle.messages.specs.Received.{Receives};
 ghost use Rattle.lent_handshake.specs.Lent as lent;
-ghost use Rattle.bozterrun.specs.Message.{bare, malformed, told_error, told_answer, told_received, told_handshake, told_unhanded, told_reply, begun_of, Tells};
+ghost use Rattle.bozterrun.specs.Message.{bare, case_number, malformed, told_error, told_answer, told_received, told_unhanded, told_reply, begun_of, Tells};
 
 use crate::handshakes;
 use answer_numbers::{INVALID_ID, MALFORMED, NO_OBJECT, WAIT};
 use answers::{Answer, Error};
 use handshake::handshake::{EisHandshakeResp, HandshakeError};
 use handshake_messages::Unhanded;
-use lent_handshake::HandshakeReply;
-use messages::Received;
+use lent_handshake::MessageReply;
+use messages::Handed;
 use wire::ParseError;
 
-// What is told of a message, as numbers. `error` is a case of ParseError, in its order from 1 on. `first` and `second` are the numbers of that case,
-// or the interface and the version of refusal 2. What there is not is 0.
-#[derive(Clone, Copy)]
+// The cases of ParseError as C has them, in its order.
+#[derive(Clone, Copy, Debug, PartialEq, Eq)]
+pub enum ParseErrorCase {
+    EndOfMessage = 1,
+    Utf8 = 2,
+    InvalidOpcode = 3,
+    InvalidVariant = 4,
+    HeaderLength = 5,
+    MessageLength = 6,
+    InvalidNull = 7,
+}
+
+// What is told of a message, as numbers. `error` is a `ParseErrorCase`. `first` and `second` are the numbers of that case, or the interface and the
+// version of refusal 2. What there is not is 0.
+#[derive(Clone, Copy, Debug, PartialEq, Eq)]
 pub struct MessageTold {
     pub status: u32,
     pub taken: usize,
@@ -24,6 +36,32 @@ pub struct MessageTold {
     pub error: u32,
     pub first: u32,
     pub second: u32,
+}
+
+impl MessageTold {
+    // The numbers are written for the caller, and the status is answered.
+    fn tell(
+        self,
+        taken: &mut usize,
+        count: &mut usize,
+        error: &mut u32,
+        first: &mut u32,
+        second: &mut u32,
+    ) -> u32
+        ensures status_is { result ≡ self.status }
+        ensures taken_is { taken.new ≡ self.taken }
+        ensures count_is { count.new ≡ self.count }
+        ensures error_is { error.new ≡ self.error }
+        ensures first_is { first.new ≡ self.first }
+        ensures second_is { second.new ≡ self.second }
+    {
+        *taken = self.taken;
+        *count = self.count;
+        *error = self.error;
+        *first = self.first;
+        *second = self.second;
+        self.status
+    }
 }
 
 // Nothing is taken or written.
@@ -40,16 +78,14 @@ fn bare(status: u32) -> MessageTold
     }
 }
 
-fn malformed(error: u32, first: u32, second: u32) -> MessageTold
-    ensures { result ≡ malformed error first second }
+fn malformed(case: ParseErrorCase, first: u32, second: u32) -> MessageTold
+    ensures { result ≡ malformed (case_number case) first second }
 {
     MessageTold {
-        status: MALFORMED,
-        taken: 0,
-        count: 0,
-        error,
+        error: case as u32,
         first,
         second,
+        ..bare(MALFORMED)
     }
 }
 
@@ -57,13 +93,25 @@ fn told_error(error: ParseError) -> MessageTold
     ensures { result ≡ told_error error }
 {
     match error {
-        ParseError::EndOfMessage => malformed(1, 0, 0),
-        ParseError::Utf8 => malformed(2, 0, 0),
-        ParseError::InvalidOpcode { interface, opcode } => malformed(3, interface as u32, opcode),
-        ParseError::InvalidVariant { variant } => malformed(4, variant, 0),
-        ParseError::HeaderLength { length } => malformed(5, length, 0),
-        ParseError::MessageLength { read, header } => malformed(6, read, header),
-        ParseError::InvalidNull => malformed(7, 0, 0),
+        ParseError::EndOfMessage => malformed(ParseErrorCase::EndOfMessage, 0, 0),
+        ParseError::Utf8 => malformed(ParseErrorCase::Utf8, 0, 0),
+        ParseError::InvalidOpcode { interface, opcode } => malformed(
+            ParseErrorCase::InvalidOpcode,
+            u32::from(interface),
+            opcode,
+        ),
+        ParseError::InvalidVariant { variant } => malformed(
+            ParseErrorCase::InvalidVariant,
+            variant,
+            0,
+        ),
+        ParseError::HeaderLength { length } => malformed(ParseErrorCase::HeaderLength, length, 0),
+        ParseError::MessageLength { read, header } => malformed(
+            ParseErrorCase::MessageLength,
+            read,
+            header,
+        ),
+        ParseError::InvalidNull => malformed(ParseErrorCase::InvalidNull, 0, 0),
     }
 }
 
@@ -72,23 +120,22 @@ fn told_answer(answer: Result<Answer, Error>, taken: usize) -> MessageTold
 {
     let refused = answer_numbers::refused_version(answer);
     MessageTold {
-        status: answer_numbers::status(answer),
         taken,
         count: answer_numbers::count(answer),
-        error: 0,
         first: refused.interface,
         second: refused.version,
+        ..bare(answer_numbers::status(answer))
     }
 }
 
-fn told_received(received: Received) -> MessageTold
+fn told_received(received: Result<Handed, messages::Unhanded>) -> MessageTold
     ensures { result ≡ told_received received }
 {
     match received {
-        Received::Wait => bare(WAIT),
-        Received::NoObject => bare(NO_OBJECT),
-        Received::Malformed(error) => told_error(error),
-        Received::Handed { answer, taken } => told_answer(answer, taken),
+        Ok(Handed { answer, taken }) => told_answer(answer, taken),
+        Err(messages::Unhanded::Wait) => bare(WAIT),
+        Err(messages::Unhanded::NoObject) => bare(NO_OBJECT),
+        Err(messages::Unhanded::Malformed(error)) => told_error(error),
     }
 }
 
@@ -111,13 +158,7 @@ pub extern "C" fn bozterrun_pending_request(
     ensures { Tells (Receives control words reals texts out message.now clock) told_received result taken count error first second (λ _. Unit {0}) }
 {
     let received = messages::pending_request(control, words, reals, texts, message, clock, out);
-    let told = told_received(received);
-    *taken = told.taken;
-    *count = told.count;
-    *error = told.error;
-    *first = told.first;
-    *second = told.second;
-    told.status
+    told_received(received).tell(taken, count, error, first, second)
 }
 
 // Why bytes were not handed on.
@@ -132,17 +173,14 @@ fn told_unhanded(why: Unhanded) -> MessageTold
     }
 }
 
-fn told_handshake(told: Result<(), Unhanded>, reply: HandshakeReply, taken: usize) -> MessageTold
-    ensures { result ≡ told_handshake told reply taken }
+fn told_reply(answer: MessageReply) -> MessageTold
+    ensures { result ≡ told_reply answer }
 {
-    match told {
+    match answer.told {
         Ok(()) => MessageTold {
-            status: handshakes::status(reply.outcome),
-            taken,
-            count: reply.count,
-            error: 0,
-            first: 0,
-            second: 0,
+            taken: answer.taken,
+            count: answer.reply.count,
+            ..bare(handshakes::status(answer.reply.outcome))
         },
         Err(why) => told_unhanded(why),
     }
@@ -152,11 +190,7 @@ fn told_handshake(told: Result<(), Unhanded>, reply: HandshakeReply, taken: usiz
 fn begun_by(outcome: Result<Option<EisHandshakeResp>, HandshakeError>) -> u32
     ensures { result ≡ cond (is_finished outcome) 1 0 }
 {
-    match outcome {
-        Ok(Some(_)) => 1,
-        Ok(None) => 0,
-        Err(_) => 0,
-    }
+    u32::from(matches!(outcome, Ok(Some(_))))
 }
 
 // The same in a handshake. A Finish that succeeds begins the session in the control words, and `begun` is then 1.
@@ -177,15 +211,6 @@ pub extern "C" fn bozterrun_handshake_pending_request(
     ensures { Tells (lent.Receives words name control out message.now) told_reply result taken count error first second (λ a. begun.new ≡ begun_of a) }
 {
     let answer = lent_handshake::pending_request(words, name, control, message, out);
-    let became = answer.told;
-    let reply = answer.reply;
-    let outcome = reply.outcome;
-    let told = told_handshake(became, reply, answer.taken);
-    *taken = told.taken;
-    *count = told.count;
-    *begun = begun_by(outcome);
-    *error = told.error;
-    *first = told.first;
-    *second = told.second;
-    told.status
+    *begun = begun_by(answer.reply.outcome);
+    told_reply(answer).tell(taken, count, error, first, second)
 }

@@ -5,6 +5,7 @@ ghost use Rattle.session.specs.View.{words_length, reals_length, texts_length};
 ghost use Rattle.lent_handshake.specs.Lent.{handshake_length, name_length};
 ghost use Rattle.bozterrun.specs.Numbers.{numbers};
 
+use crate::message::ParseErrorCase;
 use answer_numbers::{BAD_ARGUMENT, INVALID_ID, MALFORMED, NO_OBJECT, NONE, UNSENDABLE, WAIT};
 use answers::NAME_LENGTH_LIMIT;
 use control::CONTROL_LENGTH;
@@ -189,13 +190,13 @@ pub extern "C" fn bozterrun_number(place: usize) -> u64
         read::TEXT_UTF8,
         RECORD_WORDS as u64,
         RECORD_REALS as u64,
-        1,
-        2,
-        3,
-        4,
-        5,
-        6,
-        7,
+        ParseErrorCase::EndOfMessage as u64,
+        ParseErrorCase::Utf8 as u64,
+        ParseErrorCase::InvalidOpcode as u64,
+        ParseErrorCase::InvalidVariant as u64,
+        ParseErrorCase::HeaderLength as u64,
+        ParseErrorCase::MessageLength as u64,
+        ParseErrorCase::InvalidNull as u64,
         HEADER_LENGTH as u64,
         MESSAGE_LENGTH_LIMIT as u64,
         EVENT_MESSAGE_LENGTH as u64,

@@ -3,6 +3,7 @@ ghost use Rattle.std.specs.Prelude.{◌≡◌, true, false};
 ghost use Rattle.bozterrun.specs.Reply.{of_requests, ReadsIn, ToldRead, Unread};
 ghost use Rattle.answer_numbers.specs.Numbers.{bad_argument};
 
+use crate::told;
 use answer_numbers::BAD_ARGUMENT;
 
 // Each record is eight words and two reals. Refusal 2 tells the interface and the version.
@@ -35,11 +36,8 @@ pub extern "C" fn bozterrun_handle_requests(
     let answer = lent_read::handle_requests(
         control, words, reals, texts, records, points, lent, clock, out,
     );
-    let first = answer_numbers::first_outcome(answer.refusal);
-    let refused = answer_numbers::refused_version(first);
     *accepted = answer.accepted;
     *count = answer.count;
-    *refused_interface = refused.interface;
-    *refused_version = refused.version;
-    answer_numbers::status(first)
+    let first = answer_numbers::first_outcome(answer.refusal);
+    told::detailed(first, refused_interface, refused_version)
 }

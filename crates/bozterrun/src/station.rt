@@ -9,11 +9,12 @@ ghost use Rattle.bozterrun.specs.Reply.{text_if, Sent, Gave, Valued, Unsent, Uns
 ghost use Rattle.answer_numbers.specs.Numbers.{bad_argument};
 ghost use Rattle.bozterrun.specs.Numbers.{IsCapability, NoCapability, IsType, NoType, IsReason, NoReason};
 
+use crate::told;
 use answer_numbers::BAD_ARGUMENT;
 use eiproto::eiproto_enum::{DeviceType, DisconnectReason};
 use eiproto::event::DeviceCapability;
 
-// The name counts where `given` is 1.
+// The name counts where `given` is 1: C has no option.
 #[unsafe(no_mangle)]
 pub extern "C" fn bozterrun_add_seat(
     control: &mut [u64],
@@ -34,11 +35,10 @@ pub extern "C" fn bozterrun_add_seat(
     }
     let name = answers::if_given(given == 1, name);
     let answer = connection::add_seat(control, name, capabilities, out);
-    *count = answer_numbers::count(answer);
-    *id = answer_numbers::value(answer);
-    answer_numbers::status(answer)
+    told::gave(answer, count, id)
 }
 
+// The name counts where `given` is 1: C has no option.
 #[unsafe(no_mangle)]
 pub extern "C" fn bozterrun_add_device(
     control: &mut [u64],
@@ -60,20 +60,14 @@ pub extern "C" fn bozterrun_add_device(
         *id = 0;
         return BAD_ARGUMENT;
     }
-    match DeviceType::try_from(kind) {
-        Err(_) => {
-            *count = 0;
-            *id = 0;
-            BAD_ARGUMENT
-        }
-        Ok(known) => {
-            let name = answers::if_given(given == 1, name);
-            let answer = seat::add_device(control, seat, name, known, capabilities, out);
-            *count = answer_numbers::count(answer);
-            *id = answer_numbers::value(answer);
-            answer_numbers::status(answer)
-        }
-    }
+    let Ok(kind) = DeviceType::try_from(kind) else {
+        *count = 0;
+        *id = 0;
+        return BAD_ARGUMENT;
+    };
+    let name = answers::if_given(given == 1, name);
+    let answer = seat::add_device(control, seat, name, kind, capabilities, out);
+    told::gave(answer, count, id)
 }
 
 #[unsafe(no_mangle)]
@@ -88,8 +82,7 @@ pub extern "C" fn bozterrun_remove_seat(
     ensures { Sent (PromiseRows control words reals out (Plain.remove_seat seat)) result count }
 {
     let answer = seat::remove_seat(control, words, reals, seat, out);
-    *count = answer_numbers::count(answer);
-    answer_numbers::status(answer)
+    told::sent(answer, count)
 }
 
 #[unsafe(no_mangle)]
@@ -104,8 +97,7 @@ pub extern "C" fn bozterrun_remove_device(
     ensures { Sent (PromiseRows control words reals out (Plain.remove_device device)) result count }
 {
     let answer = device::remove_device(control, words, reals, device, out);
-    *count = answer_numbers::count(answer);
-    answer_numbers::status(answer)
+    told::sent(answer, count)
 }
 
 #[unsafe(no_mangle)]
@@ -118,8 +110,7 @@ pub extern "C" fn bozterrun_resumed(
     ensures { Sent (Promise control out (Plain.resumed device)) result count }
 {
     let answer = device::resumed(control, device, out);
-    *count = answer_numbers::count(answer);
-    answer_numbers::status(answer)
+    told::sent(answer, count)
 }
 
 #[unsafe(no_mangle)]
@@ -132,8 +123,7 @@ pub extern "C" fn bozterrun_paused(
     ensures { Sent (Promise control out (Plain.paused device)) result count }
 {
     let answer = device::paused(control, device, out);
-    *count = answer_numbers::count(answer);
-    answer_numbers::status(answer)
+    told::sent(answer, count)
 }
 
 #[unsafe(no_mangle)]
@@ -147,8 +137,7 @@ pub extern "C" fn bozterrun_start_emulating(
     ensures { Sent (Promise control out (Plain.start_emulating device sequence)) result count }
 {
     let answer = device::start_emulating(control, device, sequence, out);
-    *count = answer_numbers::count(answer);
-    answer_numbers::status(answer)
+    told::sent(answer, count)
 }
 
 #[unsafe(no_mangle)]
@@ -161,8 +150,7 @@ pub extern "C" fn bozterrun_stop_emulating(
     ensures { Sent (Promise control out (Plain.stop_emulating device)) result count }
 {
     let answer = device::stop_emulating(control, device, out);
-    *count = answer_numbers::count(answer);
-    answer_numbers::status(answer)
+    told::sent(answer, count)
 }
 
 #[unsafe(no_mangle)]
@@ -176,11 +164,10 @@ pub extern "C" fn bozterrun_frame(
     ensures { Sent (Promise control out (Plain.frame device time)) result count }
 {
     let answer = device::frame(control, device, time, out);
-    *count = answer_numbers::count(answer);
-    answer_numbers::status(answer)
+    told::sent(answer, count)
 }
 
-// The explanation counts where `given` is 1.
+// The explanation counts where `given` is 1: C has no option.
 #[unsafe(no_mangle)]
 pub extern "C" fn bozterrun_disconnected(
     control: &mut [u64],
@@ -200,18 +187,13 @@ pub extern "C" fn bozterrun_disconnected(
         *count = 0;
         return BAD_ARGUMENT;
     }
-    match DisconnectReason::try_from(reason) {
-        Err(_) => {
-            *count = 0;
-            BAD_ARGUMENT
-        }
-        Ok(known) => {
-            let explanation = answers::if_given(given == 1, explanation);
-            let answer = connection::disconnected(control, words, reals, known, explanation, out);
-            *count = answer_numbers::count(answer);
-            answer_numbers::status(answer)
-        }
-    }
+    let Ok(reason) = DisconnectReason::try_from(reason) else {
+        *count = 0;
+        return BAD_ARGUMENT;
+    };
+    let explanation = answers::if_given(given == 1, explanation);
+    let answer = connection::disconnected(control, words, reals, reason, explanation, out);
+    told::sent(answer, count)
 }
 
 #[unsafe(no_mangle)]
@@ -219,8 +201,7 @@ pub extern "C" fn bozterrun_last_serial(control: &[u64], serial: &mut u64) -> u3
     ensures { Valued (Reply control Plain.last_serial) result serial }
 {
     let answer = connection::last_serial(control);
-    *serial = answer_numbers::value(answer);
-    answer_numbers::status(answer)
+    told::valued(answer, serial)
 }
 
 // 1 where the interface was negotiated, else 0.
@@ -229,8 +210,7 @@ pub extern "C" fn bozterrun_has_interface(control: &[u64], name: &[u8], truth: &
     ensures { Valued (Reply control (Plain.has_interface name.now)) result truth }
 {
     let answer = connection::has_interface(control, name);
-    *truth = answer_numbers::value(answer);
-    answer_numbers::status(answer)
+    told::valued(answer, truth)
 }
 
 #[unsafe(no_mangle)]
@@ -242,8 +222,7 @@ pub extern "C" fn bozterrun_interface_version(
     ensures { Valued (Reply control (Plain.interface_version name.now)) result version }
 {
     let answer = connection::interface_version(control, name);
-    *version = answer_numbers::value(answer);
-    answer_numbers::status(answer)
+    told::valued(answer, version)
 }
 
 // 1 where the device lists an interface for the capability, which is told by its mask, else 0.
@@ -257,15 +236,10 @@ pub extern "C" fn bozterrun_has_capability(
     ensures valued { (c : DeviceCapability) → IsCapability capability c → Valued (Reply control (Plain.has_capability device c)) result truth }
     ensures value { NoCapability capability → (result ≡ bad_argument) × (truth.new ≡ 0) }
 {
-    match DeviceCapability::from_mask(capability) {
-        None => {
-            *truth = 0;
-            BAD_ARGUMENT
-        }
-        Some(known) => {
-            let answer = device::has_capability(control, device, known);
-            *truth = answer_numbers::value(answer);
-            answer_numbers::status(answer)
-        }
-    }
+    let Some(capability) = DeviceCapability::from_mask(capability) else {
+        *truth = 0;
+        return BAD_ARGUMENT;
+    };
+    let answer = device::has_capability(control, device, capability);
+    told::valued(answer, truth)
 }

@@ -12,11 +12,7 @@ use Rattle.eiproto.specs.Bits.{every}
 use Rattle.eiproto.proofs.Bits.{every_append, every_at}
 use Rattle.control.specs.Table.{tab}
 use Rattle.control.proofs.Tables.{tab-length, tab_at, tab-append}
-use Rattle.session.specs.View.{Store}
 use Rattle.reads.specs.Record.{entry_of}
-use Rattle.reads.specs.Handed.{goes_on, Taken}
-use Rattle.reads.specs.declared.ReadAnswer.{ReadAnswer}
-use Rattle.reads.proofs.Laws.{SoFar, left, goes_there, again}
 use Rattle.reads.specs.declared.record.RequestRecord.{RequestRecord}
 use Rattle.lent_read.specs.Numbers.{is_request, record_words, record_reals, Within, record_count, cell_at, record_at, records_in, are_requests}
 
@@ -52,17 +48,6 @@ module _ (records : List ℕ) (points : List Float) where
   pub here : (i : ℕ) (x : RequestRecord) → i < record_count records points → x ≡ record_at records points i → x ≡ get_or (records_in records points) i x
   unfolding records_in
   here i x l e = e ∙ sym (tab_at (record_count records points) (record_at records points) i x l)
-
-  -- one more of the n records
-  pub one_more : (lent : List ℕ) {s₀ e f : Store} {out₀ out later : List ℕ} {clock n : ℕ} {b d : ReadAnswer} {x : RequestRecord} → n ≡ record_count records points
-      → SoFar s₀ out₀ (map (entry_of lent) (records_in records points)) clock e out b → goes_on b n ≡ true → x ≡ record_at records points b.accepted
-      → Taken e f out later (entry_of lent x) clock b d
-      → SoFar s₀ out₀ (map (entry_of lent) (records_in records points)) clock f later d × (left d n < left b n)
-  one_more lent {s₀} {e} {f} {out₀} {out} {later} {clock} {n} {b} {d} {x} is h g at t =
-      let same : length (records_in records points) ≡ n = long ∙ sym is in
-      let there = here b.accepted x (omega (arith, is, goes_there b n g)) at in
-      let next = again s₀ out₀ (records_in records points) lent clock e f out later b d x h (ap (goes_on b) same ∙ g) there t in
-      (next.0, rw same at next.1)
 
   -- ---- what the tests tell
 

@@ -11,6 +11,8 @@ use reads::ReadAnswer;
 pub mod numbers;
 pub mod record;
 
+// The words and the reals of the records are two slices, as a session's are several: C lends them so (`bozterrun_handle_requests`).
+
 // How many records the slices hold, whole ones alone.
 pub fn record_count(records: &[u64], points: &[f32]) -> usize
     ensures { result ≡ record_count records.now points.now }
@@ -49,12 +51,16 @@ pub fn handle_requests(
 ) -> ReadAnswer
     ensures { HandsOver control words reals texts out (map (entry_of lent.now) (records_in records.now points.now)) clock result }
 {
-    let n = record_count(records, points);
     let mut sofar = reads::begin(control, words, reals, texts);
-    // The answer counts the records and tells when to stop, so a `for` over places would count them twice.
-    while reads::goes_on(sofar, n) {
-        let one = record::record_at(records, points, sofar.accepted);
+    if sofar.refusal.is_some() {
+        return sofar;
+    }
+    for i in 0..record_count(records, points) {
+        let one = record::record_at(records, points, i);
         sofar = reads::handle_record(control, words, reals, texts, one, lent, clock, out, sofar);
+        if sofar.refusal.is_some() {
+            return sofar;
+        }
     }
     sofar
 }

@@ -1,14 +1,12 @@
 -- The read so far: single calls led to the slices as they stand, and any that lead on from there make a whole read with them. The loops of `reads` and of
 -- `lent_read` keep it. Assumes nothing.
-use Prim.Native.Nat.{ℕ, suc, ◌+◌, ◌-◌, ◌≤◌, ◌<◌, ◌^◌}
+use Prim.Native.Nat.{ℕ, suc, ◌+◌, ◌≤◌, ◌<◌, ◌^◌}
 use mathlib.Core.Path.{◌≡◌, refl, sym, ap, subst, ◌∙◌}
-use mathlib.Core.Bool.{Bool, true, false, cond, ◌&&◌, false≢true}
+use mathlib.Core.Bool.{Bool, true, false, false≢true}
 use mathlib.Core.List.{List, [], ◌∷◌, map, ◌++◌, append_assoc}
 use native.Mathlib.Omega.{arith}
 use native.Mathlib.Nat.{zero-add, add-zero, add_assoc}
 use native.Mathlib.Numerals.{add-one}
-use borrow.Author.Tests.{ltb-true, ltb-false}
-use lib.Dec.{ltb}
 use lib.ListN.{length, take, drop, get_or, length-map, length-append, take-append-drop, drop_of_length-le, get_or-map}
 use lib.Seq.{drop-cons, drop_at, drop-drop, take-append-add, length-take-le}
 use Rattle.model.specs.Call.{Input, Call}
@@ -19,38 +17,28 @@ use Rattle.answers.specs.declared.Error.{Error}
 use Rattle.answers.specs.declared.Answer.{Answer}
 use Rattle.answers.specs.Meets.{Answered}
 use Rattle.answers.proofs.Meetings.{answered-handled}
-use Rattle.std.specs.Prelude.{Option, Some, None, Result, Ok, Err}
+use Rattle.std.specs.Prelude.{Option, Some, None, is_some, Result, Ok, Err}
 use Rattle.answers.specs.Answer.{count_of}
 use Rattle.reads.specs.declared.ReadAnswer.{ReadAnswer}
 use Rattle.reads.specs.declared.record.RequestRecord.{RequestRecord}
 use Rattle.reads.specs.Record.{entry_of}
 use Rattle.reads.proofs.Records.{count-within}
-use Rattle.reads.specs.Handed.{opened, unrefused, goes_on, one_more, joined, Singly, Handed, Taken}
+use Rattle.reads.specs.Handed.{opened, one_more, joined, Singly, Handed, Taken}
 
--- how many records may still be tried
-abbrev pub left : ReadAnswer → (n : ℕ) → ℕ
-left b n = cond (goes_on b n) (suc (n - b.accepted)) 0
+-- whether a read was refused, told of its refusal
+abbrev pub refused : ReadAnswer → Bool
+refused b = is_some b.refusal
 
-both : (x y : Bool) → x && y ≡ true → (x ≡ true) × (y ≡ true)
-both true y h = (refl, h)
-both false y h = absurd (false≢true h)
-
-unrefused-none : (f : Option Error) → unrefused f ≡ true → f ≡ None
-unrefused-none None h = refl
-unrefused-none (Some e) h = absurd (false≢true h)
-
-pub goes_there : (b : ReadAnswer) (n : ℕ) → goes_on b n ≡ true → b.accepted < n
-goes_there b n h = ltb-true b.accepted n (both (unrefused b.refusal) (ltb b.accepted n) h).1
-
-goes_none : (b : ReadAnswer) (n : ℕ) → goes_on b n ≡ true → b.refusal ≡ None
-goes_none b n h = unrefused-none b.refusal (both (unrefused b.refusal) (ltb b.accepted n) h).0
-
-fewer : (i n : ℕ) → i < n → cond (ltb (i + 1) n) (suc (n - (i + 1))) 0 < suc (n - i)
-fewer i n l = by_test (ltb (i + 1) n)
+pub goes : (b : ReadAnswer) → refused b ≡ false → b.refusal ≡ None
+goes b h = by b.refusal h
   where
-    by_test : (y : Bool) → cond y (suc (n - (i + 1))) 0 < suc (n - i)
-    by_test true = omega arith
-    by_test false = omega arith
+    by : (f : Option Error) → is_some f ≡ false → f ≡ None
+    by None h = refl
+    by (Some e) h = absurd (false≢true (sym h))
+
+opened-accepted : (w : Bool) → (opened w).accepted ≡ 0
+opened-accepted true = refl
+opened-accepted false = refl
 
 -- what others are told, behind what was told so far
 abbrev pub behind : ReadAnswer → ReadAnswer → ReadAnswer
@@ -83,34 +71,40 @@ module _ (s₀ : Store) (out₀ : List ℕ) (es : List (Entry (Call Input))) (cl
               whole = w;
               fits = omega arith;
               onward = λ n f later r t. subst (λ (x : ReadAnswer). Singly clock s₀ f out₀ later es x) (sym (opened-behind r)) t;
-              ended = λ error n. absurd (false≢true (sym (ap unrefused n)));
+              ended = λ error n. absurd (false≢true ((ap is_some n)));
             });
       }
 
-  -- a record is left to be tried on a session that is not damaged alone
-  not-damaged : (e : Store) (out : List ℕ) (b : ReadAnswer) → SoFar e out b → goes_on b (length es) ≡ true → is_whole s₀ ≡ true
-  not-damaged e out b h g = by_test (is_whole s₀) refl
+  pub none_tried : (e : Store) (b : ReadAnswer) → (b ≡ opened (is_whole s₀)) × (e ≡ s₀) → b.accepted ≡ 0
+  none_tried e b (told, is) = ap (λ (r : ReadAnswer). r.accepted) told ∙ opened-accepted (is_whole s₀)
+
+  -- a read that is not refused is of a session that is not damaged
+  not-damaged : (e : Store) (out : List ℕ) (b : ReadAnswer) → SoFar e out b → b.refusal ≡ None → is_whole s₀ ≡ true
+  not-damaged e out b h n = by_test (is_whole s₀) refl
     where
       by_test : (y : Bool) → is_whole s₀ ≡ y → is_whole s₀ ≡ true
       by_test true y = y
-      by_test false y = absurd (false≢true (sym (ap (λ (z : ReadAnswer). goes_on z (length es)) (h.damaged y).0) ∙ g))
+      by_test false y = absurd (false≢true (ap is_some (sym n ∙ ap (λ (z : ReadAnswer). z.refusal) (h.damaged y).0)))
 
-  pub ready : (e : Store) (out : List ℕ) (b : ReadAnswer) → SoFar e out b → goes_on b (length es) ≡ true → length es < 2 ^ 64
+  -- one more record may be tried
+  pub ready : (e : Store) (out : List ℕ) (b : ReadAnswer) → SoFar e out b → b.refusal ≡ None → b.accepted < length es → length es < 2 ^ 64
       → (is_whole e ≡ true) × ((b.count ≤ length out) × (b.accepted + 1 < 2 ^ 64))
-  ready e out b h g l =
-      let go = h.handled (not-damaged e out b h g) in (go.whole, (go.fits, omega (arith, goes_there b (length es) g, l)))
+  ready e out b h none k l = let go = h.handled (not-damaged e out b h none) in (go.whole, (go.fits, omega (arith, k, l)))
 
   -- no record is left, or one was refused
-  stopped : (e : Store) (out : List ℕ) (b : ReadAnswer) → Going e out b → (f : Option Error) → b.refusal ≡ f → unrefused f && ltb b.accepted (length es) ≡ false
+  stopped : (e : Store) (out : List ℕ) (b : ReadAnswer) → Going e out b → (f : Option Error) → b.refusal ≡ f → (f ≡ None → b.accepted ≡ length es)
       → Singly clock s₀ e out₀ out es b
   stopped e out b go None is g =
-      let all : drop b.accepted es ≡ [] = drop_of_length-le es (ltb-false b.accepted (length es) g) in
+      let all : drop b.accepted es ≡ [] = drop_of_length-le es (omega (arith, g refl)) in
       let t = go.onward is e (drop b.count out) (opened true) (rw all Singly.none) in
       rw (take-append-drop b.count out, add-zero b.accepted, add-zero b.count, ← is) at t
   stopped e out b go (Some error) is g = go.ended error is
 
-  pub finished : (e : Store) (out : List ℕ) (b : ReadAnswer) → SoFar e out b → goes_on b (length es) ≡ false → Handed s₀ e out₀ out es clock b
+  pub finished : (e : Store) (out : List ℕ) (b : ReadAnswer) → SoFar e out b → (b.refusal ≡ None → b.accepted ≡ length es) → Handed s₀ e out₀ out es clock b
   finished e out b h g = record { damaged = h.damaged; handled = λ w. stopped e out b (h.handled w) b.refusal refl g }
+
+  pub ended_early : (e : Store) (out : List ℕ) (b : ReadAnswer) → SoFar e out b → refused b ≡ true → Handed s₀ e out₀ out es clock b
+  ended_early e out b h g = finished e out b h (λ n. absurd (false≢true (sym (ap is_some n) ∙ g)))
 
   -- ---- a record is tried: `rest` is what is left of `out` behind the call
   module _ (e : Store) (out : List ℕ) (b : ReadAnswer) (go : Going e out b) (none : b.refusal ≡ None) where
@@ -121,7 +115,7 @@ module _ (s₀ : Store) (out₀ : List ℕ) (es : List (Entry (Call Input))) (cl
         record {
           whole = go.whole;
           fits = omega (arith, go.fits);
-          onward = λ n. absurd (false≢true (ap unrefused n));
+          onward = λ n. absurd (false≢true (sym (ap is_some n)));
           ended = λ error n.
               let t = go.onward none e (drop b.count out) (record { accepted = 0; count = 0; refusal = Some Error.BadPart }) (rw here Singly.bad_part) in
               rw (take-append-drop b.count out, add-zero b.accepted, add-zero b.count) at t;
@@ -148,7 +142,7 @@ module _ (s₀ : Store) (out₀ : List ℕ) (es : List (Entry (Call Input))) (cl
           record {
             whole = whole-after answered;
             fits = omega (arith, fits_after answered);
-            onward = λ n. absurd (false≢true (ap unrefused n));
+            onward = λ n. absurd (false≢true (sym (ap is_some n)));
             ended = λ error' n.
                 let t = go.onward none f rest (record { accepted = 0; count = 0; refusal = Some error }) (rw here (Singly.refused answered)) in
                 rw (add-zero b.accepted, add-zero b.count) at t;
@@ -181,33 +175,25 @@ module _ (s₀ : Store) (out₀ : List ℕ) (es : List (Entry (Call Input))) (cl
               onward = λ n g more r t.
                   let others = rw left_over at t in
                   rw (← same_told r, ← same_bytes more) (go.onward none g (take a.count rest ++ more) (with_this r) (rw here (Singly.accepted answered others)));
-              ended = λ error n. absurd (false≢true (sym (ap unrefused n)));
+              ended = λ error n. absurd (false≢true ((ap is_some n)));
             }
 
-  module _ (e f : Store) (out later : List ℕ) (b d : ReadAnswer) (go : Going e out b) (g : goes_on b (length es) ≡ true) where
-    none : b.refusal ≡ None
-    none = goes_none b (length es) g
-
-    there : b.accepted < length es
-    there = goes_there b (length es) g
-
-    stops_there : (error : Error) (count : ℕ) → left (record { accepted = b.accepted; count = count; refusal = Some error }) (length es) < left b (length es)
-    stops_there error count = rw g (omega arith)
+  module _ (e f : Store) (out later : List ℕ) (b d : ReadAnswer) (go : Going e out b) (none : b.refusal ≡ None) where
+    -- the records that were tried were accepted, as long as none is refused
+    abbrev Next : Type 0
+    Next = Going f later d × (d.refusal ≡ None → d.accepted ≡ b.accepted + 1)
 
     settles : (rest : List ℕ) (call : Call Input) (here : drop b.accepted es ≡ Entry.request call ∷ drop (b.accepted + 1) es) (r : Result Answer Error)
-        → Answered Lending.all e f (drop b.count out) rest call clock r → later ≡ take b.count out ++ rest
-        → d ≡ joined b r → Going f later d × (left d (length es) < left b (length es))
+        → Answered Lending.all e f (drop b.count out) rest call clock r → later ≡ take b.count out ++ rest → d ≡ joined b r → Next
     settles rest call here (Err error) answered bytes j =
-        rw (bytes, j) (stopped_at e out b go none f rest call here error answered, stops_there error b.count)
-    settles rest call here (Ok a) answered bytes j =
-        rw (bytes, j) (goes_on_at e out b go none f rest call here a answered, rw g (fewer b.accepted (length es) there))
+        rw (bytes, j) (stopped_at e out b go none f rest call here error answered, λ n. absurd (false≢true (sym (ap is_some n))))
+    settles rest call here (Ok a) answered bytes j = rw (bytes, j) (goes_on_at e out b go none f rest call here a answered, λ n. refl)
 
-    tried_on : (entry : Entry (Call Input)) → drop b.accepted es ≡ entry ∷ drop (b.accepted + 1) es → Taken e f out later entry clock b d
-        → Going f later d × (left d (length es) < left b (length es))
+    tried_on : (entry : Entry (Call Input)) → drop b.accepted es ≡ entry ∷ drop (b.accepted + 1) es → Taken e f out later entry clock b d → Next
     tried_on Entry.bad_part here t =
         let bad : d ≡ record { accepted = b.accepted; count = b.count; refusal = Some Error.BadPart } = t.joins ∙ ap (joined b) t.tried.1.1 in
         let same : later ≡ out = t.bytes ∙ ap (λ (l : List ℕ). take b.count out ++ l) t.tried.1.0 ∙ take-append-drop b.count out in
-        rw (same, t.tried.0, bad) (bad_at e out b go none here, stops_there Error.BadPart b.count)
+        rw (same, t.tried.0, bad) (bad_at e out b go none here, λ n. absurd (false≢true (sym (ap is_some n))))
     tried_on (Entry.request call) here t =
         settles t.rest call here t.answer t.tried t.bytes t.joins
 
@@ -218,18 +204,16 @@ entry_at lent rs i x l is =
     drop-cons (map (entry_of lent) rs) i (entry_of lent x) (rw (length-map rs (entry_of lent)) l)
     ∙ rw (get_or-map (entry_of lent) rs i x, ← is, add-one)
 
--- ONE MORE RECORD: the read so far goes on, and fewer are left
+-- ONE MORE RECORD: the read so far goes on
 module _ (s₀ : Store) (out₀ : List ℕ) (rs : List RequestRecord) (lent : List ℕ) (clock : ℕ) where
   abbrev entries : List (Entry (Call Input))
   entries = map (entry_of lent) rs
 
-  pub again : (e f : Store) (out later : List ℕ) (b d : ReadAnswer) (x : RequestRecord) → SoFar s₀ out₀ entries clock e out b → goes_on b (length rs) ≡ true
-      → x ≡ get_or rs b.accepted x → Taken e f out later (entry_of lent x) clock b d
-      → SoFar s₀ out₀ entries clock f later d × (left d (length rs) < left b (length rs))
-  again e f out later b d x h g is t =
-      let long : length entries ≡ length rs = length-map rs (entry_of lent) in
-      let g' : goes_on b (length entries) ≡ true = ap (goes_on b) long ∙ g in
-      let w = not-damaged s₀ out₀ entries clock e out b h g' in
-      let here = entry_at lent rs b.accepted x (goes_there b (length rs) g) is in
-      let next = tried_on s₀ out₀ entries clock e f out later b d (h.handled w) g' (entry_of lent x) here t in
-      (record { damaged = λ y. absurd (false≢true (sym y ∙ w)); handled = λ _. next.0 }, rw long at next.1)
+  pub again : (e f : Store) (out later : List ℕ) (b d : ReadAnswer) (x : RequestRecord) (i : ℕ) → SoFar s₀ out₀ entries clock e out b
+      → b.refusal ≡ None → b.accepted ≡ i → i < length rs → x ≡ get_or rs i x → Taken e f out later (entry_of lent x) clock b d
+      → SoFar s₀ out₀ entries clock f later d × (d.refusal ≡ None → d.accepted ≡ i + 1)
+  again e f out later b d x i h none there l is t =
+      let w = not-damaged s₀ out₀ entries clock e out b h none in
+      let here = entry_at lent rs b.accepted x (omega (arith, there, l)) (rw there is) in
+      let next = tried_on s₀ out₀ entries clock e f out later b d (h.handled w) none (entry_of lent x) here t in
+      (record { damaged = λ y. absurd (false≢true (sym y ∙ w)); handled = λ _. next.0 }, λ n. next.1 n ∙ ap (λ (k : ℕ). k + 1) there)

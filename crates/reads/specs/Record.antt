@@ -1,5 +1,6 @@
 -- A record of a read as the model has it. Assumes nothing.
-use Rattle.std.specs.Prelude.{ℕ, ◌+◌, Bool, true, false, cond, not, ◌||◌, List, leb, length, take, drop}
+use Rattle.std.specs.Prelude.{ℕ, ◌+◌, Bool, true, false, cond, not, ◌||◌, List, [], leb, length, take, drop}
+use mathlib.Core.Option.{Option, none, some}
 use Rattle.model.specs.Call.{Input, Call}
 use Rattle.model_reads.specs.Read.{Entry}
 use Rattle.requests.specs.declared.eis.HandshakeRequest.{HandshakeRequest}
@@ -8,7 +9,6 @@ use Rattle.requests.specs.declared.eis.InterfaceRequest.{InterfaceRequest}
 use Rattle.requests.specs.declared.eis.Request.{Request}
 use Rattle.handlers.specs.Call.{call_of}
 use Rattle.reads.specs.declared.record.RequestRecord.{RequestRecord}
-use Rattle.reads.specs.declared.Part.{Part}
 
 -- "A record with text": Name, InterfaceVersion and Utf8
 abbrev pub handshake_has_text : HandshakeRequest → Bool
@@ -48,9 +48,7 @@ entry_of lent r =
     (Entry.request (call_of r.request r.object r.version (take r.length (drop r.start lent))))
     Entry.bad_part
 
--- what is lent of the texts: the part, or for a request without text nothing
-unfoldable pub part_of : Request → (start length n : ℕ) → Part
-part_of r start size n =
-    cond (has_text r)
-    (cond (leb (start + size) n) (record { start = start; end = start + size; stays = true }) (record { start = 0; end = 0; stays = false }))
-    (record { start = 0; end = 0; stays = true })
+-- what is lent of the texts to the request: its part, or nothing where it has no text
+unfoldable pub part_of : (lent : List ℕ) → RequestRecord → Option (List ℕ)
+part_of lent r =
+    cond (has_text r.request) (cond (leb (r.start + r.length) (length lent)) (some (take r.length (drop r.start lent))) none) (some [])

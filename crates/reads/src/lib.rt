@@ -4,15 +4,18 @@
 
 ghost use Rattle.std.specs.Prelude.{◌≡◌, true, map, ◌+◌, ◌<◌, ◌≤◌, ◌^◌, length};
 ghost use Rattle.session.specs.View.{store, is_whole};
+ghost use Rattle.session.specs.Slices.{given};
 ghost use Rattle.answers.specs.Answer.{count_of};
 ghost use Rattle.reads.specs.Record.{has_text, part_of, entry_of};
 ghost use Rattle.reads.specs.Handed.{goes_on, joined, Opens, Takes, HandsOver};
 
 use answers::{Answer, Error};
-use record::{RequestRecord, record_at};
+use record::RequestRecord;
 use requests::eis::{HandshakeRequest, InterfaceRequest, Request, TextRequest};
 
 pub mod record;
+
+// The calls take a session's slices one by one, as `handle_request` of the converter does: what is asked of callers may not change.
 
 // How many records were accepted, ignored ones included; how many bytes of events these wrote; the first refusal, if there was one.
 #[derive(Clone, Copy, Debug, PartialEq, Eq)]
@@ -20,14 +23,6 @@ pub struct ReadAnswer {
     pub accepted: usize,
     pub count: usize,
     pub refusal: Option<Error>,
-}
-
-// The part of the texts that a record has, if it stays within them.
-#[derive(Clone, Copy)]
-pub struct Part {
-    pub start: usize,
-    pub end: usize,
-    pub stays: bool,
 }
 
 // Nothing is tried yet; 21 on a damaged session.
@@ -39,21 +34,14 @@ pub fn begin(
 ) -> ReadAnswer
     ensures { Opens control words reals texts result }
 {
-    if session::whole(control, words, reals, texts) {
-        return ReadAnswer {
-            accepted: 0,
-            count: 0,
-            refusal: None,
-        };
-    }
     ReadAnswer {
         accepted: 0,
         count: 0,
-        refusal: Some(Error::BadState),
+        refusal: answers::check_whole(control, words, reals, texts).err(),
     }
 }
 
-// Whether a record is left to be tried.
+// Whether a record is left to be tried, for a caller that hands its records in one by one.
 pub fn goes_on(sofar: ReadAnswer, n: usize) -> bool
     ensures { result ≡ goes_on sofar n }
 {
@@ -64,64 +52,23 @@ pub fn goes_on(sofar: ReadAnswer, n: usize) -> bool
 fn has_text(request: Request) -> bool
     ensures { result ≡ has_text request }
 {
-    match request {
-        Request::Handshake(r) => match r {
-            HandshakeRequest::HandshakeVersion { .. } => false,
-            HandshakeRequest::Finish => false,
-            HandshakeRequest::ContextType { .. } => false,
-            HandshakeRequest::Name => true,
-            HandshakeRequest::InterfaceVersion { .. } => true,
-        },
-        Request::Connection(_) => false,
-        Request::PingpongDone => false,
-        Request::Seat(_) => false,
-        Request::Device(_) => false,
-        Request::Interface(i) => match i {
-            InterfaceRequest::Pointer(_) => false,
-            InterfaceRequest::PointerAbsolute(_) => false,
-            InterfaceRequest::Scroll(_) => false,
-            InterfaceRequest::Button(_) => false,
-            InterfaceRequest::Keyboard(_) => false,
-            InterfaceRequest::Touchscreen(_) => false,
-            InterfaceRequest::Text(r) => match r {
-                TextRequest::Release => false,
-                TextRequest::Keysym { .. } => false,
-                TextRequest::Utf8 => true,
-            },
-        },
-    }
+    matches!(
+        request,
+        Request::Handshake(HandshakeRequest::Name | HandshakeRequest::InterfaceVersion { .. })
+            | Request::Interface(InterfaceRequest::Text(TextRequest::Utf8))
+    )
 }
 
-// The part of so many bytes of texts; a request without one has the empty part at the start.
-fn part_of(request: Request, start: usize, length: usize, n: usize) -> Part
-    ensures { result ≡ part_of request start length n }
+// What is lent of the texts to a record's request: its part, if that stays within them, and nothing where the request has no text.
+#[tactic(auto, unfolding(crate::specs::Record::part_of))]
+fn part_of(one: RequestRecord, lent: &[u8]) -> Option<&[u8]>
+    ensures { given result ≡ part_of lent.now one }
 {
-    if !has_text(request) {
-        return Part {
-            start: 0,
-            end: 0,
-            stays: true,
-        };
+    if !has_text(one.request) {
+        return Some(b"");
     }
-    if n < start {
-        return Part {
-            start: 0,
-            end: 0,
-            stays: false,
-        };
-    }
-    if n - start < length {
-        return Part {
-            start: 0,
-            end: 0,
-            stays: false,
-        };
-    }
-    Part {
-        start,
-        end: start + length,
-        stays: true,
-    }
+    let end = one.start.checked_add(one.length)?;
+    lent.get(one.start..end)
 }
 
 // The answer of one record joined to those before it.
@@ -158,14 +105,9 @@ pub fn handle_record(
     requires { (is_whole (store control.old words.old reals.old texts.old) ≡ true) × ((sofar.count ≤ length out.old) × (sofar.accepted + 1 < 2 ^ 64)) }
     ensures { Takes control words reals texts out (entry_of lent.now one) clock sofar result }
 {
-    let request = one.request;
-    let part = part_of(request, one.start, one.length, lent.len());
-    if !part.stays {
+    let Some(text) = part_of(one, lent) else {
         return join(sofar, Err(Error::BadPart));
-    }
-    let start = part.start;
-    let end = part.end;
-    let at = sofar.count;
+    };
     let answer = converter::request::handle_request(
         control,
         words,
@@ -173,10 +115,10 @@ pub fn handle_record(
         texts,
         one.object,
         one.version,
-        request,
-        &lent[start..end],
+        one.request,
+        text,
         clock,
-        &mut out[at..],
+        &mut out[sofar.count..],
     );
     join(sofar, answer)
 }
@@ -194,12 +136,15 @@ pub fn handle_requests(
 ) -> ReadAnswer
     ensures { HandsOver control words reals texts out (map (entry_of lent.now) records.now) clock result }
 {
-    let n = records.len();
     let mut sofar = begin(control, words, reals, texts);
-    while goes_on(sofar, n) {
-        let i = sofar.accepted;
-        let one = record_at(records, i);
-        sofar = handle_record(control, words, reals, texts, one, lent, clock, out, sofar);
+    if sofar.refusal.is_some() {
+        return sofar;
+    }
+    for one in records {
+        sofar = handle_record(control, words, reals, texts, *one, lent, clock, out, sofar);
+        if sofar.refusal.is_some() {
+            return sofar;
+        }
     }
     sofar
 }

@@ -1,19 +1,16 @@
 -- The read so far, record by record, as `reads` has it. Assumes nothing.
-use mathlib.Core.Path.{◌≡◌}
-use mathlib.Core.List.{map}
-use lib.ListN.{length}
+use Rattle.std.proofs.Common.{◌≡◌, map}
+use Rattle.std.specs.Prelude.{None}
 use Rattle.session.specs.View.{store}
 use Rattle.reads.specs.Record.{entry_of}
-use Rattle.reads.proofs.Laws.{SoFar, left}
+use Rattle.reads.proofs.Laws.{SoFar}
 use Rattle.lent_read.specs.Numbers.{records_in}
 use Rattle.lent_read.proofs.handle_requests.Given as goal
 
-abbrev pub invariant-loop-one : goal.invariant-loop-one
-invariant-loop-one l =
-    SoFar (store l.initial.control l.initial.words l.initial.reals l.initial.texts) l.initial.out (map (entry_of l.lent) (records_in l.records l.points)) l.clock (store l.control l.words l.reals l.texts) l.out l.sofar
-    × ((length l.control ≡ length l.initial.control)
-    × ((length l.words ≡ length l.initial.words) × ((length l.reals ≡ length l.initial.reals) × ((length l.texts ≡ length l.initial.texts) × (length l.out ≡ length l.initial.out)))))
-
-abbrev pub decreases-loop-one : goal.decreases-loop-one
-decreases-loop-one l =
-    left l.sofar l.n
+abbrev pub invariant-loop-i : goal.invariant-loop-i
+invariant-loop-i l = record {
+  so_far : SoFar (store l.fn.control l.fn.words l.fn.reals l.fn.texts) l.fn.out (map (entry_of l.lent) (records_in l.records l.points)) l.clock
+      (store l.control l.words l.reals l.texts) l.out l.sofar;
+  goes_on : l.sofar.refusal ≡ None;
+  reached : l.sofar.accepted ≡ l.i;
+}

@@ -1,10 +1,18 @@
 -- 21's test decides. Assumes nothing.
-use mathlib.Core.Path.{◌∙◌, ap, sym, refl}
+use mathlib.Core.Path.{◌≡◌, ◌∙◌, ap, sym, refl}
+use mathlib.Core.Bool.{Bool}
+use Rattle.std.specs.Prelude.{Result, Ok, Err, Option, Some}
+use Rattle.std.specs.Result.{result_err}
+use Rattle.answers.specs.declared.Error.{Error}
+use Rattle.answers.specs.Check.{Tests}
+use Rattle.reads.specs.declared.ReadAnswer.{ReadAnswer}
 use Rattle.reads.specs.Handed.{opened}
 use Rattle.reads.proofs.begin.Goals as goal
 
-pub returns-then-whole : goal.returns-then-whole
-returns-then-whole c = (sym (ap opened (sym c.whole.ensures ∙ c.if-whole.true)), refl)
+tested : (intact : Bool) (r : Result (Unit {0}) Error) → Tests intact r → (let a : ReadAnswer = record { accepted = 0; count = 0; refusal = result_err r } in a) ≡ opened intact
+tested intact (Ok u) h = rw h refl
+tested intact (Err e) h = rw (h.0, h.1) refl
 
 pub returns : goal.returns
-returns c = (sym (ap opened (sym c.whole.ensures ∙ c.if-whole.false)), refl)
+returns c =
+    (ap (λ (o : Option Error). (let a : ReadAnswer = record { accepted = 0; count = 0; refusal = o } in a)) c.err.ensures.value ∙ tested _ c.check_whole.result c.check_whole.ensures, refl)

@@ -3,18 +3,18 @@ use mathlib.Core.Path.{refl, sym, ◌∙◌}
 use Rattle.bozterrun.proofs.Cases.{capability, one_case, not_none}
 use Rattle.bozterrun.proofs.client.bozterrun_interface_release.Goals as goal
 
-pub returns-in-None : goal.returns-in-None
-returns-in-None c =
-    let told = sym c.from_mask.ensures ∙ c.in-None.is in
+pub returns-in_default : goal.returns-in_default
+returns-in_default c =
+    let told = sym c.from_mask.ensures ∙ c.in_default.is in
     record {
       sent = λ k known. absurd (not_none capability (sym known ∙ told) refl refl);
       value = λ unknown. (refl, (refl, (refl, refl)));
     }
 
-pub returns-in-Some : goal.returns-in-Some
-returns-in-Some c =
+pub returns : goal.returns
+returns c =
     let told = sym c.from_mask.ensures ∙ c.in-Some.is in
     record {
-      sent = λ k known. record { answer = c.release_interface-answer.result; promised = rw (one_case capability (sym known ∙ told) refl refl) c.release_interface-answer.ensures; status_is = c.status.ensures; rest = c.count.ensures };
+      sent = λ k known. record { answer = c.release_interface-answer.result; promised = rw (one_case capability (sym known ∙ told) refl refl) c.release_interface-answer.ensures; status_is = c.sent.ensures.status_is; rest = c.sent.ensures.count_is };
       value = λ unknown. absurd (not_none capability (sym told ∙ unknown) refl refl);
     }

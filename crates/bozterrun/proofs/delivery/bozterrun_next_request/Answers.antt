@@ -11,8 +11,8 @@ returns-in-Ok-Some c =
       next = Ok (Some c.in-Ok-Some.given);
       delivered = delivered_as (ap next_of (c.in-Ok-Some.is ∙ ap Ok c.in-Ok-Some.field-0-is)) c.next_cell.ensures;
       status_is = refl;
-      numbers_are = c.put_numbers.ensures;
-      coordinates_are = c.put_coordinates.ensures;
+      numbers_are = refl;
+      coordinates_are = refl;
     }
 
 pub returns-in-Ok-None : goal.returns-in-Ok-None

@@ -1,5 +1,5 @@
 -- What the handshake holds of the client, as numbers. Assumes nothing.
-use mathlib.Core.Path.{refl, subst}
+use mathlib.Core.Path.{refl, subst, ◌∙◌}
 use Rattle.std.specs.Prelude.{Ok, Err}
 use Rattle.lent_handshake.specs.Lent.{Named}
 use Rattle.answer_numbers.proofs.Truth.{as_number}
@@ -24,7 +24,7 @@ returns-in-Ok c =
       client = Ok c.in-Ok.client;
       named = subst (Named a.words.now a.name.now) c.in-Ok.is c.who.ensures;
       status_is = refl;
-      given_is = as_number c.in-Ok.client.given;
+      given_is = c.from.ensures ∙ as_number c.in-Ok.client.given;
       length_is = refl;
       context_is = refl;
     }

@@ -3,16 +3,16 @@ use mathlib.Core.Path.{refl, sym, ◌∙◌}
 use Rattle.bozterrun.proofs.Cases.{context, one_case, not_none}
 use Rattle.bozterrun.proofs.handshakes.bozterrun_handshake_context_type.Goals as goal
 
-pub returns-in-Err : goal.returns-in-Err
-returns-in-Err c =
-    let told = sym c.try_from.ensures ∙ c.in-Err.is in
+pub returns-in_default : goal.returns-in_default
+returns-in_default c =
+    let told = sym c.try_from.ensures ∙ c.in_default.is in
     record {
       says = λ k known. absurd (not_none context (sym known ∙ told) refl refl);
       by_index = λ n invalid. (refl, (refl, refl));
     }
 
-pub returns-in-Ok : goal.returns-in-Ok
-returns-in-Ok c =
+pub returns : goal.returns
+returns c =
     let told = sym c.try_from.ensures ∙ c.in-Ok.is in
     record {
       says = λ k known. rw (one_case context (sym known ∙ told) refl refl) c.message.ensures;

@@ -8,7 +8,7 @@ pub returns-in-Utf8 : goal.returns-in-Utf8
 returns-in-Utf8 c = rw (c.malformed-in-Utf8.ensures, c.in-Utf8.is)
 
 pub returns-in-InvalidOpcode : goal.returns-in-InvalidOpcode
-returns-in-InvalidOpcode c = rw (c.malformed-in-InvalidOpcode.ensures, c.in-InvalidOpcode.is)
+returns-in-InvalidOpcode c = rw (c.malformed-in-InvalidOpcode.ensures, c.from.ensures, c.in-InvalidOpcode.is)
 
 pub returns-in-InvalidVariant : goal.returns-in-InvalidVariant
 returns-in-InvalidVariant c = rw (c.malformed-in-InvalidVariant.ensures, c.in-InvalidVariant.is)

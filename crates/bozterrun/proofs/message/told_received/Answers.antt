@@ -1,11 +1,22 @@
 -- What became of the bytes, as numbers. Assumes nothing.
+use mathlib.Core.Path.{◌≡◌}
+use Rattle.messages.specs.declared.Unhanded.{Unhanded}
 use Rattle.bozterrun.proofs.message.told_received.Goals as goal
 
-pub returns-in-Wait : goal.returns-in-Wait
-returns-in-Wait c = rw (c.bare.ensures, c.in-Wait.is)
+pub returns-in-Ok : goal.returns-in-Ok
+returns-in-Ok c = rw (c.told_answer.ensures, c.in-Ok.is)
 
-pub returns-in-NoObject : goal.returns-in-NoObject
-returns-in-NoObject c = rw (c.bare-in-NoObject.ensures, c.in-NoObject.is)
+pub returns-in-Err-Wait : goal.returns-in-Err-Wait
+returns-in-Err-Wait c =
+    let e : c.in-Err-Wait.field-0 ≡ Unhanded.Wait = rw c.in-Err-Wait.is at c.in-Err-Wait.field-0-is in
+    rw (c.in-Err-Wait.is, e) c.bare.ensures
 
-pub returns-in-Handed : goal.returns-in-Handed
-returns-in-Handed c = rw (c.told_answer.ensures, c.in-Handed.is)
+pub returns-in-Err-NoObject : goal.returns-in-Err-NoObject
+returns-in-Err-NoObject c =
+    let e : c.in-Err-NoObject.field-0 ≡ Unhanded.NoObject = rw c.in-Err-NoObject.is at c.in-Err-NoObject.field-0-is in
+    rw (c.in-Err-NoObject.is, e) c.bare-in-Err-NoObject.ensures
+
+pub returns-in-Err-Malformed : goal.returns-in-Err-Malformed
+returns-in-Err-Malformed c =
+    let e : c.in-Err-Malformed.field-0 ≡ Unhanded.Malformed c.in-Err-Malformed.error = rw c.in-Err-Malformed.is at c.in-Err-Malformed.field-0-is in
+    rw (c.in-Err-Malformed.is, e) c.told_error.ensures

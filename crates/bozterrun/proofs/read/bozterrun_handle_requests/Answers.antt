@@ -22,16 +22,16 @@ returns-then-not-are_requests c =
 pub returns : goal.returns
 returns c =
     let passes = sym c.are_requests.ensures ∙ not-false _ (not_from_true _ c.if-not-are_requests.false) in
-    let version = c.refused_version-refused.ensures ∙ ap (λ (o : Result Answer Error). version_in (outcome_of o)) c.first_outcome-first.ensures in
+    let version = ap (λ (o : Result Answer Error). version_in (outcome_of o)) c.first_outcome-first.ensures in
     record {
       told_read = λ _. record {
         answer = c.handle_requests-answer.result;
         promised = c.handle_requests-answer.ensures;
-        status_is = c.status.ensures ∙ ap status_of c.first_outcome-first.ensures;
+        status_is = c.detailed.ensures.status_is ∙ ap status_of c.first_outcome-first.ensures;
         accepted_is = refl;
         count_is = refl;
-        interface_is = ap (λ (v : RefusedVersion). v.interface) version;
-        version_is = ap (λ (v : RefusedVersion). v.version) version;
+        interface_is = c.detailed.ensures.details.0 ∙ ap (λ (v : RefusedVersion). v.interface) version;
+        version_is = c.detailed.ensures.details.1 ∙ ap (λ (v : RefusedVersion). v.version) version;
       };
       value = λ fails. absurd (false≢true (sym fails ∙ passes));
     }

@@ -12,20 +12,20 @@ returns-then-given-gt1 c =
       by_index = λ n invalid. (refl, (refl, (refl, (refl, refl))));
     }
 
-pub returns-in-Err : goal.returns-in-Err
-returns-in-Err c =
-    let told = sym c.try_from.ensures ∙ c.in-Err.is in
+pub returns-in_default : goal.returns-in_default
+returns-in_default c =
+    let told = sym c.try_from.ensures ∙ c.in_default.is in
     record {
       gave = λ k low known. absurd (not_none type (sym known ∙ told) refl refl);
       value = λ high. (refl, (refl, (refl, (refl, refl))));
       by_index = λ n invalid. (refl, (refl, (refl, (refl, refl))));
     }
 
-pub returns-in-Ok : goal.returns-in-Ok
-returns-in-Ok c =
+pub returns : goal.returns
+returns c =
     let told = sym c.try_from.ensures ∙ c.in-Ok.is in
     record {
-      gave = λ k low known. record { answer = c.add_device-answer.result; promised = rw (one_case type (sym known ∙ told) refl refl) (rw c.if_given-name.ensures at c.add_device-answer.ensures); status_is = c.status.ensures; rest = (c.count.ensures, c.value.ensures) };
+      gave = λ k low known. record { answer = c.add_device-answer.result; promised = rw (one_case type (sym known ∙ told) refl refl) (rw c.if_given-name.ensures at c.add_device-answer.ensures); status_is = c.gave.ensures.status_is; rest = (c.gave.ensures.count_is, c.gave.ensures.id_is) };
       value = λ high. absurd (omega arith);
       by_index = λ n invalid. absurd (not_none type (sym told ∙ invalid) refl refl);
     }

@@ -13,6 +13,6 @@ returns-then-given-gt1 c =
 pub returns : goal.returns
 returns c =
     record {
-      gave = λ low. record { answer = c.add_seat-answer.result; promised = rw c.if_given-name.ensures at c.add_seat-answer.ensures; status_is = c.status.ensures; rest = (c.count.ensures, c.value.ensures) };
+      gave = λ low. record { answer = c.add_seat-answer.result; promised = rw c.if_given-name.ensures at c.add_seat-answer.ensures; status_is = c.gave.ensures.status_is; rest = (c.gave.ensures.count_is, c.gave.ensures.id_is) };
       value = λ high. absurd (omega arith);
     }

@@ -12,20 +12,20 @@ returns-then-given-gt1 c =
       by_index = λ n invalid. (refl, (refl, (refl, refl)));
     }
 
-pub returns-in-Err : goal.returns-in-Err
-returns-in-Err c =
-    let told = sym c.try_from.ensures ∙ c.in-Err.is in
+pub returns-in_default : goal.returns-in_default
+returns-in_default c =
+    let told = sym c.try_from.ensures ∙ c.in_default.is in
     record {
       sent = λ d low known. absurd (not_none reason (sym known ∙ told) refl refl);
       value = λ high. (refl, (refl, (refl, refl)));
       by_index = λ n invalid. (refl, (refl, (refl, refl)));
     }
 
-pub returns-in-Ok : goal.returns-in-Ok
-returns-in-Ok c =
+pub returns : goal.returns
+returns c =
     let told = sym c.try_from.ensures ∙ c.in-Ok.is in
     record {
-      sent = λ d low known. record { answer = c.disconnected-answer.result; promised = rw (one_case reason (sym known ∙ told) refl refl) (rw c.if_given-explanation.ensures at c.disconnected-answer.ensures); status_is = c.status.ensures; rest = c.count.ensures };
+      sent = λ d low known. record { answer = c.disconnected-answer.result; promised = rw (one_case reason (sym known ∙ told) refl refl) (rw c.if_given-explanation.ensures at c.disconnected-answer.ensures); status_is = c.sent.ensures.status_is; rest = c.sent.ensures.count_is };
       value = λ high. absurd (omega arith);
       by_index = λ n invalid. absurd (not_none reason (sym told ∙ invalid) refl refl);
     }
