@@ -43,9 +43,8 @@ struct Session {
 }
 
 fn knows(shaking: EisHandshaker, name: &[u8], version: u32) -> EisHandshaker {
-    let mut out = [0u8; 0];
     let message = HandshakeMessage::InterfaceVersion { version };
-    shaking.handle_request(message, name, &mut out).handshaker
+    shaking.handle_request(message, name, &mut []).handshaker
 }
 
 // The interfaces of the protocol itself, and those of a device, with their versions.
@@ -254,7 +253,6 @@ fn read(
         reals: [0.0; REALS_LENGTH],
         texts: [0; TEXTS_LENGTH],
     };
-    let mut none = [0u8; 0];
     begin(&mut session.control);
     let r = read_array::handle_array(
         &mut session.control,
@@ -277,7 +275,7 @@ fn read(
         1,
         b"",
         600,
-        &mut none,
+        &mut [],
     );
     take(to, &mut session)
 }

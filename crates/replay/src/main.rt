@@ -96,7 +96,7 @@ fn argument_count(rt: &impl Env) -> usize {
 }
 
 // A word that begins with `-` is no file's name here; nor is one that is empty or too long.
-fn is_name(word: &[u8]) -> bool {
+fn is_path(word: &[u8]) -> bool {
     !word.is_empty() && !word.starts_with(b"-")
 }
 
@@ -105,7 +105,7 @@ fn named(rt: &HostRuntime, i: usize, explained: bool) {
     let mut word = [0u8; 4096];
     let n = argument(rt, i, &mut word);
     let path = &word[..n];
-    if is_name(path) {
+    if is_path(path) {
         play_file(rt, path, explained);
     } else {
         usage(&mut rt.stderr());

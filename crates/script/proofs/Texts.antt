@@ -3,7 +3,7 @@ use Prim.Native.Nat.{ℕ, zero, suc, ◌+◌, ◌-◌, ◌*◌, ◌/◌, ◌%◌
 use mathlib.Core.Path.{◌≡◌, refl, sym, ap, ap₂, ◌∙◌}
 use mathlib.Core.Bool.{Bool, true, false, ◌&&◌, false≢true}
 use mathlib.Core.List.{List, [], ◌∷◌}
-use mathlib.Core.Option.{none, some}
+use mathlib.Core.Option.{some}
 use native.Mathlib.Omega.{arith}
 use borrow.Author.Tests.{eq-eqb, ne_eqb}
 use lib.Dec.{ltb, eqb}
@@ -152,6 +152,3 @@ module _ (line : List ℕ) (from end : ℕ) (a : from ≤ end) (b : end ≤ leng
 
   pub text-given : some (text (text_bytes line (record { start = from + 2; bytes = (end - from - 2) / 2 })) ∷ []) ≡ one (text_of (part from end line))
   text-given = sym (rw (e, text_bytes_lem))
-
-pub text-none : (w : List ℕ) → is_text w ≡ false → none ≡ one (text_of w)
-text-none w e = rw e

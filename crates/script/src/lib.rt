@@ -11,3 +11,4 @@ pub use line::{Args, Line, LineEnd, line_end, parse};
 pub use text::{Part, Text, text_byte, text_into, text_len};
 pub use value::{Value, f32_of, i32_of, part_of, read, text_of, u32_of, u64_of};
 pub use verb::{FIRST_REQUEST, Kind, LAST_REQUEST, Verb, find, kind_at};
+pub use word::value_of;

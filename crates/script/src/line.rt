@@ -1,4 +1,5 @@
-// Lines: where one ends, and what it is.
+// Lines: where one ends, and what it is. Its words are read at places of the whole line, since a text is told by where it stands there (`Stepped` of
+// script/specs).
 ghost use Rattle.std.specs.Prelude.{◌≤◌, ◌<◌, ◌≡◌, length};
 ghost use Rattle.script.specs.Script.{is_blank};
 ghost use Rattle.script.specs.Told.{Stepped, Given, Parsed};

@@ -32,7 +32,7 @@ pub fn is_text(word: &[u8]) -> bool
     word.starts_with(b"t:") && are_pairs(&word[2..])
 }
 
-// How many bytes the text has in this line.
+// How many bytes the text has in this line. No method of `Text`, whose `bytes` says how many its digits are: those past the line's end are none.
 pub fn text_len(line: &[u8], t: Text) -> usize
     ensures { result ≡ length (text_bytes line.now t) }
 {

@@ -1,4 +1,5 @@
-// What the words behind the first stand for.
+// What the words behind the first stand for. A word is handed over with its line, `from` and `end`, since a text is told by where it stands there
+// (`value_told` of script/specs).
 ghost use Rattle.std.specs.Prelude.{ℕ, ◌<◌, ◌≤◌, ◌^◌, ◌≡◌, List, length};
 ghost use Rattle.script.specs.Number.{within, fits64};
 ghost use Rattle.script.specs.Script.{number64, number32, unsigned_of, one_of_seven, signed_of, float_of, text_of, part_of, read_as};

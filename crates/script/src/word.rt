@@ -25,6 +25,7 @@ pub fn find_byte(s: &[u8], from: usize, b: u8) -> usize
 }
 
 // The value of a digit, in small or in capital letters; 16 where the character is none.
+#[tactic(auto, unfolding(crate::specs::Number::digit), using(std::proofs::lemmas::Bool::Decides::nat_tests))]
 pub fn value_of(c: u8) -> u8
     ensures { result ≡ digit c }
 {
@@ -75,7 +76,7 @@ pub fn negative(n: u64) -> i32
     (0 - z) as i32
 }
 
-// The number of a bit pattern; every pattern of a NaN is the NaN.
+// The number of a bit pattern; every pattern of a NaN is the NaN. `f32::from_bits` alone won't do: it asks for a pattern of no NaN.
 pub fn of_bits(bits: u32) -> f32
     ensures { result ≡ of_bits binary32 bits }
 {

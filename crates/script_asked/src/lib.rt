@@ -96,7 +96,9 @@ pub enum Asked {
     Event(Event),
 }
 
-// A press state, a device's type, a reason and a capability. A line that has another value is no call.
+// A press state, a device's type, a reason and a capability. A line that has another value is no call (`read_as` of script/specs), so that each has a
+// default here, as the definitions have it: no `From<Value>`, which would say that each value stands for one, and no `TryFrom`, whose error nobody
+// would see.
 fn key_state(v: Value) -> KeyState
     ensures { result ≡ key_state v }
 {

@@ -1,8 +1,9 @@
 -- The calls of the model that the station's calls of a script are, and what is promised of them. Assumes nothing.
-use Rattle.std.specs.Prelude.{ℕ, Bool, List, Result}
+use Rattle.std.specs.Prelude.{ℕ, Bool, true, false, List, [], Option, Some, None, Result}
+use Rattle.std.specs.Borrow.{Bor}
 use Rattle.model.specs.Call.{Plain, Call}
 use Rattle.session.specs.View.{Lending}
-use Rattle.session.specs.Slices.{Numbers, SharedNumbers, Reals, rows_before, rows_after, optional}
+use Rattle.session.specs.Slices.{Numbers, Reals, rows_before, rows_after, optional}
 use Rattle.answers.specs.declared.Answer.{Answer}
 use Rattle.answers.specs.declared.Error.{Error}
 use Rattle.answers.specs.Meets.{Answered}
@@ -11,6 +12,15 @@ use Rattle.script_asked.specs.declared.Remove.{Remove}
 use Rattle.script_asked.specs.declared.Tell.{Tell}
 use Rattle.script_asked.specs.declared.Ask.{Ask}
 use Rattle.script_asked.specs.declared.Station.{Station}
+
+-- the line's text, as it is lent: whether there is one, and its bytes
+abbrev pub is_lent : Option (Bor (List ℕ)) → Bool
+is_lent None = false
+is_lent (Some t) = true
+
+abbrev pub lent_bytes : Option (Bor (List ℕ)) → List ℕ
+lent_bytes None = []
+lent_bytes (Some t) = t.now
 
 -- `given` tells whether the line's text is, where it may be missing
 abbrev pub add_call : Add → (given : Bool) → (text : List ℕ) → Plain
@@ -50,7 +60,7 @@ lending (Station.Tell a) = Lending.control
 lending (Station.Ask a) = Lending.control
 
 -- the call is made, and nothing else: at any clock and whatever the texts are
-abbrev pub PromiseStation : (control words : Numbers) (reals : Reals) (out : Numbers) → Station → (given : Bool) → (text : SharedNumbers) → Result Answer Error → Type 0
-PromiseStation c w r out a given text answer =
+abbrev pub PromiseStation : (control words : Numbers) (reals : Reals) (out : Numbers) → Station → (text : Option (Bor (List ℕ))) → Result Answer Error → Type 0
+PromiseStation c w r out a text answer =
     (clock : ℕ) (t : List ℕ)
-    → Answered (lending a) (rows_before c w r t) (rows_after c w r t) out.entry.now out.exit.now (Call.plain (station_call a given text.entry.now)) clock answer
+    → Answered (lending a) (rows_before c w r t) (rows_after c w r t) out.entry.now out.exit.now (Call.plain (station_call a (is_lent text) (lent_bytes text))) clock answer

@@ -2,23 +2,23 @@
 // minutes to check.
 #![tactic(auto)]
 
+ghost use Rattle.std.specs.Prelude.{◌≡◌};
 ghost use Rattle.answers.specs.Promise.{Promise, PromiseRows, Reply};
-ghost use Rattle.script_calls.specs.Station.{add_call, remove_call, tell_call, ask_call, PromiseStation};
+ghost use Rattle.script_calls.specs.Station.{is_lent, lent_bytes, add_call, remove_call, tell_call, ask_call, PromiseStation};
 
 use answers::{Answer, Error};
 use script_asked::{Add, Ask, Remove, Station, Tell};
 
-// `given` tells whether the name is.
-fn add(
-    control: &mut [u64],
-    call: Add,
-    given: bool,
-    name: &[u8],
-    out: &mut [u8],
-) -> Result<Answer, Error>
-    ensures { Promise control out (add_call call given name.now) result }
+// The bytes of a text that may be missing; none then.
+pub fn or_empty(text: Option<&[u8]>) -> &[u8]
+    ensures { result.now ≡ lent_bytes text.entry }
 {
-    let name = answers::if_given(given, name);
+    text.unwrap_or(b"")
+}
+
+fn add(control: &mut [u64], call: Add, name: Option<&[u8]>, out: &mut [u8]) -> Result<Answer, Error>
+    ensures { Promise control out (add_call call (is_lent name.entry) (lent_bytes name.entry)) result }
+{
     match call {
         Add::Seat { capabilities } => connection::add_seat(control, name, capabilities, out),
         Add::Device {
@@ -29,17 +29,15 @@ fn add(
     }
 }
 
-// `given` tells whether the explanation is.
 fn remove(
     control: &mut [u64],
     words: &mut [u64],
     reals: &mut [f32],
     call: Remove,
-    given: bool,
-    explanation: &[u8],
+    explanation: Option<&[u8]>,
     out: &mut [u8],
 ) -> Result<Answer, Error>
-    ensures { PromiseRows control words reals out (remove_call call given explanation.now) result }
+    ensures { PromiseRows control words reals out (remove_call call (is_lent explanation.entry) (lent_bytes explanation.entry)) result }
 {
     match call {
         Remove::Seat { seat } => seat::remove_seat(control, words, reals, seat, out),
@@ -49,7 +47,7 @@ fn remove(
             words,
             reals,
             reason,
-            answers::if_given(given, explanation),
+            explanation,
             out,
         ),
     }
@@ -82,22 +80,21 @@ fn ask(control: &[u64], call: Ask, name: &[u8]) -> Result<Answer, Error>
     }
 }
 
-// A call of the station; `given` tells whether its text is.
+// A call of the station, with the line's text if there is one.
 pub fn make(
     control: &mut [u64],
     words: &mut [u64],
     reals: &mut [f32],
     call: Station,
-    given: bool,
-    text: &[u8],
+    text: Option<&[u8]>,
     out: &mut [u8],
 ) -> Result<Answer, Error>
-    ensures { PromiseStation control words reals out call given text result }
+    ensures { PromiseStation control words reals out call text.entry result }
 {
     match call {
-        Station::Add(a) => add(control, a, given, text, out),
-        Station::Remove(a) => remove(control, words, reals, a, given, text, out),
+        Station::Add(a) => add(control, a, text, out),
+        Station::Remove(a) => remove(control, words, reals, a, text, out),
         Station::Tell(a) => tell(control, a, out),
-        Station::Ask(a) => ask(control, a, text),
+        Station::Ask(a) => ask(control, a, or_empty(text)),
     }
 }

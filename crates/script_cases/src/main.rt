@@ -1,7 +1,7 @@
 // Reads the lines of a call script, and writes for each its number and what it is. A line of more than 65,536 bytes is no call.
 #![tactic(auto)]
 
-ghost use Rattle.std.specs.Prelude.{◌≤◌, length, IfOk};
+ghost use Rattle.std.specs.Prelude.{◌≤◌, length, IfOk, IfSome};
 
 use script::{Line, LineEnd};
 use std::io;
@@ -45,146 +45,90 @@ fn say(to: &mut impl Write, number: u64, line: &[u8], cut: bool) -> io::Result<(
     answer(to, line)
 }
 
-// The line that is begun: where, its number, and whether its first bytes are gone.
+// How much of the buffer is filled with a line that has not ended, its number, and whether its first bytes are gone.
 #[derive(Clone, Copy, Debug, PartialEq, Eq)]
-struct Begun {
-    at: usize,
+struct Kept {
+    filled: usize,
     number: u64,
     cut: bool,
 }
 
-// Goes through the lines that end in what is filled.
-fn lines(
-    to: &mut impl Write,
-    buf: &[u8],
-    filled: usize,
-    number: u64,
-    cut: bool,
-) -> io::Result<Begun>
-    requires { filled ≤ length buf.now }
-    ensures { IfOk result (λ r. r.at ≤ filled) }
+// Goes through the lines that end in the text, and answers what is left of it.
+fn lines(to: &mut impl Write, text: &[u8], kept: Kept) -> io::Result<Kept>
+    ensures { IfOk result (λ k. k.filled ≤ length text.now) }
 {
-    let mut at: usize = 0;
-    let mut n = number;
-    let mut gone = cut;
-    while at < filled {
-        match script::line_end(buf, at, filled) {
-            Some(LineEnd { end, next }) => {
-                say(to, n, &buf[at..end], gone)?;
-                n = n.wrapping_add(1);
-                gone = false;
-                at = next;
-            }
-            None => {
-                return Ok(Begun {
-                    at,
-                    number: n,
-                    cut: gone,
-                });
-            }
-        }
+    let mut rest = text;
+    let mut number = kept.number;
+    let mut cut = kept.cut;
+    while let Some(LineEnd { end, next }) = script::line_end(rest, 0, rest.len()) {
+        say(to, number, &rest[..end], cut)?;
+        number = number.wrapping_add(1);
+        cut = false;
+        rest = &rest[next..];
     }
-    Ok(Begun {
-        at,
-        number: n,
-        cut: gone,
+    Ok(Kept {
+        filled: rest.len(),
+        number,
+        cut,
     })
 }
 
-// Moves what is filled from a place on to the start.
-fn move_down(buf: &mut [u8], at: usize, filled: usize)
-    requires { (at ≤ filled) × (filled ≤ length buf.old) }
-{
-    buf.copy_within(at..filled, 0);
-}
-
-// How much of the buffer is filled, the number of the line that is begun, whether its first bytes are gone, and whether there is more to read.
-#[derive(Clone, Copy, Debug, PartialEq, Eq)]
-struct Progress {
-    filled: usize,
-    number: u64,
-    cut: bool,
-    more: bool,
-}
-
-// Takes the lines that end, and makes room.
-fn take_lines(
-    to: &mut impl Write,
-    buf: &mut [u8],
-    filled: usize,
-    number: u64,
-    cut: bool,
-) -> io::Result<Progress>
+// Takes the lines that end, and makes room. A line that fills the buffer is dropped, and what follows of it.
+fn take_lines(to: &mut impl Write, buf: &mut [u8], filled: usize, kept: Kept) -> io::Result<Kept>
     requires { filled ≤ length buf.old }
-    ensures { IfOk result (λ r. r.filled ≤ length buf.new) }
+    ensures { IfOk result (λ k. k.filled ≤ length buf.new) }
 {
-    let begun = lines(to, buf, filled, number, cut)?;
-    let at = begun.at;
-    move_down(buf, at, filled);
-    let left = filled - at;
-    if left == buf.len() {
-        return Ok(Progress {
+    let begun = lines(to, &buf[..filled], kept)?;
+    buf.copy_within(filled - begun.filled..filled, 0);
+    if begun.filled == buf.len() {
+        return Ok(Kept {
             filled: 0,
-            number: begun.number,
             cut: true,
-            more: true,
+            ..begun
         });
     }
-    Ok(Progress {
-        filled: left,
-        number: begun.number,
-        cut: begun.cut,
-        more: true,
-    })
+    Ok(begun)
 }
 
 // A last line that no newline ends.
-fn finish(to: &mut impl Write, buf: &[u8], filled: usize, number: u64, cut: bool) -> io::Result<()>
-    requires { filled ≤ length buf.now }
-{
-    if cut || 0 < filled {
-        say(to, number, &buf[..filled], cut)?;
+fn finish(to: &mut impl Write, line: &[u8], kept: Kept) -> io::Result<()> {
+    if kept.cut || !line.is_empty() {
+        say(to, kept.number, line, kept.cut)?;
     }
     Ok(())
 }
 
+// None where there is no more to read.
 fn read_some(
     from: &mut impl Read,
     to: &mut impl Write,
     buf: &mut [u8],
-    filled: usize,
-    number: u64,
-    cut: bool,
-) -> io::Result<Progress>
-    requires { filled ≤ length buf.old }
-    ensures { IfOk result (λ r. r.filled ≤ length buf.new) }
+    kept: Kept,
+) -> io::Result<Option<Kept>>
+    requires { kept.filled ≤ length buf.old }
+    ensures { IfOk result (λ read. IfSome read (λ k. k.filled ≤ length buf.new)) }
 {
-    let got = from.read(&mut buf[filled..])?;
+    let got = from.read(&mut buf[kept.filled..])?;
     if got == 0 {
-        finish(to, buf, filled, number, cut)?;
-        return Ok(Progress {
-            filled: 0,
-            number,
-            cut,
-            more: false,
-        });
+        finish(to, &buf[..kept.filled], kept)?;
+        return Ok(None);
     }
-    take_lines(to, buf, filled + got, number, cut)
+    let next = take_lines(to, buf, kept.filled + got, kept)?;
+    Ok(Some(next))
 }
 
 // A proved loop has to end, and nothing says that the input does. So the loop counts its turns, up to a number that no run reaches.
 fn read_all(from: &mut impl Read, to: &mut impl Write, buf: &mut [u8]) -> io::Result<()> {
-    let mut filled: usize = 0;
-    let mut number: u64 = 1;
-    let mut cut = false;
+    let mut kept = Kept {
+        filled: 0,
+        number: 1,
+        cut: false,
+    };
     for _ in 0..u64::MAX {
-        let t = read_some(from, to, buf, filled, number, cut)?;
-        if !t.more {
-            return Ok(());
-        }
-        filled = t.filled;
-        number = t.number;
-        cut = t.cut;
+        let Some(next) = read_some(from, to, buf, kept)? else {
+            break;
+        };
+        kept = next;
     }
     Ok(())
 }

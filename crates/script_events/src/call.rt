@@ -8,6 +8,7 @@ use script_asked::Event;
 pub fn turn(event: Event, bytes: &[u8], said: u64, out: &mut [u8]) -> Result<usize, MessageError>
     ensures { TurnsIn event bytes.now said out result }
 {
+    // The cut is this line. A function that is handed the call as a closure would have it too, and the match would stand in the closure.
     let n = script_session::room(said, out.len());
     match event {
         Event::Write { interface } => {

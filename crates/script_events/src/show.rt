@@ -1,10 +1,13 @@
 // What a trail has of an event's message, and of its record.
-ghost use Rattle.std.specs.Prelude.{◌≡◌, take};
-ghost use Rattle.script_pattern.specs.Put.{Puts};
+ghost use Rattle.std.specs.Prelude.{[], ◌≡◌, cond, take};
+ghost use Rattle.script_pattern.specs.Put.{Puts, Writes};
 ghost use Rattle.script_events.specs.Shown.{refused, event_pattern, event_shown, event_count, event_words, event_line};
 
+use answer_numbers::{MALFORMED, UNSENDABLE};
+use answers::Error;
 use event_messages::MessageError;
 use script_asked::Event;
+use script_pattern::line::Line;
 use script_pattern::table;
 use script_pattern::table::Shown;
 
@@ -12,9 +15,9 @@ fn refused(e: MessageError, explained: bool) -> Shown
     ensures { result ≡ refused explained e }
 {
     match e {
-        MessageError::Unsendable => script_show::refusal(26, explained),
-        MessageError::Malformed => script_show::refusal(23, explained),
-        MessageError::ShortOut => script_show::refusal(19, explained),
+        MessageError::Unsendable => script_show::refusal(UNSENDABLE, explained),
+        MessageError::Malformed => script_show::refusal(MALFORMED, explained),
+        MessageError::ShortOut => script_show::refusal(Error::ShortOut.number(), explained),
     }
 }
 
@@ -42,13 +45,13 @@ fn event_count(r: Result<usize, MessageError>) -> usize
     r.unwrap_or(0)
 }
 
-// The words of a record whose bytes begin `out`; a message has none.
-fn event_words(line: &mut [u8], at: usize, event: Event, count: usize, out: &[u8]) -> usize
-    ensures { Puts line at result (event_words event (take count out.now)) }
+// Explained, the words of a record whose bytes begin `out`; a message has none.
+fn event_words(line: &mut Line, event: Event, count: usize, out: &[u8], explained: bool)
+    ensures { Writes line.old line.new (cond explained (event_words event (take count out.now)) []) }
 {
     match event {
-        Event::Write { .. } => at,
-        Event::Read { .. } => script_show::in_words(line, at, count, out),
+        Event::Read { .. } if explained => script_show::in_words(line, count, out),
+        _ => {}
     }
 }
 
@@ -63,10 +66,8 @@ pub fn event_answer(
     ensures { Puts line 0 result (event_line event r out.now explained) }
 {
     let count = event_count(r);
-    let next = script_show::ended_first(line, event_shown(event, r, explained), count, out);
-    if explained {
-        event_words(line, next, event, count, out)
-    } else {
-        next
-    }
+    let mut line = Line::new(line);
+    script_show::ended_first(&mut line, event_shown(event, r, explained), count, out);
+    event_words(&mut line, event, count, out, explained);
+    line.at
 }

@@ -9,16 +9,6 @@ use eiproto::eiproto_enum::ContextType;
 use handshake::handshake::{EisHandshaker, HandshakeAnswer, HandshakeMessage};
 use requests::eis::{HandshakeRequest, Request};
 
-// A context type. A line that has another number there is no call.
-fn context_of(n: u32) -> ContextType
-    ensures { result ≡ context_type n }
-{
-    match ContextType::try_from(n) {
-        Ok(context) => context,
-        Err(_) => ContextType::Receiver,
-    }
-}
-
 fn handshake_message(request: HandshakeRequest) -> HandshakeMessage
     ensures { result ≡ handshake_message request }
 {
@@ -28,7 +18,8 @@ fn handshake_message(request: HandshakeRequest) -> HandshakeMessage
         },
         HandshakeRequest::Finish => HandshakeMessage::Finish,
         HandshakeRequest::ContextType { context_type } => HandshakeMessage::ContextType {
-            context: context_of(context_type),
+            // A line that has another number there is no call.
+            context: ContextType::try_from(context_type).unwrap_or(ContextType::Receiver),
         },
         HandshakeRequest::Name => HandshakeMessage::Name,
         HandshakeRequest::InterfaceVersion { version } => HandshakeMessage::InterfaceVersion {

@@ -5,7 +5,7 @@ use mathlib.Core.List.{List}
 use native.Mathlib.Omega.{arith}
 use lib.ListN.{length, take, length-take}
 use Rattle.handshake.specs.declared.handshake.HandshakeAnswer.{HandshakeAnswer}
-use Rattle.messages.specs.declared.Received.{Received}
+use Rattle.messages.specs.Received.{Received}
 use Rattle.script_show.proofs.Fits.{line_length_lem}
 use Rattle.script_message.specs.Shown.{handshake_taken, message_shown, message_count, message_line, handshake_message_line}
 

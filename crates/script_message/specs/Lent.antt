@@ -1,13 +1,13 @@
 -- What is promised of a line's bytes that are lent the first bytes of a buffer, as many as the script says. Assumes nothing.
-use Rattle.std.specs.Prelude.{ℕ, List, Err}
+use Rattle.std.specs.Prelude.{ℕ, List, Ok, Err}
 use Rattle.session.specs.Slices.{Numbers, Reals, before, after}
 use Rattle.answers.specs.declared.Error.{Error}
 use Rattle.handshake.specs.declared.handshake.EisHandshaker.{EisHandshaker}
 use Rattle.handshake_messages.specs.declared.HandshakeReceived.{HandshakeReceived}
 use Rattle.handshake_messages.specs.declared.Unhanded.{Unhanded}
 use Rattle.handshake_messages.specs.Reading as shaking
-use Rattle.messages.specs.declared.Received.{Received}
-use Rattle.messages.specs.Received.{ReceivedFrom}
+use Rattle.messages.specs.declared.Unhanded as session
+use Rattle.messages.specs.Received.{Received, ReceivedFrom}
 use Rattle.script_session.specs.Lent.{InRoom}
 
 -- on the session
@@ -21,7 +21,7 @@ ShakesIn h bytes said out r = InRoom said out.entry.now out.exit.now (λ lent la
 
 -- bytes that were not handed on to the handshake, told as those on a session are
 abbrev pub unhanded : Unhanded → Received
-unhanded Unhanded.Wait = Received.Wait
-unhanded Unhanded.NoObject = Received.NoObject
-unhanded (Unhanded.Malformed e) = Received.Malformed e
-unhanded Unhanded.InvalidId = Received.Handed (Err Error.InvalidId) 0
+unhanded Unhanded.Wait = Err session.Unhanded.Wait
+unhanded Unhanded.NoObject = Err session.Unhanded.NoObject
+unhanded (Unhanded.Malformed e) = Err (session.Unhanded.Malformed e)
+unhanded Unhanded.InvalidId = Ok (record { answer = Err Error.InvalidId; taken = 0 })

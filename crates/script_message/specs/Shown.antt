@@ -2,14 +2,15 @@
 use Rattle.std.specs.Prelude.{ℕ, ◌+◌, Bool, cond, List, take, Ok, Err}
 use Rattle.std.specs.Prelude as rust
 use Rattle.model.specs.Plan.{Result}
-use Rattle.answers.specs.Answer.{error_of, outcome_of, count_of}
+use Rattle.answers.specs.Answer.{error_of, count_of}
 use Rattle.answers.specs.declared.Answer.{Answer}
 use Rattle.answers.specs.declared.Error.{Error}
 use Rattle.answers.specs.declared.Outcome.{Outcome}
 use Rattle.handshake.specs.declared.handshake.HandshakeAnswer.{HandshakeAnswer}
 use Rattle.handshake.specs.View.{HandshakeOutcome}
 use Rattle.wire.specs.declared.ParseError.{ParseError}
-use Rattle.messages.specs.declared.Received.{Received}
+use Rattle.messages.specs.declared.Unhanded.{Unhanded}
+use Rattle.messages.specs.Received.{Received}
 use Rattle.script_pattern.specs.Pattern.{first_message, first_malformed, shown}
 use Rattle.script_pattern.specs.declared.table.Shown.{Shown}
 use Rattle.script_show.specs.Answer.{result_shown, handshake_outcome, line_of}
@@ -47,17 +48,15 @@ handshake_taken x n (Err e) = handshake_outcome x (Err e)
 
 -- "`wait`: of one not yet whole"; 24 is the number of an id that is not alive
 abbrev pub message_shown : (explained : Bool) → Received → Shown
-message_shown x Received.Wait = shown (first_message + 1) 0 0 0 0 0
-message_shown x Received.NoObject = result_shown x (Result.refused 24)
-message_shown x (Received.Malformed e) = malformed x e
-message_shown x (Received.Handed a n) = taken_outcome x n a
+message_shown x (Err Unhanded.Wait) = shown (first_message + 1) 0 0 0 0 0
+message_shown x (Err Unhanded.NoObject) = result_shown x (Result.refused 24)
+message_shown x (Err (Unhanded.Malformed e)) = malformed x e
+message_shown x (Ok handed) = taken_outcome x handed.taken handed.answer
 
 -- "Behind the bar its records"
 abbrev pub message_count : Received → ℕ
-message_count Received.Wait = 0
-message_count Received.NoObject = 0
-message_count (Received.Malformed e) = 0
-message_count (Received.Handed a n) = count_of a
+message_count (Err why) = 0
+message_count (Ok handed) = count_of handed.answer
 
 -- WHAT A CLIENT'S BYTES ARE ANSWERED; the records begin `out`
 unfoldable pub message_line : Received → (out : List ℕ) → (explained : Bool) → List ℕ

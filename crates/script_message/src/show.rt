@@ -3,9 +3,10 @@ ghost use Rattle.std.specs.Prelude.{◌≡◌, ◌+◌, ◌≤◌, cond};
 ghost use Rattle.script_pattern.specs.Put.{Puts};
 ghost use Rattle.script_message.specs.Shown.{malformed_at, malformed, taken_outcome, handshake_taken, message_shown, message_count, message_line, handshake_message_line};
 
+use answer_numbers::{MALFORMED, NO_OBJECT};
 use answers::{Answer, Error, Outcome};
 use handshake::handshake::{EisHandshakeResp, HandshakeAnswer, HandshakeError};
-use messages::Received;
+use messages::{Handed, Unhanded};
 use script_pattern::table;
 use script_pattern::table::Shown;
 use wire::ParseError;
@@ -27,7 +28,7 @@ fn case_of(pattern: usize, a: u64, b: u64) -> Shown
 {
     Shown {
         pattern,
-        a: 23,
+        a: u64::from(MALFORMED),
         b: a,
         c: b,
         d: 0,
@@ -93,31 +94,34 @@ fn handshake_taken(
     }
 }
 
-fn message_shown(r: Received, explained: bool) -> Shown
+fn message_shown(r: Result<Handed, Unhanded>, explained: bool) -> Shown
     ensures { result ≡ message_shown explained r }
 {
     match r {
-        Received::Wait => table::single(table::MESSAGE + 1, 0),
-        Received::NoObject => script_show::refusal(24, explained),
-        Received::Malformed(e) => malformed(e, explained),
-        Received::Handed { answer, taken } => { taken_outcome(answer, taken, explained) }
+        Ok(Handed { answer, taken }) => taken_outcome(answer, taken, explained),
+        Err(Unhanded::Wait) => table::single(table::MESSAGE + 1, 0),
+        Err(Unhanded::NoObject) => script_show::refusal(NO_OBJECT, explained),
+        Err(Unhanded::Malformed(e)) => malformed(e, explained),
     }
 }
 
 // How many bytes of records were written.
-fn message_count(r: Received) -> usize
+fn message_count(r: Result<Handed, Unhanded>) -> usize
     ensures { result ≡ message_count r }
 {
     match r {
-        Received::Wait => 0,
-        Received::NoObject => 0,
-        Received::Malformed(_) => 0,
-        Received::Handed { answer, .. } => script_show::count(answer),
+        Ok(Handed { answer, .. }) => answer_numbers::count(answer),
+        Err(_) => 0,
     }
 }
 
 // What a client's bytes are answered. The records begin `out`.
-pub fn message_answer(line: &mut [u8], r: Received, out: &[u8], explained: bool) -> usize
+pub fn message_answer(
+    line: &mut [u8],
+    r: Result<Handed, Unhanded>,
+    out: &[u8],
+    explained: bool,
+) -> usize
     ensures { Puts line 0 result (message_line r out.now explained) }
 {
     script_show::whole(
@@ -139,10 +143,9 @@ pub fn handshake_message_answer(
 ) -> usize
     ensures { Puts line 0 result (handshake_message_line a taken out.now explained) }
 {
-    let o = a.outcome;
     script_show::whole(
         line,
-        handshake_taken(o, taken, explained),
+        handshake_taken(a.outcome, taken, explained),
         a.count,
         out,
         explained,

@@ -1,4 +1,6 @@
 pub mod Puts
+pub mod Lines
+pub mod Words
 pub mod Decimals
 pub mod Patterns
 pub mod Letters

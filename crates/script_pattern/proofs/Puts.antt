@@ -43,12 +43,6 @@ put_then {line} {mid} {later} {at} {a} {r} {xs} {ys} p q =
 pub put_none : (line : List ℕ) (at : ℕ) → Put line line at at []
 put_none line at = record { stored = refl; next = omega arith }
 
-pub put_one : (line : List ℕ) (at b : ℕ) → at < length line → Put line (set line at b) at (at + 1) (b ∷ [])
-put_one line at b h = record { stored = refl; next = omega arith }
-
-pub put_full : (line : List ℕ) (at : ℕ) (xs : List ℕ) → length line ≤ at → Put line line at at xs
-put_full line at xs h = record { stored = sym (sets_out line at xs h); next = omega arith }
-
 pub put_is : {line later : List ℕ} {at r : ℕ} {xs ys : List ℕ} → Put line later at r xs → xs ≡ ys → Put line later at r ys
 put_is p e = rw e at p
 
@@ -65,24 +59,12 @@ put_read {line} {later} {r} {xs} p h =
     let s : later ≡ xs ++ drop (length xs) line = p.stored ∙ sets-eq xs line 0 (omega arith) ∙ rw zero-add in
     rw (s, e) (take-append_seam xs (drop (length xs) line))
 
--- ---- in a loop: whatever puts the rest from here on puts the whole from the start on
-
-abbrev pub Rest : (line : List ℕ) (at : ℕ) (whole now : List ℕ) (next : ℕ) (rest : List ℕ) → Type 0
-Rest line at whole now next rest = (later : List ℕ) (r : ℕ) → Put now later next r rest → Put line later at r whole
-
-pub rest-start : (line : List ℕ) (at : ℕ) (whole : List ℕ) → Rest line at whole line at whole
-rest-start line at whole later r p = p
-
-pub rest_on : {line now after : List ℕ} {at next a : ℕ} {whole xs ys rest : List ℕ} → Rest line at whole now next rest → rest ≡ xs ++ ys → Put now after next a xs → Rest line at whole after a ys
-rest_on k e p later r q = k later r (rw e (put_then p q))
-
-pub rest_end : {line now : List ℕ} {at next : ℕ} {whole rest : List ℕ} → Rest line at whole now next rest → rest ≡ [] → Put line now at next whole
-rest_end {now = now} {next = next} k e = k now next (rw e (put_none now next))
+-- ---- in a loop: what is left of a list from a place on
 
 pub drop_on : (s : List ℕ) (i : ℕ) → i < length s → drop i s ≡ (get_or s i 0 ∷ []) ++ drop (i + 1) s
 drop_on s i h = rw (add-one, drop-cons s i 0)
 
--- what is left of a list's bytes at a place, and at its end
+-- the bytes that are made of it, and those at its end
 pub each_on : (f : ℕ → List ℕ) (s : List ℕ) (i : ℕ) → i < length s → each f (drop i s) ≡ f (get_or s i 0) ++ each f (drop (i + 1) s)
 unfolding each
 each_on f s i h = rw (add-one, drop-cons s i 0)

@@ -1,6 +1,6 @@
-// Bytes, numbers and patterns with values, put into a lent line: from a place on, as many as have room. The answer is the place behind them.
+// Bytes, numbers and patterns with values, put into a lent line: as many as have room.
 #![tactic(auto)]
 
+pub mod line;
 mod mark;
-pub mod put;
 pub mod table;

@@ -1,10 +1,11 @@
 // The table of patterns, and what a pattern shows with its values.
 ghost use Rattle.std.specs.Prelude.{◌≡◌, get_or, map};
 ghost use Rattle.eiproto.specs.Interface.{ascii};
-ghost use Rattle.script_pattern.specs.Put.{Puts};
+ghost use Rattle.script_pattern.specs.Put.{Writes};
 ghost use Rattle.script_pattern.specs.Pattern.{shown, values, bytes_of};
 ghost use Rattle.script_pattern.specs.Pattern as spec;
 
+use crate::line::Line;
 use crate::mark;
 
 // A pattern's number, and the values for its marks in their order.
@@ -186,21 +187,19 @@ fn pattern_at(patterns: &'static [&'static [u8]], n: usize) -> &'static [u8]
 }
 
 // A pattern with its values.
-fn patterned(line: &mut [u8], at: usize, pattern: &[u8], s: Shown, text: &[u8]) -> usize
-    ensures { Puts line at result (spec.patterned pattern.now (values s) text.now) }
+fn patterned(line: &mut Line, pattern: &[u8], s: Shown, text: &[u8])
+    ensures { Writes line.old line.new (spec.patterned pattern.now (values s) text.now) }
 {
-    let mut next = at;
     let mut place: usize = 0;
     for &c in pattern {
-        next = mark::show(line, next, c, value(s, place), text);
+        mark::show(line, c, value(s, place), text);
         place += mark::takes(c);
     }
-    next
 }
 
 // What is shown, with the text that lies beside it.
-pub fn show(line: &mut [u8], at: usize, s: Shown, text: &[u8]) -> usize
-    ensures { Puts line at result (bytes_of s text.now) }
+pub fn show(line: &mut Line, s: Shown, text: &[u8])
+    ensures { Writes line.old line.new (bytes_of s text.now) }
 {
-    patterned(line, at, pattern_at(&PATTERNS, s.pattern), s, text)
+    patterned(line, pattern_at(&PATTERNS, s.pattern), s, text)
 }

@@ -19,25 +19,21 @@ const RECORDS_LENGTH: usize = 524280;
 
 const POINTS_LENGTH: usize = 131070;
 
-// The memory of a session, which the calls of the library are lent.
+// The memory of a session and of a read, which the calls of the library are lent. A read has 65,535 records, as many as it may have, and texts as
+// long as a line may have them.
 #[derive(Drop)]
-struct Session {
+struct Memory {
     control: [u64; CONTROL_LENGTH],
     words: [u64; WORDS_LENGTH],
     reals: [f32; REALS_LENGTH],
     texts: [u8; TEXTS_LENGTH],
-}
-
-// That of a read: 65,535 records, as many as it may have, and texts as long as a line may have them.
-#[derive(Drop)]
-struct Gathered {
     records: [u64; RECORDS_LENGTH],
     points: [f32; POINTS_LENGTH],
     lent: [u8; 32768],
 }
 
-// How a script ends.
-#[derive(Clone, Copy)]
+// How a script ends. An `io::Error` has no `==`.
+#[derive(Clone, Copy, Debug)]
 pub enum End {
     // With its last line.
     Played,
@@ -57,24 +53,14 @@ pub fn play(
 ) -> End {
     // A line of 65,536 bytes and a newline.
     let mut buf = [0u8; 65537];
-    let mut session = Session {
+    let mut memory = Memory {
         control: [0; CONTROL_LENGTH],
         words: [0; WORDS_LENGTH],
         reals: [0.0; REALS_LENGTH],
         texts: [0; TEXTS_LENGTH],
-    };
-    let mut gathered = Gathered {
         records: [0; RECORDS_LENGTH],
         points: [0.0; POINTS_LENGTH],
         lent: [0; 32768],
     };
-    lines::read_all(
-        from,
-        to,
-        reasons,
-        explained,
-        &mut buf,
-        &mut session,
-        &mut gathered,
-    )
+    lines::read_all(from, to, reasons, explained, &mut buf, &mut memory)
 }

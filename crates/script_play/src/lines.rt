@@ -2,55 +2,47 @@
 ghost use Rattle.std.specs.Prelude.{◌≤◌, ◌<◌, ◌≡◌, length, IfOk, IfSome};
 ghost use Rattle.script_read.specs.Read.{Fits};
 
-use crate::{End, Gathered, Session, told};
+use crate::{End, Memory, told};
 use script::LineEnd;
 use script_read::Reading;
 use script_run::Run;
 use std::io;
 use std::io::{Read, Write};
 
-// How much of the buffer is filled, and whether the input has ended or cannot be read.
-#[derive(Clone, Copy)]
-struct Filled {
-    filled: usize,
-    input: Input,
-}
-
-// What a reading says of the input.
-#[derive(Clone, Copy)]
+// What a reading says of the input: three answers, and none of them is an absence or a refusal of the others.
+#[derive(Clone, Copy, Debug)]
 enum Input {
     Open,
     Ended,
     Failed(io::Error),
 }
 
-// What the lines have come to, and the read that is open.
+// How much of the buffer is filled, and what the reading says of the input.
+#[derive(Clone, Copy, Debug)]
+struct Filled {
+    filled: usize,
+    input: Input,
+}
+
+// What the lines have come to, and the read that is open. No derived `==`: it holds a run, and that a handshake's name; so do `Kept` and `Turn`.
 #[derive(Clone, Copy)]
 struct Play {
     run: Run,
     reading: Reading,
 }
 
-// Where the line begins that has not ended, whether its first bytes are gone, and what the lines before it have come to.
-#[derive(Clone, Copy)]
-struct Begun {
-    at: usize,
-    cut: bool,
-    play: Play,
-}
-
-// How much of the buffer is filled with a line that has not ended, and whether its first bytes are gone.
+// How much of the buffer is filled with a line that has not ended, whether its first bytes are gone, and what the lines before it have come to.
 #[derive(Clone, Copy)]
 struct Kept {
     filled: usize,
     cut: bool,
+    play: Play,
 }
 
 // What one reading has come to.
 #[derive(Clone, Copy)]
-struct Progress {
+struct Turn {
     kept: Kept,
-    play: Play,
     input: Input,
 }
 
@@ -75,28 +67,20 @@ fn fill(from: &mut impl Read, buf: &mut [u8], filled: usize) -> Filled
     }
 }
 
-// The end of a line that has no newline: a carriage return is no part of it, as before a newline.
-fn bare_end(buf: &[u8], at: usize, filled: usize) -> usize
-    requires { (at < filled) × (filled ≤ length buf.now) }
-    ensures { (at ≤ result) × (result ≤ filled) }
+// Where the first line ends, and where the next begins; none where it has not ended. The last line of the input needs no newline, and a carriage
+// return at its end is no part of it, as before a newline.
+fn end_of(text: &[u8], last: bool) -> Option<LineEnd>
+    ensures { IfSome result (λ e. (e.end ≤ length text.now) × ((0 < e.next) × (e.next ≤ length text.now))) }
 {
-    let last = filled - 1;
-    if buf[last] == b'\r' { last } else { filled }
-}
-
-// Where the line that begins at a place ends, and where the next begins; none where it has not ended. The last line of the input needs no newline.
-fn end_of(buf: &[u8], at: usize, filled: usize, last: bool) -> Option<LineEnd>
-    requires { (at < filled) × (filled ≤ length buf.now) }
-    ensures { IfSome result (λ e. (at ≤ e.end) × ((e.end ≤ filled) × ((at < e.next) × (e.next ≤ filled)))) }
-{
-    let ended = script::line_end(buf, at, filled);
-    if ended.is_none() && last {
-        return Some(LineEnd {
-            end: bare_end(buf, at, filled),
-            next: filled,
-        });
+    let ended = script::line_end(text, 0, text.len());
+    if ended.is_some() || text.is_empty() || !last {
+        return ended;
     }
-    ended
+    let bare = text.strip_suffix(b"\r").unwrap_or(text);
+    Some(LineEnd {
+        end: bare.len(),
+        next: text.len(),
+    })
 }
 
 // Carries a line out and tells it. Once the trail cannot be written, no line is: the error has ended the run.
@@ -104,26 +88,25 @@ fn play_line(
     to: &mut impl Write,
     reasons: &mut impl Write,
     play: Play,
-    session: &mut Session,
-    gathered: &mut Gathered,
+    memory: &mut Memory,
     line: &[u8],
     cut: bool,
     explained: bool,
 ) -> io::Result<Play>
-    requires { Fits play.reading gathered.old.records gathered.old.points gathered.old.lent }
-    ensures { IfOk result (λ p. Fits p.reading gathered.new.records gathered.new.points gathered.new.lent) }
+    requires { Fits play.reading memory.old.records memory.old.points memory.old.lent }
+    ensures { IfOk result (λ p. Fits p.reading memory.new.records memory.new.points memory.new.lent) }
 {
     let mut out = [0u8; 4096];
     let taken = script_read::take(
         play.run,
         play.reading,
-        &mut session.control,
-        &mut session.words,
-        &mut session.reals,
-        &mut session.texts,
-        &mut gathered.records,
-        &mut gathered.points,
-        &mut gathered.lent,
+        &mut memory.control,
+        &mut memory.words,
+        &mut memory.reals,
+        &mut memory.texts,
+        &mut memory.records,
+        &mut memory.points,
+        &mut memory.lent,
         line,
         cut,
         &mut out,
@@ -135,53 +118,48 @@ fn play_line(
     })
 }
 
-// Goes through the lines that end in what is filled.
+// Goes through the lines that end in the text.
 fn take_lines(
     to: &mut impl Write,
     reasons: &mut impl Write,
     explained: bool,
-    buf: &[u8],
-    filled: usize,
+    text: &[u8],
     last: bool,
-    cut: bool,
-    play: Play,
-    session: &mut Session,
-    gathered: &mut Gathered,
-) -> io::Result<Begun>
-    requires { (filled ≤ length buf.now) × Fits play.reading gathered.old.records gathered.old.points gathered.old.lent }
-    ensures { IfOk result (λ b. (b.at ≤ filled) × Fits b.play.reading gathered.new.records gathered.new.points gathered.new.lent) }
+    kept: Kept,
+    memory: &mut Memory,
+) -> io::Result<Kept>
+    requires { Fits kept.play.reading memory.old.records memory.old.points memory.old.lent }
+    ensures { IfOk result (λ k. (k.filled ≤ length text.now) × Fits k.play.reading memory.new.records memory.new.points memory.new.lent) }
 {
-    let mut begun = Begun { at: 0, cut, play };
-    while begun.at < filled {
-        let Some(LineEnd { end, next }) = end_of(buf, begun.at, filled, last) else {
-            break;
-        };
-        let line = &buf[begun.at..end];
-        begun = Begun {
-            at: next,
-            cut: false,
-            play: play_line(
-                to, reasons, begun.play, session, gathered, line, begun.cut, explained,
-            )?,
-        };
+    let mut rest = text;
+    let mut cut = kept.cut;
+    let mut play = kept.play;
+    while let Some(LineEnd { end, next }) = end_of(rest, last) {
+        play = play_line(to, reasons, play, memory, &rest[..end], cut, explained)?;
+        cut = false;
+        rest = &rest[next..];
     }
-    Ok(begun)
+    Ok(Kept {
+        filled: rest.len(),
+        cut,
+        play,
+    })
 }
 
-// Makes room behind the lines that were taken. A line that fills the buffer is dropped, and what follows of it.
-fn make_room(buf: &mut [u8], at: usize, filled: usize, cut: bool) -> Kept
-    requires { (at ≤ filled) × (filled ≤ length buf.old) }
-    ensures { result.filled ≤ length buf.new }
+// Makes room behind the line that has not ended. One that fills the buffer is dropped, and what follows of it.
+fn make_room(buf: &mut [u8], filled: usize, kept: Kept) -> Kept
+    requires { (kept.filled ≤ filled) × (filled ≤ length buf.old) }
+    ensures { (result.filled ≤ length buf.new) × (result.play ≡ kept.play) }
 {
-    buf.copy_within(at..filled, 0);
-    let left = filled - at;
-    if left == buf.len() {
+    buf.copy_within(filled - kept.filled..filled, 0);
+    if kept.filled == buf.len() {
         return Kept {
             filled: 0,
             cut: true,
+            ..kept
         };
     }
-    Kept { filled: left, cut }
+    kept
 }
 
 // Reads once and takes the lines that have ended.
@@ -192,51 +170,27 @@ fn read_some(
     explained: bool,
     buf: &mut [u8],
     kept: Kept,
-    play: Play,
-    session: &mut Session,
-    gathered: &mut Gathered,
-) -> io::Result<Progress>
-    requires { (kept.filled ≤ length buf.old) × Fits play.reading gathered.old.records gathered.old.points gathered.old.lent }
-    ensures { IfOk result (λ p. (p.kept.filled ≤ length buf.new) × Fits p.play.reading gathered.new.records gathered.new.points gathered.new.lent) }
+    memory: &mut Memory,
+) -> io::Result<Turn>
+    requires { (kept.filled ≤ length buf.old) × Fits kept.play.reading memory.old.records memory.old.points memory.old.lent }
+    ensures { IfOk result (λ t. (t.kept.filled ≤ length buf.new) × Fits t.kept.play.reading memory.new.records memory.new.points memory.new.lent) }
 {
     let Filled { filled, input } = fill(from, buf, kept.filled);
     let last = matches!(input, Input::Ended);
-    let begun = take_lines(
-        to, reasons, explained, buf, filled, last, kept.cut, play, session, gathered,
-    )?;
-    Ok(Progress {
-        kept: make_room(buf, begun.at, filled, begun.cut),
-        play: begun.play,
+    let begun = take_lines(to, reasons, explained, &buf[..filled], last, kept, memory)?;
+    Ok(Turn {
+        kept: make_room(buf, filled, begun),
         input,
     })
 }
 
 // Behind the last line: a read that is still open ends the trail.
-fn close(
-    to: &mut impl Write,
-    reasons: &mut impl Write,
-    play: Play,
-    explained: bool,
-) -> io::Result<Play>
-    ensures { IfOk result (λ p. p.reading ≡ play.reading) }
-{
+fn close(to: &mut impl Write, reasons: &mut impl Write, play: Play, explained: bool) -> End {
     let took = script_read::end(play.run, play.reading);
-    told::tell_end(to, reasons, took, explained)?;
-    Ok(Play {
-        run: took.run,
-        ..play
-    })
-}
-
-// How the script has ended, if it has.
-fn end_by(ended: bool, input: Input) -> Option<End> {
-    if ended {
-        return Some(End::Wrong);
-    }
-    match input {
-        Input::Open => None,
-        Input::Ended => Some(End::Played),
-        Input::Failed(e) => Some(End::Unread(e)),
+    match told::tell_end(to, reasons, took, explained) {
+        Ok(()) if took.run.ended => End::Wrong,
+        Ok(()) => End::Played,
+        Err(e) => End::Unwritten(e),
     }
 }
 
@@ -247,34 +201,29 @@ pub fn read_all(
     reasons: &mut impl Write,
     explained: bool,
     buf: &mut [u8],
-    session: &mut Session,
-    gathered: &mut Gathered,
+    memory: &mut Memory,
 ) -> End {
     let mut kept = Kept {
         filled: 0,
         cut: false,
-    };
-    let mut play = Play {
-        run: script_run::new_run(),
-        reading: script_read::none(),
+        play: Play {
+            run: script_run::new_run(),
+            reading: script_read::none(),
+        },
     };
     for _ in 0..u64::MAX {
-        let turn = match read_some(
-            from, to, reasons, explained, buf, kept, play, session, gathered,
-        ) {
+        let turn = match read_some(from, to, reasons, explained, buf, kept, memory) {
             Ok(turn) => turn,
             Err(e) => return End::Unwritten(e),
         };
         kept = turn.kept;
-        play = turn.play;
-        if matches!(turn.input, Input::Ended) {
-            play = match close(to, reasons, play, explained) {
-                Ok(closed) => closed,
-                Err(e) => return End::Unwritten(e),
-            };
+        if kept.play.run.ended {
+            return End::Wrong;
         }
-        if let Some(end) = end_by(play.run.ended, turn.input) {
-            return end;
+        match turn.input {
+            Input::Open => {}
+            Input::Ended => return close(to, reasons, kept.play, explained),
+            Input::Failed(e) => return End::Unread(e),
         }
     }
     End::Played

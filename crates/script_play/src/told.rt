@@ -36,15 +36,12 @@ pub fn tell_end(
     took: Took,
     explained: bool,
 ) -> io::Result<()> {
-    let told = took.told;
-    if is_quiet(told) {
+    if is_quiet(took.told) {
         return Ok(());
     }
-    let none = [0u8; 1];
-    show(to, took, &none, explained)?;
-    let run = took.run;
-    if let Told::Error(why) = told {
-        let _ = script_why::say(reasons, run.line, why, b"");
+    show(to, took, b"", explained)?;
+    if let Told::Error(why) = took.told {
+        let _ = script_why::say(reasons, took.run.line, why, b"");
     }
     Ok(())
 }
@@ -58,17 +55,15 @@ pub fn tell(
     out: &[u8],
     explained: bool,
 ) -> io::Result<()> {
-    let told = took.told;
-    if is_quiet(told) {
+    if is_quiet(took.told) {
         return Ok(());
     }
     if explained {
         show_call(to, line)?;
     }
     show(to, took, out, explained)?;
-    let run = took.run;
-    if let Told::Error(why) = told {
-        let _ = script_why::say(reasons, run.line, why, line);
+    if let Told::Error(why) = took.told {
+        let _ = script_why::say(reasons, took.run.line, why, line);
     }
     Ok(())
 }

@@ -1,5 +1,5 @@
 -- The records that the lines of a read gather, and the call that they make. Assumes nothing.
-use Prim.Native.Nat.{ℕ, zero, suc, ◌+◌, ◌-◌, ◌*◌, ◌≤◌, ◌<◌, min}
+use Prim.Native.Nat.{ℕ, zero, suc, ◌+◌, ◌*◌, ◌≤◌, ◌<◌}
 use mathlib.Core.Path.{◌≡◌, refl, sym, ap, ◌∙◌, subst}
 use mathlib.Core.Bool.{Bool, true, false, cond, ◌||◌}
 use mathlib.Core.List.{List, [], ◌∷◌, ◌++◌, map}
@@ -25,7 +25,7 @@ use Rattle.reads.specs.declared.ReadAnswer.{ReadAnswer}
 use Rattle.reads.specs.declared.record.RequestRecord.{RequestRecord}
 use Rattle.reads.specs.Record.{entry_of}
 use Rattle.reads.specs.Handed.{Handed}
-use Rattle.lent_read.specs.Numbers.{record_words, record_reals, record_count, record_at, record_of, cell_at, records_in}
+use Rattle.lent_read.specs.Numbers.{record_words, record_reals, record_count, record_at, cell_at, records_in}
 use Rattle.script.specs.Text.{Copied}
 use Rattle.script_run.specs.declared.call.Run.{Run}
 use Rattle.script_run.specs.declared.call.Why.{Why}

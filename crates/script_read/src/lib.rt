@@ -1,5 +1,6 @@
 // A read of a call script: its records gathered line by line in lent slices, and handed over as one call when the last of them has come. Outside of
-// reads a line is `script_run`'s.
+// reads a line is `script_run`'s. Over slices of any length that the read fits, as `take` promises (docs/PROMISES.md): a struct of arrays would ask
+// more, and one of slices has a lifetime and a ghost name for each.
 #![tactic(auto)]
 
 ghost use Rattle.std.specs.Prelude.{◌≡◌, [], ◌∷◌, ◌++◌, ◌+◌, ◌≤◌, ◌<◌};
@@ -21,7 +22,7 @@ pub struct Reading {
     pub length: usize,
 }
 
-// What a line has come to, and the read that it leaves open.
+// What a line has come to, and the read that it leaves open. No derived `==`: it holds a run, and that a handshake's name.
 #[derive(Clone, Copy)]
 pub struct Taken {
     pub took: Took,
@@ -78,7 +79,7 @@ fn hand_over(
         &points[..p],
         &lent[..reading.length],
         run.clock,
-        &mut out[0..n],
+        &mut out[..n],
     )
 }
 

@@ -1,5 +1,5 @@
 -- What a line of a script does: to the run, to the session's slices, and to the buffer that calls are lent. Assumes nothing.
-use Rattle.std.specs.Prelude.{◌≡◌, ℕ, ◌+◌, ◌%◌, ◌^◌, Bool, true, false, List, length, Option, Result}
+use Rattle.std.specs.Prelude.{◌≡◌, ℕ, ◌+◌, ◌%◌, ◌^◌, Bool, true, false, cond, List, length, Option, Result}
 use Rattle.model.specs.Call.{Call}
 use Rattle.requests.specs.declared.eis.Request.{Request}
 use Rattle.handshake.specs.Handshake as paper
@@ -12,8 +12,7 @@ use Rattle.answers.specs.Meets.{Answered}
 use Rattle.handlers.specs.Call.{call_of}
 use Rattle.requests.specs.declared.request.EisRequest.{EisRequest}
 use Rattle.converter.specs.Next.{Delivered}
-use Rattle.messages.specs.declared.Received.{Received}
-use Rattle.messages.specs.Received.{ReceivedFrom}
+use Rattle.messages.specs.Received.{Received, ReceivedFrom}
 use Rattle.handshake_messages.specs.Reading as shaking
 use Rattle.std.specs.Prelude.{Ok, Err}
 use Rattle.handshake_messages.specs.declared.HandshakeReceived.{HandshakeReceived}
@@ -29,6 +28,7 @@ use Rattle.script_asked.specs.Asked.{asked}
 use Rattle.script_calls.specs.Station.{lending, station_call}
 use Rattle.script_session.specs.Lent.{InRoom}
 use Rattle.script_handshake.specs.Shaken.{message_of, Opens}
+use Rattle.script_run.specs.declared.call.Stage.{Stage}
 use Rattle.script_run.specs.declared.call.Run.{Run}
 use Rattle.script_run.specs.declared.call.Why.{Why}
 use Rattle.script_run.specs.declared.call.Told.{Told}
@@ -39,28 +39,28 @@ use Rattle.script_run.specs.Line.{is_given, line_text}
 
 -- before the first line: the settings as the format's page has them, and no handshake, whatever its answer
 abbrev pub first : HandshakeAnswer → Run
-first a = record { line = 0; out = 4096; buffer = 254; clock = 0; started = false; finished = false; shaken = a; ended = false }
+first a = record { line = 0; out = 4096; buffer = 254; clock = 0; stage = Stage.Early; shaken = a; ended = false }
 
 -- one more line, counted with 64 bits
 abbrev pub counted : Run → Run
-counted r = record { line = (r.line + 1) % 2 ^ 64; out = r.out; buffer = r.buffer; clock = r.clock; started = r.started; finished = r.finished; shaken = r.shaken; ended = r.ended }
+counted r = record r { line = (r.line + 1) % 2 ^ 64 }
 
 -- the settings
 abbrev pub at_clock : ℕ → Run → Run
-at_clock n r = record { line = r.line; out = r.out; buffer = r.buffer; clock = n; started = r.started; finished = r.finished; shaken = r.shaken; ended = r.ended }
+at_clock n r = record r { clock = n }
 
 abbrev pub with_out : ℕ → Run → Run
-with_out n r = record { line = r.line; out = n; buffer = r.buffer; clock = r.clock; started = r.started; finished = r.finished; shaken = r.shaken; ended = r.ended }
+with_out n r = record r { out = n }
 
 abbrev pub with_buffer : ℕ → Run → Run
-with_buffer n r = record { line = r.line; out = r.out; buffer = n; clock = r.clock; started = r.started; finished = r.finished; shaken = r.shaken; ended = r.ended }
+with_buffer n r = record r { buffer = n }
 
 -- the handshake was answered: the session runs where it finished
 abbrev pub after_shaking : HandshakeAnswer → Run → Run
-after_shaking a r = record { line = r.line; out = r.out; buffer = r.buffer; clock = r.clock; started = true; finished = is_finished a.outcome; shaken = a; ended = r.ended }
+after_shaking a r = record r { stage = cond (is_finished a.outcome) Stage.Running Stage.Shaking; shaken = a }
 
 abbrev pub ended_run : Run → Run
-ended_run r = record { line = r.line; out = r.out; buffer = r.buffer; clock = r.clock; started = r.started; finished = r.finished; shaken = r.shaken; ended = true }
+ended_run r = record r { ended = true }
 
 -- ---- what there is to tell
 
@@ -154,31 +154,31 @@ pub record Makes (run : Run) (call : Station) (text_given : Bool) (text : List �
 
 -- a client's request: on the session, before it on the handshake, and before `start` no call
 pub record ClientDoes (run : Run) (object version : ℕ) (request : Request) (text : List ℕ) (s e : Store) (out later : List ℕ) (r : Took) : Type 0 where
-  pub session : run.finished ≡ true → Handles run object version request text s e out later r
-  pub handshake : run.finished ≡ false → run.started ≡ true
+  pub session : run.stage ≡ Stage.Running → Handles run object version request text s e out later r
+  pub handshake : run.stage ≡ Stage.Shaking
       → Shakes run request text s.control e.control out later r × (e ≡ store e.control s.words s.reals s.texts)
-  pub early : run.finished ≡ false → run.started ≡ false → Still s e out later (no_call Why.Early run) r
+  pub early : run.stage ≡ Stage.Early → Still s e out later (no_call Why.Early run) r
 
 -- next_request and the station's calls: on the session alone
 pub record NextDoes (run : Run) (s e : Store) (out later : List ℕ) (r : Took) : Type 0 where
-  pub session : run.finished ≡ true → Delivers run s e out later r
-  pub early : run.finished ≡ false → Still s e out later (no_call Why.Early run) r
+  pub session : run.stage ≡ Stage.Running → Delivers run s e out later r
+  pub early : (run.stage ≡ Stage.Running → ⊥) → Still s e out later (no_call Why.Early run) r
 
 pub record StationDoes (run : Run) (call : Station) (text_given : Bool) (text : List ℕ) (s e : Store) (out later : List ℕ) (r : Took) : Type 0 where
-  pub session : run.finished ≡ true → Makes run call text_given text s e out later r
-  pub early : run.finished ≡ false → Still s e out later (no_call Why.Early run) r
+  pub session : run.stage ≡ Stage.Running → Makes run call text_given text s e out later r
+  pub early : (run.stage ≡ Stage.Running → ⊥) → Still s e out later (no_call Why.Early run) r
 
 -- a read begins, on the session alone: its texts are the line's, and its records are to come
 pub record ReadDoes (run : Run) (count : ℕ) (s e : Store) (out later : List ℕ) (r : Took) : Type 0 where
-  pub session : run.finished ≡ true → Still s e out later (begun count run) r
-  pub early : run.finished ≡ false → Still s e out later (no_call Why.Early run) r
+  pub session : run.stage ≡ Stage.Running → Still s e out later (begun count run) r
+  pub early : (run.stage ≡ Stage.Running → ⊥) → Still s e out later (no_call Why.Early run) r
 
 -- a client's bytes: on the session, before it on the handshake, and before `start` no call
 pub record MessageDoes (run : Run) (bytes : List ℕ) (s e : Store) (out later : List ℕ) (r : Took) : Type 0 where
-  pub session : run.finished ≡ true → Receives run bytes s e out later r
-  pub handshake : run.finished ≡ false → run.started ≡ true
+  pub session : run.stage ≡ Stage.Running → Receives run bytes s e out later r
+  pub handshake : run.stage ≡ Stage.Shaking
       → ShakesBy run bytes s.control e.control out later r × (e ≡ store e.control s.words s.reals s.texts)
-  pub early : run.finished ≡ false → run.started ≡ false → Still s e out later (no_call Why.Early run) r
+  pub early : run.stage ≡ Stage.Early → Still s e out later (no_call Why.Early run) r
 
 -- WHAT A LINE DOES, by what it asks for
 abbrev pub Does : Run → Asked → (text_given : Bool) (text : List ℕ) (s e : Store) (out later : List ℕ) → Took → Type 0

@@ -1,8 +1,10 @@
-// A line of a script, carried out: before the session by `script_handshake`, on a running one by `script_session`.
-ghost use Rattle.std.specs.Prelude.{◌≡◌, ℕ, List, length};
+// A line of a script, carried out: before the session by `script_handshake`, on a running one by `script_session`. Over slices of any length, as the
+// calls are and as `take` promises (docs/PROMISES.md): a struct of arrays would ask more, and one of slices has a lifetime and a ghost name for each.
+ghost use Rattle.std.specs.Prelude.{◌≡◌, ℕ, List};
 ghost use Rattle.session.specs.Slices.{before, after, rows_before, rows_after};
 ghost use Rattle.session.specs.View.{store};
-ghost use Rattle.script_run.specs.Line.{is_given, text_first, lent_text, line_text};
+ghost use Rattle.script_calls.specs.Station.{is_lent, lent_bytes};
+ghost use Rattle.script_run.specs.Line.{is_given, text_first, line_text};
 ghost use Rattle.script_run.specs.Take.{quiet, no_call, answered, given, begun, shaken, received, told_by, shaken_by, turned, counted, at_clock, with_out, with_buffer, first};
 ghost use Rattle.script_run.specs.Take.{Starts, Shakes, ShakesBy, Receives, Turns, Handles, Delivers, Makes, Does, Takes};
 
@@ -10,13 +12,22 @@ use answers::{Answer, Error};
 use event_messages::MessageError;
 use handshake::handshake::{EisHandshaker, HandshakeAnswer};
 use handshake_messages::{HandshakeReceived, Unhanded};
-use messages::Received;
+use messages::Handed;
 use requests::eis::Request;
 use requests::request::EisRequest;
 use script::{Args, Line, Text, Value};
 use script_asked::{Asked, Event, Station};
 
-// What the lines so far have come to.
+// How far a run has come: to no handshake yet, to one, or past it to the session.
+#[derive(Clone, Copy, Debug, PartialEq, Eq)]
+pub enum Stage {
+    Early,
+    Shaking,
+    Running,
+}
+
+// What the lines so far have come to. It holds a handshake's name, whose bytes behind its length say nothing, so that a derived `==` would lie; so do
+// `Told` and `Took`.
 #[derive(Clone, Copy)]
 pub struct Run {
     // The number of the last line.
@@ -25,12 +36,10 @@ pub struct Run {
     pub out: u64,
     pub buffer: u64,
     pub clock: u64,
-    // Whether there is a handshake, and whether it has ended and the session runs.
-    pub started: bool,
-    pub finished: bool,
-    // What the handshake was answered last.
+    pub stage: Stage,
+    // What the handshake was answered last, whatever that is before there is one.
     pub shaken: HandshakeAnswer,
-    // Whether the trail has ended with an error.
+    // Whether the trail has ended with an error, at any stage: no value stands beside it.
     pub ended: bool,
 }
 
@@ -71,7 +80,7 @@ pub enum Told {
         refusal: Option<Error>,
     },
     // What a client's bytes came to, on the session; before it, where they were not handed on.
-    Received(Received),
+    Received(Result<Handed, messages::Unhanded>),
     // The handshake's answer to a message, which the run has, and how many bytes of it were taken.
     ShakenBy(usize),
     // What an event's record or message was turned into.
@@ -91,16 +100,13 @@ pub struct Took {
 pub fn new_run() -> Run
     ensures { result ≡ first result.shaken }
 {
-    let mut none = [0u8; 1];
-    let shaken = EisHandshaker::new(0, &mut none);
     Run {
         line: 0,
         out: 4096,
         buffer: 254,
         clock: 0,
-        started: false,
-        finished: false,
-        shaken,
+        stage: Stage::Early,
+        shaken: EisHandshaker::new(0, &mut []),
         ended: false,
     }
 }
@@ -155,10 +161,14 @@ fn begun(run: Run, count: u32) -> Took
 fn shaken(run: Run, a: HandshakeAnswer) -> Took
     ensures { result ≡ shaken a run }
 {
+    let stage = if script_handshake::is_finished(a) {
+        Stage::Running
+    } else {
+        Stage::Shaking
+    };
     Took {
         run: Run {
-            started: true,
-            finished: script_handshake::is_finished(a),
+            stage,
             shaken: a,
             ..run
         },
@@ -166,7 +176,7 @@ fn shaken(run: Run, a: HandshakeAnswer) -> Took
     }
 }
 
-fn received(run: Run, r: Received) -> Took
+fn received(run: Run, r: Result<Handed, messages::Unhanded>) -> Took
     ensures { result ≡ received r run }
 {
     Took {
@@ -324,17 +334,16 @@ fn make(
     words: &mut [u64],
     reals: &mut [f32],
     call: Station,
-    present: bool,
-    text: &[u8],
+    text: Option<&[u8]>,
     out: &mut [u8],
 ) -> Took
-    ensures { (t : List ℕ) → Makes run call present text.now (rows_before control words reals t) (rows_after control words reals t) out.old out.new result }
+    ensures { (t : List ℕ) → Makes run call (is_lent text.entry) (lent_bytes text.entry) (rows_before control words reals t) (rows_after control words reals t) out.old out.new result }
 {
-    let a = script_session::make(control, words, reals, call, present, text, run.out, out);
+    let a = script_session::make(control, words, reals, call, text, run.out, out);
     answered(run, a)
 }
 
-// What a line asks for; `present` tells whether its text is.
+// What a line asks for, with its text if it has one.
 fn carry_out(
     run: Run,
     control: &mut [u64],
@@ -342,12 +351,12 @@ fn carry_out(
     reals: &mut [f32],
     texts: &mut [u8],
     asked: Asked,
-    present: bool,
-    text: &[u8],
+    text: Option<&[u8]>,
     out: &mut [u8],
 ) -> Took
-    ensures { Does run asked present text.now (before control words reals texts) (after control words reals texts) out.old out.new result }
+    ensures { Does run asked (is_lent text.entry) (lent_bytes text.entry) (before control words reals texts) (after control words reals texts) out.old out.new result }
 {
+    let bytes = script_calls::or_empty(text);
     match asked {
         Asked::Now(n) => at_clock(run, n),
         Asked::Out(n) => with_out(run, n),
@@ -357,45 +366,31 @@ fn carry_out(
             object,
             version,
             request,
-        } => {
-            if run.finished {
-                return handle(
-                    run, control, words, reals, texts, object, version, request, text, out,
-                );
-            }
-            if run.started {
-                return shake(run, control, request, text, out);
-            }
-            no_call(run, Why::Early)
-        }
-        Asked::NextRequest => {
-            if run.finished {
-                return deliver(run, control, words, reals, texts, out);
-            }
-            no_call(run, Why::Early)
-        }
-        Asked::Station(call) => {
-            if run.finished {
-                return make(run, control, words, reals, call, present, text, out);
-            }
-            no_call(run, Why::Early)
-        }
-        Asked::Read(count) => {
-            if run.finished {
-                return begun(run, count);
-            }
-            no_call(run, Why::Early)
-        }
-        Asked::Message => {
-            if run.finished {
-                return receive(run, control, words, reals, texts, text, out);
-            }
-            if run.started {
-                return shake_by(run, control, text, out);
-            }
-            no_call(run, Why::Early)
-        }
-        Asked::Event(event) => turn(run, event, text, out),
+        } => match run.stage {
+            Stage::Running => handle(
+                run, control, words, reals, texts, object, version, request, bytes, out,
+            ),
+            Stage::Shaking => shake(run, control, request, bytes, out),
+            Stage::Early => no_call(run, Why::Early),
+        },
+        Asked::NextRequest => match run.stage {
+            Stage::Running => deliver(run, control, words, reals, texts, out),
+            _ => no_call(run, Why::Early),
+        },
+        Asked::Station(call) => match run.stage {
+            Stage::Running => make(run, control, words, reals, call, text, out),
+            _ => no_call(run, Why::Early),
+        },
+        Asked::Read(count) => match run.stage {
+            Stage::Running => begun(run, count),
+            _ => no_call(run, Why::Early),
+        },
+        Asked::Message => match run.stage {
+            Stage::Running => receive(run, control, words, reals, texts, bytes, out),
+            Stage::Shaking => shake_by(run, control, bytes, out),
+            Stage::Early => no_call(run, Why::Early),
+        },
+        Asked::Event(event) => turn(run, event, bytes, out),
     }
 }
 
@@ -415,37 +410,6 @@ pub fn text_of(args: Args) -> Text
     }
 }
 
-// With the text of the line at the start of `buf`.
-fn carry_in(
-    run: Run,
-    control: &mut [u64],
-    words: &mut [u64],
-    reals: &mut [f32],
-    texts: &mut [u8],
-    line: &[u8],
-    asked: Asked,
-    present: bool,
-    t: Text,
-    buf: &mut [u8],
-    out: &mut [u8],
-) -> Took
-    requires { length buf.old ≡ 32768 }
-    ensures { Does run asked present (lent_text line.now t) (before control words reals texts) (after control words reals texts) out.old out.new result }
-{
-    let n = script::text_into(line, t, buf);
-    carry_out(
-        run,
-        control,
-        words,
-        reals,
-        texts,
-        asked,
-        present,
-        &buf[..n],
-        out,
-    )
-}
-
 // A text is at most half as long as its line.
 fn call(
     run: Run,
@@ -461,19 +425,9 @@ fn call(
     ensures { Does run asked (is_given args) (line_text line.now args) (before control words reals texts) (after control words reals texts) out.old out.new result }
 {
     let mut buf = [0u8; 32768];
-    carry_in(
-        run,
-        control,
-        words,
-        reals,
-        texts,
-        line,
-        asked,
-        is_given(args),
-        text_of(args),
-        &mut buf,
-        out,
-    )
+    let n = script::text_into(line, text_of(args), &mut buf);
+    let text = is_given(args).then_some(&buf[..n]);
+    carry_out(run, control, words, reals, texts, asked, text, out)
 }
 
 // A line; one whose first bytes are gone (`cut`) is no call. Behind the end of the trail nothing is done.

@@ -3,4 +3,4 @@
 
 mod call;
 
-pub use call::{Run, Told, Took, Why, counted, new_run, no_call, quiet, take, text_of};
+pub use call::{Run, Stage, Told, Took, Why, counted, new_run, no_call, quiet, take, text_of};

@@ -1,5 +1,6 @@
 -- What is promised of a call that is lent the first bytes of a buffer, as many as the script says. Assumes nothing.
-use Rattle.std.specs.Prelude.{ℕ, min, ◌≡◌, Bool, List, ◌++◌, length, take, drop, Option, Result}
+use Rattle.std.specs.Borrow.{Bor}
+use Rattle.std.specs.Prelude.{ℕ, min, ◌≡◌, List, ◌++◌, length, take, drop, Option, Result}
 use Rattle.model.specs.Call.{Input, Call}
 use Rattle.session.specs.View.{Lending, store}
 use Rattle.session.specs.Slices.{Numbers, SharedNumbers, Reals, SharedReals, before, after, rows_before, rows_after}
@@ -9,7 +10,7 @@ use Rattle.answers.specs.Meets.{Answered}
 use Rattle.requests.specs.declared.request.EisRequest.{EisRequest}
 use Rattle.converter.specs.Next.{Delivered}
 use Rattle.script_asked.specs.declared.Station.{Station}
-use Rattle.script_calls.specs.Station.{lending, station_call}
+use Rattle.script_calls.specs.Station.{is_lent, lent_bytes, lending, station_call}
 
 -- how many bytes are lent of those that there are
 abbrev pub room : (said : ℕ) → List ℕ → ℕ
@@ -27,10 +28,10 @@ PromiseIn c w r t said out call clock a =
     InRoom said out.entry.now out.exit.now (λ lent later. Answered Lending.all (before c w r t) (after c w r t) lent later call clock a)
 
 -- a call of the station, at any clock and whatever the texts are
-abbrev pub StationIn : (control words : Numbers) (reals : Reals) (said : ℕ) (out : Numbers) → Station → (given : Bool) → (text : SharedNumbers) → Result Answer Error → Type 0
-StationIn c w r said out call given text a =
+abbrev pub StationIn : (control words : Numbers) (reals : Reals) (said : ℕ) (out : Numbers) → Station → (text : Option (Bor (List ℕ))) → Result Answer Error → Type 0
+StationIn c w r said out call text a =
     InRoom said out.entry.now out.exit.now
-    (λ lent later. (clock : ℕ) (t : List ℕ) → Answered (lending call) (rows_before c w r t) (rows_after c w r t) lent later (Call.plain (station_call call given text.entry.now)) clock a)
+    (λ lent later. (clock : ℕ) (t : List ℕ) → Answered (lending call) (rows_before c w r t) (rows_after c w r t) lent later (Call.plain (station_call call (is_lent text) (lent_bytes text))) clock a)
 
 -- next_request
 abbrev pub DeliversIn : (control : Numbers) (words : SharedNumbers) (reals : SharedReals) (texts : SharedNumbers) (said : ℕ) (buffer : Numbers) → Result (Option EisRequest) Error → Type 0

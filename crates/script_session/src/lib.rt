@@ -1,4 +1,6 @@
 // A line of a call script on a running session, carried out in the session's four slices: each call is lent so much of a buffer as the script says.
+// They stay four slices of any length, as the calls take them: a struct of arrays would ask more, and one of slices has a lifetime and a ghost name
+// for each.
 #![tactic(auto)]
 
 ghost use Rattle.std.specs.Prelude.{◌≡◌, min};
@@ -10,7 +12,8 @@ use requests::eis::Request;
 use requests::request::EisRequest;
 use script_asked::Station;
 
-// The length of a buffer that a call is lent: what the script says, within what the program has. No call writes so much.
+// The length of a buffer that a call is lent: what the script says, within what the program has. No call writes so much. Each caller cuts its buffer
+// itself: of a function that returns `&mut out[..n]` the proof did not close.
 pub fn room(said: u64, most: usize) -> usize
     ensures { result ≡ min said most }
 {
@@ -37,7 +40,6 @@ pub fn handle(
 ) -> Result<Answer, Error>
     ensures { PromiseIn control words reals texts said out (call_of request object version text.now) clock result }
 {
-    let from: usize = 0;
     let n = room(said, out.len());
     converter::request::handle_request(
         control,
@@ -49,26 +51,24 @@ pub fn handle(
         request,
         text,
         clock,
-        &mut out[from..n],
+        &mut out[..n],
     )
 }
 
-// A call of the station; `given` tells whether its text is.
+// A call of the station, with the line's text if there is one.
 pub fn make(
     control: &mut [u64],
     words: &mut [u64],
     reals: &mut [f32],
     call: Station,
-    given: bool,
-    text: &[u8],
+    text: Option<&[u8]>,
     said: u64,
     out: &mut [u8],
 ) -> Result<Answer, Error>
-    ensures { StationIn control words reals said out call given text result }
+    ensures { StationIn control words reals said out call text.entry result }
 {
-    let from: usize = 0;
     let n = room(said, out.len());
-    script_calls::make(control, words, reals, call, given, text, &mut out[from..n])
+    script_calls::make(control, words, reals, call, text, &mut out[..n])
 }
 
 // The next request, whose text begins the buffer.
@@ -82,7 +82,6 @@ pub fn next(
 ) -> Result<Option<EisRequest>, Error>
     ensures { DeliversIn control words reals texts said buffer result }
 {
-    let from: usize = 0;
     let n = room(said, buffer.len());
-    converter::request::next_request(control, words, reals, texts, &mut buffer[from..n])
+    converter::request::next_request(control, words, reals, texts, &mut buffer[..n])
 }

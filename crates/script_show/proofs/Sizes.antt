@@ -6,17 +6,14 @@ use mathlib.Core.List.{List, [], ◌∷◌, ◌++◌}
 use mathlib.Core.Logic.{dite}
 use native.Mathlib.Decide.{dec_le}
 use native.Mathlib.Omega.{arith}
-use borrow.Author.Tests.{lt-ltb, le-ltb, eq-eqb, ne_eqb, leb-true}
-use lib.Dec.{leb, ltb}
-use lib.ListN.{length, get_or, take, drop, length-drop, drop_of_length-le}
-use lib.Seq.{drop-drop, take_all}
+use borrow.Author.Tests.{lt-ltb, le-ltb, eq-eqb, ne_eqb, eqb-true}
+use lib.Dec.{eqb, ltb}
+use lib.ListN.{length, get_or, take, drop}
 use Rattle.eiproto.specs.Interface.{ascii}
-use Rattle.script_pattern.proofs.Patterns.{both}
+use Rattle.event_messages.specs.Shape.{shape_of, width}
+use Rattle.event_messages.proofs.Tests.{both_hold}
+use Rattle.event_messages.proofs.Tables.{at}
 use Rattle.script_show.specs.Records.{size_within, record_size, each_from, each_record, sizes, record_bytes, trail}
-
--- a part of a list that ends where the list does
-pub part_all : (l : List ℕ) (at : ℕ) → take (length l - at) (drop at l) ≡ drop at l
-part_all l at = let n = length-drop at l in take_all (length l - at) (drop at l) (omega arith)
 
 -- ---- a record's size
 
@@ -46,7 +43,8 @@ skip f zero l = refl
 skip f (suc n) [] = refl
 skip f (suc n) (b ∷ bs) = skip f n bs
 
-begun : (f : List ℕ → List ℕ) (l : List ℕ) → 0 < length l → each_record f l ≡ f (take (record_size l) l) ++ each_record f (drop (record_size l) l)
+-- the first, and those behind it
+pub begun : (f : List ℕ → List ℕ) (l : List ℕ) → 0 < length l → each_record f l ≡ f (take (record_size l) l) ++ each_record f (drop (record_size l) l)
 unfolding each_record each_from
 begun f [] h = absurd (omega arith)
 begun f (b ∷ bs) h =
@@ -55,15 +53,10 @@ begun f (b ∷ bs) h =
     ap (λ (r : List ℕ). f (take (record_size (b ∷ bs)) (b ∷ bs)) ++ r)
     (skip f (record_size (b ∷ bs) - 1) bs ∙ ap (λ (k : ℕ). each_from f 0 (drop k (b ∷ bs))) (sym e))
 
--- from a place on
-pub records_on : (f : List ℕ → List ℕ) (l : List ℕ) (from n : ℕ) → from < length l → n ≡ record_size (drop from l) → each_record f (drop from l) ≡ f (take n (drop from l)) ++ each_record f (drop (from + n) l)
-records_on f l from n h e =
-    let d = length-drop from l in
-    begun f (drop from l) (omega arith) ∙ rw (← e, drop-drop n from l)
-
-pub records-end : (f : List ℕ → List ℕ) (l : List ℕ) (from : ℕ) → length l ≤ from → each_record f (drop from l) ≡ []
+pub each-none : (f : List ℕ → List ℕ) (l : List ℕ) → length l ≡ 0 → each_record f l ≡ []
 unfolding each_record each_from
-records-end f l from h = rw (drop_of_length-le l h)
+each-none f [] h = refl
+each-none f (b ∷ bs) h = absurd (omega arith)
 
 pub trail-none : (l : List ℕ) → length l ≡ 0 → [] ≡ trail l
 unfolding trail
@@ -75,16 +68,23 @@ unfolding trail
 trail-some [] h = absurd (h refl)
 trail-some (b ∷ bs) h = refl
 
--- ---- the sizes of numbers are at most 8
+-- ---- the sizes of the numbers of a kind are those of its values in a record
 
-abbrev small : List ℕ → Bool
-small [] = true
-small (x ∷ xs) = leb x 8 && small xs
+same_sizes : ℕ → Bool
+same_sizes k =
+    eqb (get_or sizes (3 * k) 0) (width (shape_of k).first)
+    && (eqb (get_or sizes (3 * k + 1) 0) (width (shape_of k).second)
+    && eqb (get_or sizes (3 * k + 2) 0) (width (shape_of k).third))
 
-small_at : (l : List ℕ) → small l ≡ true → (i : ℕ) → get_or l i 0 ≤ 8
-small_at [] t i = omega arith
-small_at (x ∷ xs) t zero = leb-true x 8 (both (leb x 8) (small xs) t).0
-small_at (x ∷ xs) t (suc i) = small_at xs (both (leb x 8) (small xs) t).1 i
+pub record Sized (k : ℕ) : Type 0 where
+  pub first : get_or sizes (3 * k) 0 ≡ width (shape_of k).first
+  pub second : get_or sizes (3 * k + 1) 0 ≡ width (shape_of k).second
+  pub third : get_or sizes (3 * k + 2) 0 ≡ width (shape_of k).third
 
-pub size-most : (i : ℕ) → get_or sizes i 0 ≤ 8
-size-most i = small_at sizes refl i
+pub sizes_are : (k : ℕ) → k < 19 → Sized k
+unfolding shape_of same_sizes
+sizes_are k h =
+    let t : same_sizes k ≡ true = at same_sizes 19 refl k h in
+    let a = both_hold t in
+    let b = both_hold a.1 in
+    record { first = eqb-true _ _ a.0; second = eqb-true _ _ b.0; third = eqb-true _ _ b.1 }

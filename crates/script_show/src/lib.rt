@@ -7,6 +7,6 @@ mod records;
 mod request;
 
 pub use lines::{
-    answer, call_line, count, ended_first, error_line, handshake_answer, handshake_outcome,
-    in_words, next, outcome, read_answer, refusal, whole,
+    answer, call_line, ended_first, error_line, handshake_answer, handshake_outcome, in_words,
+    next, outcome, read_answer, refusal, whole,
 };

@@ -2,7 +2,7 @@
 ghost use Rattle.std.specs.Prelude.{[], ◌∷◌, ◌++◌, ◌≡◌, true, cond, ◌≤◌, take};
 ghost use Rattle.answers.specs.Answer.{error_of, outcome_of, count_of};
 ghost use Rattle.model.specs.Plan.{Result};
-ghost use Rattle.script_pattern.specs.Put.{Puts};
+ghost use Rattle.script_pattern.specs.Put.{Puts, Writes};
 ghost use Rattle.script_pattern.specs.Pattern.{bytes_of};
 ghost use Rattle.script_show.specs.Answer.{result_shown, handshake_outcome, behind_outcome, line_of, read_refusal, read_line};
 ghost use Rattle.script_show.specs.Records.{each_record, record_bytes};
@@ -12,8 +12,9 @@ use crate::{records, request};
 use answers::{Answer, Error, Outcome};
 use handshake::handshake::{EisHandshakeResp, HandshakeAnswer, HandshakeError};
 use requests::request::EisRequest;
+use script_pattern::line::Line;
+use script_pattern::table;
 use script_pattern::table::Shown;
-use script_pattern::{put, table};
 
 // A refusal by its number, or with its name too.
 pub fn refusal(number: u32, explained: bool) -> Shown
@@ -59,19 +60,9 @@ pub fn outcome(a: Result<Answer, Error>, explained: bool) -> Shown
             Outcome::Seat(id) => table::single(table::OUTCOME + 1, id),
             Outcome::Device(id) => table::single(table::OUTCOME + 2, id),
             Outcome::Value(n) => table::single(table::OUTCOME + 3, u64::from(n)),
-            Outcome::Truth(b) => table::single(table::OUTCOME + 4, request::truth_number(b)),
+            Outcome::Truth(b) => table::single(table::OUTCOME + 4, u64::from(b)),
             Outcome::None => table::single(table::OUTCOME + 5, 0),
         },
-    }
-}
-
-// How many bytes of records a call wrote.
-pub fn count(a: Result<Answer, Error>) -> usize
-    ensures { result ≡ count_of a }
-{
-    match a {
-        Ok(a) => a.count,
-        Err(_) => 0,
     }
 }
 
@@ -87,69 +78,69 @@ pub fn handshake_outcome(
     }
 }
 
-// What is shown, and the end of its line.
-fn ended(line: &mut [u8], s: Shown, text: &[u8]) -> usize
-    ensures { Puts line 0 result (bytes_of s text.now ++ (0x0a ∷ [])) }
+// So many of the first bytes, or all where there are fewer.
+fn first(bytes: &[u8], count: usize) -> &[u8]
+    ensures { result.now ≡ take count bytes.now }
 {
-    let next = table::show(line, 0, s, text);
-    put::byte(line, next, b'\n')
+    &bytes[..count.min(bytes.len())]
+}
+
+// What is shown, and the end of its line.
+fn ended(line: &mut Line, s: Shown, text: &[u8])
+    ensures { Writes line.old line.new (bytes_of s text.now ++ (0x0a ∷ [])) }
+{
+    table::show(line, s, text);
+    line.byte(b'\n')
 }
 
 // The records that a call wrote, and the end of the line behind its outcome; explained, then a line for each record.
-fn records_behind(line: &mut [u8], at: usize, records: &[u8], explained: bool) -> usize
-    ensures { Puts line at result (behind_outcome records.now explained) }
+fn records_behind(line: &mut Line, records: &[u8], explained: bool)
+    ensures { Writes line.old line.new (behind_outcome records.now explained) }
 {
-    let told = records::trail(line, at, records);
-    let next = put::byte(line, told, b'\n');
+    records::trail(line, records);
+    line.byte(b'\n');
     if explained {
-        return records::each(line, next, records, true);
+        records::each(line, records, true)
     }
-    next
-}
-
-// The same, where the records begin `out`.
-fn beginning(line: &mut [u8], at: usize, count: usize, out: &[u8], explained: bool) -> usize
-    ensures { Puts line at result (behind_outcome (take count out.now) explained) }
-{
-    if count <= out.len() {
-        return records_behind(line, at, &out[..count], explained);
-    }
-    records_behind(line, at, out, explained)
 }
 
 // The records that begin `out` in words, a line for each.
-pub fn in_words(line: &mut [u8], at: usize, count: usize, out: &[u8]) -> usize
-    ensures { Puts line at result (each_record (record_bytes true) (take count out.now)) }
+pub fn in_words(line: &mut Line, count: usize, out: &[u8])
+    ensures { Writes line.old line.new (each_record (record_bytes true) (take count out.now)) }
 {
-    if count <= out.len() {
-        return records::each(line, at, &out[..count], true);
-    }
-    records::each(line, at, out, true)
+    records::each(line, first(out, count), true)
 }
 
 // The outcome of a call, and what stands behind it.
 pub fn whole(line: &mut [u8], s: Shown, count: usize, out: &[u8], explained: bool) -> usize
     ensures { Puts line 0 result (line_of s (take count out.now) explained) }
 {
-    let shown = table::show(line, 0, s, b"");
-    beginning(line, shown, count, out, explained)
+    let mut line = Line::new(line);
+    table::show(&mut line, s, b"");
+    records_behind(&mut line, first(out, count), explained);
+    line.at
 }
 
 // What a call on a session is answered. Its records begin `out`. Explained, each stands in words on a line of its own behind it.
 pub fn answer(line: &mut [u8], a: Result<Answer, Error>, out: &[u8], explained: bool) -> usize
     ensures { Puts line 0 result (answer_line a out.now explained) }
 {
-    whole(line, outcome(a, explained), count(a), out, explained)
+    whole(
+        line,
+        outcome(a, explained),
+        answer_numbers::count(a),
+        out,
+        explained,
+    )
 }
 
 // What a call of the handshake is answered.
 pub fn handshake_answer(line: &mut [u8], a: HandshakeAnswer, out: &[u8], explained: bool) -> usize
     ensures { Puts line 0 result (handshake_line a out.now explained) }
 {
-    let o = a.outcome;
     whole(
         line,
-        handshake_outcome(o, explained),
+        handshake_outcome(a.outcome, explained),
         a.count,
         out,
         explained,
@@ -157,14 +148,13 @@ pub fn handshake_answer(line: &mut [u8], a: HandshakeAnswer, out: &[u8], explain
 }
 
 // The refusal that ended a read, behind how many of its records were accepted.
-fn read_refusal(line: &mut [u8], at: usize, refusal: Option<Error>, explained: bool) -> usize
-    ensures { Puts line at result (read_refusal explained refusal) }
+fn read_refusal(line: &mut Line, refusal: Option<Error>, explained: bool)
+    ensures { Writes line.old line.new (read_refusal explained refusal) }
 {
     if let Some(e) = refusal {
-        let next = put::byte(line, at, b' ');
-        return table::show(line, next, refused(e, explained), b"");
+        line.byte(b' ');
+        table::show(line, refused(e, explained), b"")
     }
-    at
 }
 
 // What a read is answered: how many of its records were accepted, and how it ended, with the records that these wrote.
@@ -178,19 +168,18 @@ pub fn read_answer(
 ) -> usize
     ensures { Puts line 0 result (read_line accepted count refusal out.now explained) }
 {
-    let counted = table::show(line, 0, table::single(table::READ, accepted), b"");
-    let told = read_refusal(line, counted, refusal, explained);
-    beginning(line, told, count, out, explained)
+    let mut line = Line::new(line);
+    table::show(&mut line, table::single(table::READ, accepted), b"");
+    read_refusal(&mut line, refusal, explained);
+    records_behind(&mut line, first(out, count), explained);
+    line.at
 }
 
 // What is shown of the first n bytes of a text, and the end of its line.
-pub fn ended_first(line: &mut [u8], s: Shown, n: usize, text: &[u8]) -> usize
-    ensures { Puts line 0 result (bytes_of s (take n text.now) ++ (0x0a ∷ [])) }
+pub fn ended_first(line: &mut Line, s: Shown, n: usize, text: &[u8])
+    ensures { Writes line.old line.new (bytes_of s (take n text.now) ++ (0x0a ∷ [])) }
 {
-    if n <= text.len() {
-        return ended(line, s, &text[..n]);
-    }
-    ended(line, s, text)
+    ended(line, s, first(text, n))
 }
 
 fn next_shown(next: Result<Option<EisRequest>, Error>, explained: bool) -> Shown
@@ -209,8 +198,7 @@ fn next_length(next: Result<Option<EisRequest>, Error>) -> usize
 {
     match next {
         Ok(Some(r)) => r.text_length() as usize,
-        Ok(None) => 0,
-        Err(_) => 0,
+        _ => 0,
     }
 }
 
@@ -223,19 +211,30 @@ pub fn next(
 ) -> usize
     ensures { Puts line 0 result (next_line next buffer.now explained) }
 {
-    ended_first(line, next_shown(next, explained), next_length(next), buffer)
+    let mut line = Line::new(line);
+    ended_first(
+        &mut line,
+        next_shown(next, explained),
+        next_length(next),
+        buffer,
+    );
+    line.at
 }
 
 // That a line is no call, or comes where no such call can be made.
 pub fn error_line(line: &mut [u8], number: u64) -> usize
     ensures { Puts line 0 result (error_line number) }
 {
-    ended(line, table::single(table::LINE, number), b"")
+    let mut line = Line::new(line);
+    ended(&mut line, table::single(table::LINE, number), b"");
+    line.at
 }
 
 // A line of the script.
 pub fn call_line(line: &mut [u8], call: &[u8]) -> usize
     ensures { Puts line 0 result (call_line call.now) }
 {
-    ended(line, table::single(table::LINE + 1, 0), call)
+    let mut line = Line::new(line);
+    ended(&mut line, table::single(table::LINE + 1, 0), call);
+    line.at
 }

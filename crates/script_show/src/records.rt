@@ -1,34 +1,27 @@
 // Event records: in hexadecimal as a trail has them, and in words.
-ghost use Rattle.std.specs.Prelude.{◌≡◌, ◌+◌, ◌*◌, ◌%◌, ◌<◌, ◌≤◌, drop, get_or};
-ghost use Rattle.script_pattern.specs.Put.{Puts};
-ghost use Rattle.script_show.specs.Records.{record_size, size_within, each_record, one, four, number_at, sizes, kind_of};
+ghost use Rattle.std.specs.Prelude.{[], ◌≡◌, ◌+◌, ◌*◌, ◌%◌, ◌<◌, ◌≤◌, length, take, drop, MatchOption};
+ghost use Rattle.std.specs.Iterator.{at_most};
+ghost use Rattle.script_pattern.specs.Put.{Writes};
+ghost use Rattle.script_show.specs.Records.{record_size, size_within, each_record, one, four, number_at, kind_of};
 ghost use Rattle.script_show.specs.Records.{text_start, record_shown, object_shown, record_bytes, trail};
 ghost use Rattle.script_pattern.specs.Pattern.{bytes_of};
 
+use script_pattern::line::Line;
+use script_pattern::table;
 use script_pattern::table::Shown;
-use script_pattern::{put, table};
 
 // How many bytes a record has: what its header says, or all where that is 0 or more.
 fn size_within(said: usize, all: usize) -> usize
     ensures { result ≡ size_within said all }
 {
-    if said == 0 {
-        return all;
-    }
-    if all < said { all } else { said }
-}
-
-fn wide(b: u8) -> u64
-    ensures { (result ≡ b) × (result < 256) }
-{
-    b as u64
+    if said == 0 { all } else { said.min(all) }
 }
 
 // The 11 bits behind the kind.
 fn length_field(high: u8, low: u8) -> usize
     ensures { result ≡ high % 8 * 256 + low }
 {
-    (high % 8) as usize * 256 + low as usize
+    usize::from(high % 8) * 256 + usize::from(low)
 }
 
 fn record_size(bytes: &[u8]) -> usize
@@ -40,26 +33,48 @@ fn record_size(bytes: &[u8]) -> usize
     size_within(length_field(bytes[0], bytes[1]), bytes.len())
 }
 
-// The byte of a record at a place; 0 past its end.
-fn byte_at(event: &[u8], at: usize) -> u64
-    ensures { (result ≡ one at event.now) × (result < 256) }
-{
-    if at < event.len() {
-        return wide(event[at]);
+// Records, one behind the other.
+#[derive(Drop)]
+struct Records<'a>(&'a [u8]);
+
+impl<'a> Iterator for Records<'a> {
+    type Item = &'a [u8];
+
+    ghost next_gives = { λ s r t. MatchOption r
+        ((length s.0.now ≡ 0) × (t.0.now ≡ s.0.now))
+        (λ x. (x.now ≡ take (record_size s.0.now) s.0.now) × (t.0.now ≡ drop (record_size s.0.now) s.0.now) × (0 < length s.0.now)) };
+
+    ghost remaining = { λ s. at_most (length s.0.now) };
+
+    #[tactic(auto, using(crate::proofs::Sizes::size_bounds))]
+    fn next(&mut self) -> Option<&'a [u8]> {
+        if self.0.is_empty() {
+            return None;
+        }
+        let (record, behind) = self.0.split_at(record_size(self.0));
+        self.0 = behind;
+        Some(record)
     }
-    0
+}
+
+// The byte of a record at a place; 0 past its end.
+fn byte_at(event: &[u8], at: usize) -> u8
+    ensures { result ≡ one at event.now }
+{
+    event.get(at).copied().unwrap_or(0)
 }
 
 // The number of the four bytes at a place.
-fn four(event: &[u8], at: usize) -> u64
+fn four(event: &[u8], at: usize) -> u32
     requires { at ≤ 64 }
-    ensures { (result ≡ four at event.now) × (result < 4294967296) }
+    ensures { result ≡ four at event.now }
 {
-    let a = byte_at(event, at);
-    let b = byte_at(event, at + 1);
-    let c = byte_at(event, at + 2);
-    let d = byte_at(event, at + 3);
-    a * 16777216 + (b * 65536 + (c * 256 + d))
+    u32::from_be_bytes([
+        byte_at(event, at),
+        byte_at(event, at + 1),
+        byte_at(event, at + 2),
+        byte_at(event, at + 3),
+    ])
 }
 
 // The number of so many bytes at a place.
@@ -68,54 +83,38 @@ fn number_at(event: &[u8], size: usize, at: usize) -> u64
     ensures { result ≡ number_at size at event.now }
 {
     match size {
-        1 => byte_at(event, at),
-        4 => four(event, at),
-        8 => four(event, at) * 4294967296 + four(event, at + 4),
+        1 => u64::from(byte_at(event, at)),
+        4 => u64::from(four(event, at)),
+        8 => u64::from(four(event, at)) * 4294967296 + u64::from(four(event, at + 4)),
         _ => 0,
     }
 }
 
-// How many bytes each of the three numbers of a kind has, from kind 0 on.
-const SIZES: [usize; 57] = [
-    0, 0, 0, 8, 4, 0, 0, 0, 0, 8, 1, 0, 0, 0, 0, 4, 0, 0, 8, 4, 0, 4, 0, 0, 8, 1, 4, 4, 0, 0, 4, 0,
-    0, 4, 4, 0, 4, 0, 0, 4, 8, 0, 4, 4, 1, 8, 0, 0, 4, 0, 0, 1, 4, 0, 8, 4, 4,
-];
-
-fn size_at(place: usize) -> usize
-    requires { place < 57 }
-    ensures { (result ≡ get_or sizes place 0) × (result ≤ 8) }
-{
-    SIZES[place]
-}
-
 // The kind, in the upper five bits; 0 where there is no such kind.
-fn kind_of(event: &[u8]) -> usize
+fn kind_of(event: &[u8]) -> u8
     ensures { (result ≡ kind_of event.now) × (result < 19) }
 {
     let kind = byte_at(event, 0) / 8;
-    if kind < 19 {
-        return kind as usize;
-    }
-    0
+    if kind < 19 { kind } else { 0 }
 }
 
 // Where the text of a record begins.
 fn text_start(event: &[u8]) -> usize
     ensures { result ≡ text_start event.now }
 {
-    let place = 3 * kind_of(event);
-    10 + size_at(place) + size_at(place + 1) + size_at(place + 2)
+    event_messages::fixed_size(event_messages::shape_of(kind_of(event)))
 }
 
 fn record_shown(event: &[u8]) -> Shown
     ensures { result ≡ record_shown event.now }
 {
     let kind = kind_of(event);
-    let first = size_at(3 * kind);
-    let second = size_at(3 * kind + 1);
-    let third = size_at(3 * kind + 2);
+    let shape = event_messages::shape_of(kind);
+    let first = event_messages::width(shape.first);
+    let second = event_messages::width(shape.second);
+    let third = event_messages::width(shape.third);
     Shown {
-        pattern: table::RECORD + kind,
+        pattern: table::RECORD + usize::from(kind),
         a: number_at(event, first, 10),
         b: number_at(event, second, 10 + first),
         c: number_at(event, third, 10 + first + second),
@@ -131,50 +130,42 @@ fn object_shown(event: &[u8]) -> Shown
 }
 
 // What is shown of a record, with its text.
-fn text_shown(line: &mut [u8], at: usize, event: &[u8]) -> usize
-    ensures { Puts line at result (bytes_of (record_shown event.now) (drop (text_start event.now) event.now)) }
+fn text_shown(line: &mut Line, event: &[u8])
+    ensures { Writes line.old line.new (bytes_of (record_shown event.now) (drop (text_start event.now) event.now)) }
 {
-    let start = text_start(event);
-    if start <= event.len() {
-        return table::show(line, at, record_shown(event), &event[start..]);
-    }
-    table::show(line, at, record_shown(event), b"")
+    let start = text_start(event).min(event.len());
+    table::show(line, record_shown(event), &event[start..])
 }
 
 // A record on a line of its own in words, or behind a space in hexadecimal.
-fn tell(line: &mut [u8], at: usize, event: &[u8], words: bool) -> usize
-    ensures { Puts line at result (record_bytes words event.now) }
+fn tell(line: &mut Line, event: &[u8], words: bool)
+    ensures { Writes line.old line.new (record_bytes words event.now) }
 {
     if words {
-        let object = table::show(line, at, object_shown(event), b"");
-        let end = text_shown(line, object, event);
-        return put::byte(line, end, b'\n');
+        table::show(line, object_shown(event), b"");
+        text_shown(line, event);
+        line.byte(b'\n')
+    } else {
+        line.byte(b' ');
+        line.hexadecimal(event)
     }
-    let next = put::byte(line, at, b' ');
-    put::hexadecimal(line, next, event)
 }
 
 // Each record, one behind the other.
-pub fn each(line: &mut [u8], at: usize, bytes: &[u8], words: bool) -> usize
-    ensures { Puts line at result (each_record (record_bytes words) bytes.now) }
+pub fn each(line: &mut Line, bytes: &[u8], words: bool)
+    ensures { Writes line.old line.new (each_record (record_bytes words) bytes.now) }
 {
-    let mut next = at;
-    let mut from: usize = 0;
-    while from < bytes.len() {
-        let end = from + record_size(&bytes[from..]);
-        next = tell(line, next, &bytes[from..end], words);
-        from = end;
+    for event in Records(bytes) {
+        tell(line, event, words);
     }
-    next
 }
 
 // ` |` and the records, if there are any.
-pub fn trail(line: &mut [u8], at: usize, bytes: &[u8]) -> usize
-    ensures { Puts line at result (trail bytes.now) }
+pub fn trail(line: &mut Line, bytes: &[u8])
+    ensures { Writes line.old line.new (trail bytes.now) }
 {
-    if bytes.len() == 0 {
-        return at;
+    if !bytes.is_empty() {
+        line.bytes(b" |");
+        each(line, bytes, false)
     }
-    let next = put::bytes(line, at, b" |");
-    each(line, next, bytes, false)
 }

@@ -1,4 +1,5 @@
-// What a trail has of a line: the bytes, made in a lent line.
+// What a trail has of a line: the bytes, made in a lent line. No `String`: the library allocates nothing, and what is promised is as much of the line
+// as has room (`answer-fits` of script_show/proofs/Fits).
 #![tactic(auto)]
 
 ghost use Rattle.script_pattern.specs.Put.{Puts};

@@ -1,7 +1,7 @@
 // Why a line ends the trail, on standard error. What is written there is no part of the trail, and nothing is promised of it.
 #![tactic(auto)]
 
-ghost use Rattle.std.specs.Prelude.{◌≤◌, ◌<◌, length, IfOk, IfSome};
+ghost use Rattle.std.specs.Prelude.{◌≤◌, ◌<◌, length};
 
 use script::Kind;
 use script_run::Why;
@@ -12,15 +12,11 @@ fn put(to: &mut impl Write, words: &[u8]) -> io::Result<()> {
     to.write_all(words)
 }
 
-// Where the next space is, or the end of the line.
-fn space(line: &[u8], from: usize) -> usize
-    requires { from ≤ length line.now }
-    ensures { (from ≤ result) × (result ≤ length line.now) }
+// How many bytes stand before the first space.
+fn space(text: &[u8]) -> usize
+    ensures { result ≤ length text.now }
 {
-    match line[from..].iter().position(|&b| b == b' ') {
-        Some(k) => from + k,
-        None => line.len(),
-    }
+    text.iter().position(|&b| b == b' ').unwrap_or(text.len())
 }
 
 fn letter(b: u8) -> u8 {
@@ -53,58 +49,55 @@ fn say_kind(to: &mut impl Write, kind: Kind) -> io::Result<()> {
     }
 }
 
-// A word that begins behind the space at a place: the place behind it, or none where the reason has been said.
-fn word(to: &mut impl Write, line: &[u8], at: usize, kind: Kind) -> io::Result<Option<usize>>
-    ensures { IfOk result (λ r. IfSome r (λ n. n ≤ length line.now)) }
-{
-    if line.len() <= at {
+// The word behind the space that `rest` begins with: what stands behind it, or none where the reason has been said.
+fn word<'a>(to: &mut impl Write, rest: &'a [u8], kind: Kind) -> io::Result<Option<&'a [u8]>> {
+    let [_, word @ ..] = rest else {
         put(to, b"a word is missing")?;
         return Ok(None);
-    }
-    let from = at + 1;
-    let end = space(line, from);
-    if end == from {
+    };
+    let end = space(word);
+    if end == 0 {
         put(to, b"an empty word")?;
         return Ok(None);
     }
-    if script::read(line, from, end, kind).is_none() {
-        say_word(to, &line[from..end])?;
+    if script::read(word, 0, end, kind).is_none() {
+        say_word(to, &word[..end])?;
         say_kind(to, kind)?;
         return Ok(None);
     }
-    Ok(Some(end))
+    Ok(Some(&word[end..]))
 }
 
-// The words behind the first, which ends at a place, for the row of that; `within` a read or outside of one.
-fn words(to: &mut impl Write, line: &[u8], first: usize, i: usize, within: bool) -> io::Result<()>
-    requires { (first ≤ length line.now) × (i < 59) }
+// The words behind the first, for the row of that; `within` a read or outside of one.
+fn words(to: &mut impl Write, behind: &[u8], i: usize, within: bool) -> io::Result<()>
+    requires { i < 59 }
 {
-    let mut at = first;
+    let mut rest = behind;
     for place in 0..4 {
         let Some(kind) = script::kind_at(i, place, within) else {
             break;
         };
-        let Some(next) = word(to, line, at, kind)? else {
+        let Some(next) = word(to, rest, kind)? else {
             return Ok(());
         };
-        at = next;
+        rest = next;
     }
     put(to, b"a word too many")
 }
 
 fn no_call(to: &mut impl Write, line: &[u8]) -> io::Result<()> {
-    let end = space(line, 0);
-    match script::find(&line[..end]) {
-        Some(i) => words(to, line, end, i, false),
+    let (first, behind) = line.split_at(space(line));
+    match script::find(first) {
+        Some(i) => words(to, behind, i, false),
         None => put(to, b"unknown call"),
     }
 }
 
 fn no_record(to: &mut impl Write, line: &[u8]) -> io::Result<()> {
-    let end = space(line, 0);
-    match script::find(&line[..end]) {
+    let (first, behind) = line.split_at(space(line));
+    match script::find(first) {
         Some(i) if (script::FIRST_REQUEST..=script::LAST_REQUEST).contains(&i) => {
-            words(to, line, end, i, true)
+            words(to, behind, i, true)
         }
         Some(_) => put(to, b"only a client's requests stand in a read"),
         None => put(to, b"unknown call"),

@@ -37,9 +37,8 @@ fn accepted(to: &mut impl Write, answer: Result<Answer, Error>) -> io::Result<bo
 
 // The client knows an interface, in this version.
 fn knows(shaking: EisHandshaker, name: &[u8], version: u32) -> EisHandshaker {
-    let mut out = [0u8; 0];
     let message = HandshakeMessage::InterfaceVersion { version };
-    shaking.handle_request(message, name, &mut out).handshaker
+    shaking.handle_request(message, name, &mut []).handshaker
 }
 
 // A handshake, whose session's first serial is 7.

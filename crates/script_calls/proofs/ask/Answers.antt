@@ -3,7 +3,6 @@ use mathlib.Core.Path.{ap}
 use Rattle.script_calls.proofs.Stations.{for_plain}
 use Rattle.script_asked.specs.declared.Ask.{Ask}
 use Rattle.script_calls.specs.Station.{ask_call}
-use borrow.Author.Rules.{rules}
 use Rattle.script_calls.proofs.ask.Goals as goal
 
 pub returns-in-LastSerial : goal.returns-in-LastSerial

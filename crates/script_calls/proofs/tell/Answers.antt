@@ -2,7 +2,6 @@
 use mathlib.Core.Path.{ap}
 use Rattle.script_calls.proofs.Stations.{for_plain}
 use Rattle.script_calls.specs.Station.{tell_call}
-use borrow.Author.Rules.{rules}
 use Rattle.script_calls.proofs.tell.Goals as goal
 
 pub returns-in-Resumed : goal.returns-in-Resumed

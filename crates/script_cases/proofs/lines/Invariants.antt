@@ -1,11 +1,9 @@
--- The end of a line lies in what is filled, and the next line begins behind it. Assumes nothing.
-use Rattle.std.proofs.Common.{◌-◌, ◌≤◌}
+-- What is left is a part of the text, and shorter with each line. Assumes nothing.
+use Rattle.std.proofs.Common.{◌≤◌, length}
 use Rattle.script_cases.proofs.lines.Given as goal
 
-abbrev pub invariant-loop-at : goal.invariant-loop-at
-invariant-loop-at g l =
-    l.at ≤ l.filled
+abbrev pub invariant-loop-end : goal.invariant-loop-end
+invariant-loop-end g l = length l.rest ≤ length l.text
 
-abbrev pub decreases-loop-at : goal.decreases-loop-at
-decreases-loop-at g l =
-    l.filled - l.at
+abbrev pub decreases-loop-end : goal.decreases-loop-end
+decreases-loop-end g l = length l.rest

@@ -4,4 +4,4 @@ use Rattle.script_cases.proofs.read_all.Given as goal
 
 abbrev pub invariant-loop : goal.invariant-loop
 invariant-loop g l =
-    (l.filled ≤ length l.buf) × (length l.buf ≡ length l.initial.buf)
+    (l.kept.filled ≤ length l.buf) × (length l.buf ≡ length l.initial.buf)

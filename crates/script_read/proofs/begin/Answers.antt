@@ -16,9 +16,6 @@ returns-then-record_count-left c =
       fits = subst (λ (g : Reading). Fits g a.records.now a.points.now a.lent.now) (sym c.none.ensures) (no_read-fits a.records.now a.points.now a.lent.now);
     }
 
-pub settle-requires : goal.settle-requires
-settle-requires c = search rules
-
 pub returns : goal.returns
 returns c =
     let a = c.args in

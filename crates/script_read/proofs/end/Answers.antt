@@ -3,7 +3,6 @@ use mathlib.Core.Path.{sym, ap, ◌∙◌}
 use Rattle.script_run.specs.declared.call.Why.{Why}
 use Rattle.script_run.specs.Take.{no_call}
 use Rattle.script_read.proofs.Gathering.{closing-ended, closing-none, closing-within}
-use borrow.Author.Rules.{rules}
 use Rattle.script_read.proofs.end.Goals as goal
 
 pub returns-then-run : goal.returns-then-run

@@ -2,14 +2,13 @@
 use mathlib.Core.Path.{refl, sym, ap, ap₂, ◌∙◌, subst}
 use Rattle.script_run.specs.declared.call.Took.{Took}
 use Rattle.script_record.specs.declared.Record.{Record}
-use Rattle.std.specs.Prelude.{Option, Some, None, Result, Ok, Err}
+use Rattle.std.specs.Prelude.{Option, Some, None, Result, Ok}
 use Rattle.script_run.specs.declared.call.Why.{Why}
 use Rattle.script_run.specs.Take.{quiet, no_call}
 use Rattle.script_record.specs.Record.{Records}
 use Rattle.script_read.specs.declared.Reading.{Reading}
 use Rattle.script_read.specs.Read.{taken, Fits}
 use Rattle.script_read.proofs.Gathering.{no_read-fits, settled-fits, onward-fits, record_does}
-use borrow.Author.Rules.{rules}
 use Rattle.script_read.proofs.go_on.Goals as goal
 
 pub put-next-requires : goal.put-next-requires

@@ -1,9 +1,6 @@
 -- A line as its own function does it, and the read that it may begin. Assumes nothing.
-use mathlib.Core.Path.{refl, sym, ap, ◌∙◌, subst}
-use Rattle.script_read.specs.declared.Reading.{Reading}
-use Rattle.script_read.specs.Read.{taken, Fits}
-use Rattle.script_read.proofs.Gathering.{no_read-fits, begun_same, begins_as, not-begun}
-use borrow.Author.Rules.{rules}
+use mathlib.Core.Path.{◌∙◌}
+use Rattle.script_read.proofs.Gathering.{begun_same, begins_as}
 use Rattle.script_read.proofs.open.Goals as goal
 
 pub shape_of-control-in-Begun : goal.shape_of-control-in-Begun

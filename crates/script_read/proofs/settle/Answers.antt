@@ -1,9 +1,8 @@
 -- The last record has come, or more are to come. Assumes nothing.
-use mathlib.Core.Path.{refl, ap₂, ◌∙◌}
+use mathlib.Core.Path.{refl, ap₂}
 use Rattle.script_run.specs.declared.call.Told.{Told}
 use Rattle.script_read.specs.declared.Reading.{Reading}
 use Rattle.script_read.specs.Read.{taken}
-use borrow.Author.Rules.{rules}
 use Rattle.script_read.proofs.settle.Goals as goal
 
 pub returns-then-reading-eq0 : goal.returns-then-reading-eq0

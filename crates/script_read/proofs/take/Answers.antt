@@ -1,6 +1,5 @@
 -- Outside of a read and in one. Assumes nothing.
 use mathlib.Core.Path.{refl}
-use borrow.Author.Rules.{rules}
 use Rattle.script_read.proofs.take.Goals as goal
 
 pub returns : goal.returns

@@ -10,7 +10,6 @@ use Rattle.script.specs.declared.line.Line.{Line}
 use Rattle.script.specs.Text.{Copied}
 use Rattle.script_record.specs.Record.{call_text}
 use Rattle.script_run.proofs.Doings.{read_as}
-use borrow.Author.Rules.{rules}
 use Rattle.script_record.proofs.lend_text.Goals as goal
 
 no_call : (line : List ℕ) (l : Line) → ((v : Verb) (w : Args) → l ≡ Line.Call v w → ⊥) → call_text line l ≡ []

@@ -1,5 +1,5 @@
 -- The part of the first word, or of the second. Assumes nothing.
-use Rattle.std.proofs.Common.{◌≡◌, refl, cond, rules}
+use Rattle.std.proofs.Common.{◌≡◌, refl, cond}
 use Rattle.script.specs.declared.text.Part.{Part}
 use Rattle.script.specs.declared.value.Value.{Value}
 use Rattle.script.specs.Told.{part_in}

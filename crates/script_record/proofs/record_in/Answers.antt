@@ -3,7 +3,6 @@ use mathlib.Core.Path.{refl, ap₂, ◌∙◌}
 use Rattle.script.specs.declared.line.Line.{Line}
 use Rattle.script_record.specs.Record.{record_of}
 use Rattle.script_run.proofs.Doings.{never, read_as}
-use borrow.Author.Rules.{rules}
 use Rattle.script_record.proofs.record_in.Goals as goal
 
 pub returns-then-cut : goal.returns-then-cut

@@ -6,7 +6,6 @@ use Rattle.std.specs.Prelude.{Err}
 use native.Mathlib.Omega.{arith}
 use denote.Enum.Declared.{tag_of}
 use types.Run.{OneOf}
-use borrow.Author.Rules.{rules}
 use Rattle.requests.proofs.Arms.{run, among}
 use Rattle.script.specs.declared.text.Part.{Part}
 use Rattle.script_asked.specs.declared.Asked.{Asked}

@@ -3,7 +3,6 @@ use mathlib.Core.Path.{sym, ap}
 use Rattle.script_pattern.proofs.Puts.{put_none, put_is}
 use Rattle.script_run.specs.declared.call.Told.{Told}
 use Rattle.script_trail.specs.Trail.{line_of}
-use borrow.Author.Rules.{rules}
 use Rattle.script_trail.proofs.written.Goals as goal
 
 pub returns-in-Nothing : goal.returns-in-Nothing

@@ -51,12 +51,6 @@ returns-in_default-read_args c =
       in_turn = tt;
     }
 
-pub verb_at-verb-requires : goal.verb_at-verb-requires
-verb_at-verb-requires c =
-    let w = c.args.line.now in
-    let e = c.find_byte-end in
-    row_below (take e.result w) c.in-Some.i (ap told (sym c.in-Some.is) ∙ c.find.ensures.row)
-
 pub returns-then-i-lt-SETTINGS : goal.returns-then-i-lt-SETTINGS
 returns-then-i-lt-SETTINGS c =
     let w = c.args.line.now in

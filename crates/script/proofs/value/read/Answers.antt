@@ -36,12 +36,6 @@ returns-in-Text c =
     let a = c.args in
     c.text_in.ensures ∙ as_kind (part a.from a.end a.line.now) a.kind Kind.Text c.in-Text.is
 
-pub returns-in-OptionalText : goal.returns-in-OptionalText
-unfolding read_as
-returns-in-OptionalText c =
-    let a = c.args in
-    c.optional_text.ensures ∙ as_kind (part a.from a.end a.line.now) a.kind Kind.OptionalText c.in-OptionalText.is
-
 pub returns-in-State : goal.returns-in-State
 unfolding read_as
 returns-in-State c =

@@ -1,6 +1,5 @@
 -- The line of the outcome. Assumes nothing.
 use Rattle.script_message.specs.Shown.{handshake_message_line}
-use borrow.Author.Rules.{rules}
 use Rattle.script_message.proofs.show.handshake_message_answer.Goals as goal
 
 pub returns : goal.returns

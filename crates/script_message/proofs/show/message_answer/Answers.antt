@@ -1,6 +1,5 @@
 -- The line of what is shown. Assumes nothing.
 use Rattle.script_message.specs.Shown.{message_line}
-use borrow.Author.Rules.{rules}
 use Rattle.script_message.proofs.show.message_answer.Goals as goal
 
 pub returns : goal.returns

@@ -1,15 +1,22 @@
 -- Each case has its pattern. Assumes nothing.
-use borrow.Author.Rules.{rules}
+use mathlib.Core.Path.{◌≡◌}
+use Rattle.messages.specs.declared.Unhanded.{Unhanded}
 use Rattle.script_message.proofs.show.message_shown.Goals as goal
 
-pub returns-in-Wait : goal.returns-in-Wait
-returns-in-Wait c = rw c.in-Wait.is c.single.ensures
+pub returns-in-Ok : goal.returns-in-Ok
+returns-in-Ok c = rw c.in-Ok.is c.taken_outcome.ensures
 
-pub returns-in-NoObject : goal.returns-in-NoObject
-returns-in-NoObject c = rw c.in-NoObject.is c.refusal.ensures
+pub returns-in-Err-Wait : goal.returns-in-Err-Wait
+returns-in-Err-Wait c =
+    let e : c.in-Err-Wait.field-0 ≡ Unhanded.Wait = rw c.in-Err-Wait.is at c.in-Err-Wait.field-0-is in
+    rw (c.in-Err-Wait.is, e) c.single.ensures
 
-pub returns-in-Malformed : goal.returns-in-Malformed
-returns-in-Malformed c = rw c.in-Malformed.is c.malformed.ensures
+pub returns-in-Err-NoObject : goal.returns-in-Err-NoObject
+returns-in-Err-NoObject c =
+    let e : c.in-Err-NoObject.field-0 ≡ Unhanded.NoObject = rw c.in-Err-NoObject.is at c.in-Err-NoObject.field-0-is in
+    rw (c.in-Err-NoObject.is, e) c.refusal.ensures
 
-pub returns-in-Handed : goal.returns-in-Handed
-returns-in-Handed c = rw c.in-Handed.is c.taken_outcome.ensures
+pub returns-in-Err-Malformed : goal.returns-in-Err-Malformed
+returns-in-Err-Malformed c =
+    let e : c.in-Err-Malformed.field-0 ≡ Unhanded.Malformed c.in-Err-Malformed.e = rw c.in-Err-Malformed.is at c.in-Err-Malformed.field-0-is in
+    rw (c.in-Err-Malformed.is, e) c.malformed.ensures

@@ -1,13 +1,9 @@
 -- The loop's invariant: what puts the rest of the pattern puts it all. Assumes nothing.
-use Rattle.std.proofs.Common.{arith, ◌∙◌, refl, get_or}
-use Rattle.script_pattern.specs.Pattern.{values, patterned}
-use Rattle.script_pattern.proofs.Puts.{rest-start, rest_on, rest_end, put_length}
+use Rattle.std.proofs.Common.{arith, get_or}
+use Rattle.script_pattern.specs.Pattern.{values}
+use Rattle.script_pattern.proofs.Lines.{rest_on, rest_end}
 use Rattle.script_pattern.proofs.Patterns.{patterned_on, patterned-end, takes-most}
 use Rattle.script_pattern.proofs.table.patterned.Goals as goal
-
-pub loop-c-init : goal.loop-c-init
-loop-c-init c =
-    let a = c.args in (omega arith, refl, rest-start a.line.now a.at (patterned a.pattern.now (values a.s) a.text.now))
 
 pub overflow_add-place : goal.overflow_add-place
 overflow_add-place c =
@@ -21,16 +17,11 @@ loop-c-preserved c =
     let m = takes-most (get_or a.pattern.now l.c-index 0) in
     let on = patterned_on a.pattern.now (values a.s) a.text.now l.c-index l.place c.loop-c-test.true in (
       omega (arith, c.takes-place.ensures, m),
-      put_length c.show-next.ensures ∙ l.invariant.1,
-      rw (← c.takes-place.ensures) at (rest_on l.invariant.2 on (rw c.value.ensures at c.show-next.ensures)),
+      rw (← c.takes-place.ensures) at (rest_on l.invariant.1 on (rw c.value.ensures at c.show.ensures)),
     )
-
-pub shape_of-line : goal.shape_of-line
-shape_of-line c =
-    c.loop-c.invariant.1
 
 pub returns : goal.returns
 returns c =
     let a = c.args in
     let l = c.loop-c in
-    rest_end l.invariant.2 (patterned-end a.pattern.now (values a.s) a.text.now l.c-index l.place (omega arith))
+    rest_end l.invariant.1 (patterned-end a.pattern.now (values a.s) a.text.now l.c-index l.place (omega arith))

@@ -5,4 +5,4 @@ use Rattle.script_play.proofs.lines.read_all.Given as goal
 
 abbrev pub invariant-loop : goal.invariant-loop
 invariant-loop g l =
-    (l.kept.filled ≤ length l.buf) × (length l.buf ≡ length l.initial.buf) × Fits l.play.reading l.gathered.records l.gathered.points l.gathered.lent
+    (l.kept.filled ≤ length l.buf) × (length l.buf ≡ length l.initial.buf) × Fits l.kept.play.reading l.memory.records l.memory.points l.memory.lent

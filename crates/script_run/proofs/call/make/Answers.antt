@@ -1,5 +1,4 @@
 -- The call of the station, whatever the texts are. Assumes nothing.
-use Rattle.std.proofs.Common.{rules}
 use Rattle.script_run.proofs.call.make.Goals as goal
 
 pub returns : goal.returns

@@ -1,5 +1,4 @@
 -- The run is that of any answer of the handshake. Assumes nothing.
-use Rattle.std.proofs.Common.{rules}
 use Rattle.script_run.proofs.call.shaken_by.Goals as goal
 
 pub returns : goal.returns

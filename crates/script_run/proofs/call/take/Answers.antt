@@ -1,5 +1,5 @@
 -- A line whose trail has ended, one that is cut, and each kind of line. Assumes nothing.
-use Rattle.std.proofs.Common.{refl, ap, ◌∙◌, rules}
+use Rattle.std.proofs.Common.{refl, ap, ◌∙◌}
 use Rattle.script.specs.declared.line.Line.{Line}
 use Rattle.script_run.specs.declared.call.Why.{Why}
 use Rattle.script_run.specs.Take.{quiet, no_call}

@@ -1,6 +1,5 @@
 -- The line of the outcome. Assumes nothing.
 use Rattle.script_show.specs.Answer.{answer_line}
-use borrow.Author.Rules.{rules}
 use Rattle.script_show.proofs.lines.answer.Goals as goal
 
 pub returns : goal.returns

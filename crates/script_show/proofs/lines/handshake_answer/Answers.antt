@@ -1,6 +1,5 @@
 -- The line of the outcome. Assumes nothing.
 use Rattle.script_show.specs.Answer.{handshake_line}
-use borrow.Author.Rules.{rules}
 use Rattle.script_show.proofs.lines.handshake_answer.Goals as goal
 
 pub returns : goal.returns

@@ -1,15 +1,13 @@
 -- How many were accepted, the refusal, and what stands behind an outcome. Assumes nothing.
-use mathlib.Core.Path.{ap}
-use mathlib.Core.List.{List, [], ◌++◌}
-use Rattle.script_pattern.specs.Pattern.{bytes_of}
-use Rattle.script_pattern.specs.declared.table.Shown.{Shown}
-use Rattle.script_pattern.proofs.Puts.{put_then, put_is}
-use Rattle.script_show.specs.Answer.{read_line}
 use borrow.Author.Rules.{rules}
+use Rattle.script_pattern.proofs.Lines.{written_then}
+use Rattle.script_show.specs.Answer.{read_line}
 use Rattle.script_show.proofs.lines.read_answer.Goals as goal
 
 pub returns : goal.returns
 unfolding read_line
 returns c =
-    put_is (put_then c.show-counted.ensures (put_then c.read_refusal-told.ensures c.beginning.ensures))
-    (rw c.single.ensures)
+    let records = rw c.first.ensures at c.records_behind.ensures in
+    let counted = rw c.single.ensures at c.show.ensures in
+    let written = written_then counted (written_then c.read_refusal.ensures records) in
+    search rules

@@ -3,12 +3,7 @@ use native.Mathlib.Omega.{arith}
 use mathlib.Core.Path.{ap, ◌∙◌}
 use Rattle.script_show.specs.Answer.{result_shown}
 use Rattle.script_show.proofs.Numbers.{error_most, plain_error}
-use borrow.Author.Rules.{rules}
 use Rattle.script_show.proofs.lines.refused.Goals as goal
-
-pub returns-in-InvalidInterfaceVersion : goal.returns-in-InvalidInterfaceVersion
-returns-in-InvalidInterfaceVersion c =
-    rw (c.in-InvalidInterfaceVersion.is, c.version_pattern.ensures)
 
 pub refusal-requires : goal.refusal-requires
 refusal-requires c =

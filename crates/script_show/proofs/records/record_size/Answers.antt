@@ -2,7 +2,6 @@
 use lib.ListN.{length}
 use borrow.Author.Tests.{lt-ltb, le-ltb}
 use Rattle.script_show.specs.Records.{record_size}
-use borrow.Author.Rules.{rules}
 use Rattle.script_show.proofs.records.record_size.Goals as goal
 
 pub returns-then-bytes-lt2 : goal.returns-then-bytes-lt2

@@ -1,7 +1,9 @@
 -- Behind the three numbers. Assumes nothing.
-use borrow.Author.Rules.{rules}
+use native.Mathlib.Omega.{arith}
+use Rattle.script_show.proofs.Sizes.{sizes_are}
 use Rattle.script_show.proofs.records.text_start.Goals as goal
 
 pub returns : goal.returns
 returns c =
-    rw (c.size_at.ensures.0, c.size_at-2.ensures.0, c.size_at-3.ensures.0, c.kind_of-place.ensures.0)
+    let sized = rw c.kind_of.ensures.0 at (sizes_are c.kind_of.result c.kind_of.ensures.1) in
+    rw (c.fixed_size.ensures, c.shape_of.ensures, c.kind_of.ensures.0) (omega (arith, sized.first, sized.second, sized.third))
