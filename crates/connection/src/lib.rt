@@ -1,4 +1,5 @@
 // The methods of `Connection` of src/request.rs. Seats and devices are named by their ids.
+// The slices are lent one by one, as C and a station have them, of any length: 21 is the answer where they hold no session.
 #![tactic(auto)]
 
 ghost use Rattle.std.specs.Prelude.{◌≡◌, ℕ, length, Ok};
@@ -17,7 +18,7 @@ use answers::{Answer, Error, Outcome};
 use eiproto::eiproto_eis;
 use eiproto::eiproto_enum::DisconnectReason;
 use eiproto::event::DeviceCapability;
-use events::Mark;
+use events::{Mark, NewObject};
 use session::LentSession;
 use wire::event::Event;
 use wire::{backend, event};
@@ -42,10 +43,16 @@ fn add_seat_at(
     let version = control::seat_version(control);
     let negotiated = control::negotiated_capabilities(control);
     let set = DeviceCapability::common(capabilities, negotiated);
-    if out.len() < events::seat_length(id, version, name, set) {
+    let new = NewObject {
+        id,
+        version,
+        name,
+        capabilities: set,
+    };
+    if out.len() < events::seat_length(new) {
         return Err(Error::ShortOut);
     }
-    let count = events::announce_seat(control, id, version, name, set, out);
+    let count = events::announce_seat(control, new, out);
     session::add_seat(control, set);
     Ok(Answer {
         outcome: Outcome::Seat(id),

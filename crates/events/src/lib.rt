@@ -34,7 +34,7 @@ const CAPABILITY_LENGTH: usize = 19;
 
 const INTERFACE_LENGTH: usize = 23;
 
-// One event, at a place that has room for it; the place behind it.
+// One event, at a place that has room for it; the place behind it. A place and no part of `out`, here and below: `Writes` tells every byte of it.
 pub fn send(out: &mut [u8], at: usize, object: u64, e: Event, text: &[u8]) -> usize
     requires { at + record_length e text.now ≤ length out.old }
     ensures { Writes out at (record { object = object; event = e; text = text.now } ∷ []) result }
@@ -234,29 +234,40 @@ fn announce_name(out: &mut [u8], at: usize, object: u64, name: Option<&[u8]>) ->
     }
 }
 
+// A seat or a device that is new. Its name counts where it is given.
+#[derive(Clone, Copy, Debug, PartialEq, Eq)]
+pub struct NewObject<'a> {
+    pub id: u64,
+    pub version: u32,
+    pub name: Option<&'a [u8]>,
+    pub capabilities: u64,
+}
+
 // A seat's events: itself, its name, its capabilities, done.
 #[tactic(auto, using(crate::proofs::NewSeat::seat_sizes))]
-pub fn seat_length(id: u64, version: u32, name: Option<&[u8]>, capabilities: u64) -> usize
-    ensures { (c : Connection) → result ≡ length (records (seat_events c id version (given name.entry) capabilities)) }
+pub fn seat_length(new: NewObject<'_>) -> usize
+    ensures { (c : Connection) → result ≡ length (records (seat_events c new.entry.id new.entry.version (given new.entry.name) new.entry.capabilities)) }
 {
-    let seat = event::fixed_length(Event::Seat { id, version });
-    let announced = CAPABILITY_LENGTH * (DeviceCapability::count(capabilities) as usize);
+    let seat = event::fixed_length(Event::Seat {
+        id: new.id,
+        version: new.version,
+    });
+    let announced = CAPABILITY_LENGTH * (DeviceCapability::count(new.capabilities) as usize);
     let done = event::fixed_length(Event::Done);
-    seat + name_length(name) + announced + done
+    seat + name_length(new.name) + announced + done
 }
 
 // At the start of `out`; how many bytes were written.
-pub fn announce_seat(
-    control: &[u64],
-    id: u64,
-    version: u32,
-    name: Option<&[u8]>,
-    capabilities: u64,
-    out: &mut [u8],
-) -> usize
-    requires { CanAnnounceSeat control.now id version (given name) capabilities out.old }
-    ensures { Writes out 0 (seat_events (connection_of control.now) id version (given name.entry) capabilities) result }
+pub fn announce_seat(control: &[u64], new: NewObject<'_>, out: &mut [u8]) -> usize
+    requires { CanAnnounceSeat control.now new.id new.version (given new.name) new.capabilities out.old }
+    ensures { Writes out 0 (seat_events (connection_of control.now) new.entry.id new.entry.version (given new.entry.name) new.entry.capabilities) result }
 {
+    let NewObject {
+        id,
+        version,
+        name,
+        capabilities,
+    } = new;
     let connection = control::connection_id(control);
     let seat = send(out, 0, connection, Event::Seat { id, version }, b"");
     let named = announce_name(out, seat, id, name);
@@ -266,30 +277,36 @@ pub fn announce_seat(
 
 // A device's events: itself, its name, its type, its interfaces, done, where each of these was negotiated.
 #[tactic(auto, using(crate::proofs::NewDevice::device_sizes))]
-pub fn device_length(id: u64, version: u32, name: Option<&[u8]>, capabilities: u64) -> usize
-    ensures { (c : Connection) (seat kind : ℕ) → common capabilities (negotiated_capabilities c) ≡ capabilities → result ≡ length (records (device_events c seat id version (given name.entry) kind capabilities)) }
+pub fn device_length(new: NewObject<'_>) -> usize
+    ensures { (c : Connection) (seat kind : ℕ) → common new.entry.capabilities (negotiated_capabilities c) ≡ new.entry.capabilities → result ≡ length (records (device_events c seat new.entry.id new.entry.version (given new.entry.name) kind new.entry.capabilities)) }
 {
-    let device = event::fixed_length(Event::Device { id, version });
+    let device = event::fixed_length(Event::Device {
+        id: new.id,
+        version: new.version,
+    });
     let kind = event::fixed_length(Event::DeviceType { value: 0 });
-    let interfaces = INTERFACE_LENGTH * (DeviceCapability::count(capabilities) as usize);
+    let interfaces = INTERFACE_LENGTH * (DeviceCapability::count(new.capabilities) as usize);
     let done = event::fixed_length(Event::Done);
-    device + name_length(name) + kind + interfaces + done
+    device + name_length(new.name) + kind + interfaces + done
 }
 
 // At the start of `out`; how many bytes were written.
 pub fn announce_device(
     control: &[u64],
     seat: u64,
-    id: u64,
-    version: u32,
-    name: Option<&[u8]>,
+    new: NewObject<'_>,
     kind: u32,
-    capabilities: u64,
     out: &mut [u8],
 ) -> usize
-    requires { CanAnnounceDevice control.now seat id version (given name) kind capabilities out.old }
-    ensures { Writes out 0 (device_events (connection_of control.now) seat id version (given name.entry) kind capabilities) result }
+    requires { CanAnnounceDevice control.now seat new.id new.version (given new.name) kind new.capabilities out.old }
+    ensures { Writes out 0 (device_events (connection_of control.now) seat new.entry.id new.entry.version (given new.entry.name) kind new.entry.capabilities) result }
 {
+    let NewObject {
+        id,
+        version,
+        name,
+        capabilities,
+    } = new;
     let device = send(out, 0, seat, Event::Device { id, version }, b"");
     let named = announce_name(out, device, id, name);
     let typed = send(out, named, id, Event::DeviceType { value: kind }, b"");

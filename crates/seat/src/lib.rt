@@ -1,4 +1,5 @@
 // The methods of `Seat` of src/request.rs.
+// The slices are lent one by one, as C and a station have them, of any length: 21 is the answer where they hold no session.
 #![tactic(auto)]
 
 ghost use Rattle.std.specs.Prelude.{◌≡◌, ℕ, ◌<◌, length};
@@ -11,6 +12,7 @@ ghost use Rattle.seat.specs.Seat.{made_with, Tested};
 use answers::{Answer, Error, Outcome};
 use eiproto::eiproto_enum::DeviceType;
 use eiproto::event::DeviceCapability;
+use events::NewObject;
 use session::LentSession;
 use wire::backend;
 
@@ -47,11 +49,17 @@ fn add_device_at(
         return Err(Error::IdsSpent);
     };
     let version = control::device_version(control);
-    if out.len() < events::device_length(id, version, name, made) {
+    let new = NewObject {
+        id,
+        version,
+        name,
+        capabilities: made,
+    };
+    if out.len() < events::device_length(new) {
         return Err(Error::ShortOut);
     }
     let number = kind.number();
-    let count = events::announce_device(control, seat, id, version, name, number, made, out);
+    let count = events::announce_device(control, seat, new, number, out);
     session::add_device(control, seat, made);
     Ok(Answer {
         outcome: Outcome::Device(id),

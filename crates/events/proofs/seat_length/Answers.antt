@@ -9,4 +9,4 @@ use Rattle.events.proofs.seat_length.Goals as goal
 pub returns : goal.returns
 returns c =
     λ k.
-    omega (arith, c.name_length.ensures.0 c.args.id, c.fixed_length-seat.ensures, c.count.ensures, c.fixed_length-done.ensures, capabilities-length c.args.id (bits_of c.args.capabilities), seat-bytes k c.args.id c.args.version (given c.args.name) c.args.capabilities)
+    omega (arith, c.name_length.ensures.0 c.args.new.id, c.fixed_length-seat.ensures, c.count.ensures, c.fixed_length-done.ensures, capabilities-length c.args.new.id (bits_of c.args.new.capabilities), seat-bytes k c.args.new.id c.args.new.version (given c.args.new.name) c.args.new.capabilities)
