@@ -8,7 +8,8 @@ use eiproto::eiproto_enum::{ButtonState, KeyState};
 use requests::cell;
 use requests::cell::Cell;
 
-// A state is made of its number by a select and not by a branch: a press takes as many instructions as a release.
+// A state is made of its number by a select and not by a branch: a press takes as many instructions as a release. Those of `requests::row` are of a
+// word of a row; over them these two would be a line each, no plainer.
 fn key_state(n: u32) -> KeyState
     ensures { result ≡ key_state n }
 {

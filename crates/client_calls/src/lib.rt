@@ -1,5 +1,6 @@
 // A client's requests, each a call that is lent what it uses: 21's test, then its handler. A caller that has no `Request` in hand, as one
 // that calls from C, needs none.
+// The slices are lent one by one, as C and a station have them, of any length: 21 is the answer where they hold no session.
 #![tactic(auto)]
 
 ghost use Rattle.std.specs.Prelude.{ℕ};

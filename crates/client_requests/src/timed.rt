@@ -36,7 +36,7 @@ pub enum TouchChange {
 // A timed request that waits for its frame, on the device in the slot, whose held touches change before. It has no device and no time yet: they
 // come with its frame. What is decided on a request is a refusal, or one that waits, or none: it is on no known interface, or for a touch that is
 // not down, and is ignored.
-#[derive(Clone, Copy)]
+#[derive(Clone, Copy, Debug, PartialEq)]
 pub struct Queued {
     pub slot: usize,
     pub change: TouchChange,

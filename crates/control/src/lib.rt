@@ -1,6 +1,7 @@
 // The control words of a session, read where they are (specs/Control says what each means). Each function but `sound` asks that they
-// are sound, or only that there are `CONTROL_LENGTH`. That is a clause and no array type: what C lends is a slice, whose callers know it by
-// `Sound`, and an array would say its length beside `Sound`. That a slot is below a count is no type's: the count lies in words that change.
+// are sound, or only that there are `CONTROL_LENGTH`. Being sound is a clause here, and a ghost field of `session::LentSession` where the rows are lent
+// too: as a view of their own the words could not be lent out of that one, since who lent it would then not know what its slices hold.
+// That a slot is below a count is no type's: the count lies in words that change.
 #![tactic(auto, unfolding(crate::specs::Control::connection_of, crate::specs::Control::seat_at, crate::specs::Control::core_at, crate::specs::Control::interface_id, crate::specs::Sound::row_sound, model::specs::Decide::stated, model::specs::Decide::seat_version, model::specs::Decide::device_version))]
 
 pub mod edits;
@@ -236,7 +237,7 @@ pub fn find_seat(control: &[u64], id: u64) -> Option<usize>
     requires { Sound control.now }
     ensures { told result ≡ first (λ s. nat_eq s.id id) (connection_of control.now).seats }
 {
-    // A loop: with `find`, `objects::find_object` takes more instructions.
+    // A loop: with `find`, `objects::find_object` takes 6 to 12 instructions more.
     for k in 0..seat_count(control) {
         if seat_id(control, k) == id {
             return Some(k);
@@ -329,7 +330,7 @@ pub fn find_device(control: &[u64], id: u64) -> Option<usize>
     requires { Sound control.now }
     ensures { told result ≡ first (λ d. nat_eq d.id id) (cores_of control.now) }
 {
-    // A loop: with `find`, `objects::find_object` takes more instructions.
+    // A loop: with `find`, `objects::find_object` takes 6 to 12 instructions more.
     for k in 0..device_count(control) {
         if device_id(control, k) == id {
             return Some(k);

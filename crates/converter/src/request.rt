@@ -1,5 +1,6 @@
 // `EisRequestConverter` of src/request.rs: what a client sends, gathered into timed frames, and handed over one by one.
 // A session lies in four lent slices; `session` says what they mean.
+// The slices are lent one by one, as C and a station have them, of any length: 21 is the answer where they hold no session.
 ghost use Rattle.std.specs.Prelude.{ℕ};
 ghost use Rattle.session.specs.View.{Whole};
 ghost use Rattle.session.specs.Loan.{SameLoan, store_of};

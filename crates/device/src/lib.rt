@@ -1,4 +1,5 @@
 // The methods of `Device` of src/request.rs.
+// The slices are lent one by one, as C and a station have them, of any length: 21 is the answer where they hold no session.
 #![tactic(auto)]
 
 ghost use Rattle.std.specs.Prelude.{◌≡◌, ◌<◌};

@@ -263,7 +263,7 @@ pub fn handle_scroll_request(
 }
 
 // What a request on a touchscreen asks for: an enum of its own, since a decision on a timed one may be a refusal, or none.
-#[derive(Clone, Copy)]
+#[derive(Clone, Copy, Debug, PartialEq)]
 pub enum TouchAction {
     Release,
     Timed(Result<Option<Queued>, Error>),

@@ -221,7 +221,8 @@ fn complete(interfaces: [Option<u32>; 12]) -> bool
         && has(interfaces, eiproto_eis::CALLBACK)
 }
 
-// Writes an event of the handshake at a place of the buffer, or nothing where there is no room, and answers how many bytes.
+// Writes an event of the handshake at a place of the buffer, or nothing where there is no room, and answers how many bytes. A place and no part of the
+// buffer: `PutWhole` tells every byte of it.
 #[tactic(auto, unfolding(crate::specs::Handshake::sent))]
 fn send(out: &mut [u8], at: usize, e: Event) -> usize
     ensures { PutWhole out.old out.new at (paper.sent e) result }

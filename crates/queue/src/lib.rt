@@ -158,7 +158,7 @@ pub fn frame(session: &mut LentSession<'_, '_, '_>, k: usize, serial: u32, time:
     control::edits::set_pending(control, k, 0);
 }
 
-// The oldest queued request, as its row has it.
+// The oldest queued request, as its row has it. The slices are lent to be read, as `next_request` has them: a lent session is made of `&mut`s alone.
 pub fn oldest(control: &[u64], words: &[u64], reals: &[f32]) -> Cell
     requires { Lent control.now words.now reals.now × (0 < queue_length control.now) }
     ensures { result ≡ cell_at words.now reals.now (queue_row (queue_head control.now) 0) }

@@ -1,4 +1,5 @@
 // A whole read handed over by value: for a caller that gathers its records in an array.
+// The slices are lent one by one, as C and a station have them, of any length: 21 is the answer where they hold no session.
 #![tactic(auto)]
 
 ghost use Rattle.std.specs.Prelude.{◌≡◌, map, take, min};

@@ -42,6 +42,7 @@ struct Session {
     texts: [u8; TEXTS_LENGTH],
 }
 
+// As station has it, which is an example and stands by itself.
 fn knows(shaking: EisHandshaker, name: &[u8], version: u32) -> EisHandshaker {
     let message = HandshakeMessage::InterfaceVersion { version };
     shaking.handle_request(message, name, &mut []).handshaker

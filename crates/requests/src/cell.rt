@@ -39,7 +39,7 @@ pub fn cell_of(kind: u64, object: u64, time: u64, extra: u64, flag: u64, x: f32,
     }
 }
 
-// The bits of a signed amount, in two's complement: `amount` of row the other way.
+// The bits of a signed amount, in two's complement. `amount` of row goes the other way, and takes any number: so no `From` has both.
 pub fn amount_bits(x: i32) -> u64
     ensures { amount_of result ≡ x }
 {

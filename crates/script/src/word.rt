@@ -77,6 +77,7 @@ pub fn negative(n: u64) -> i32
 }
 
 // The number of a bit pattern; every pattern of a NaN is the NaN. `f32::from_bits` alone won't do: it asks for a pattern of no NaN.
+// parse has the same, kept from being inlined for its count: scripts need nothing else of it.
 pub fn of_bits(bits: u32) -> f32
     ensures { result ≡ of_bits binary32 bits }
 {

@@ -1,5 +1,6 @@
 // The station's calls of a script, made. They go by groups that are lent the same slices to be changed: a function with a case for each call takes
 // minutes to check.
+// The slices are lent one by one, as C and a station have them, of any length: 21 is the answer where they hold no session.
 #![tactic(auto)]
 
 ghost use Rattle.std.specs.Prelude.{◌≡◌};

@@ -30,7 +30,9 @@ pub const SLOT_LENGTH: usize = 256;
 pub const TEXTS_LENGTH: usize = SLOT_LENGTH * TEXTS_LIMIT;
 
 // The control words and the rows of requests that a call is lent, behind refusal 21's test: that they hold a session is said here alone. The texts
-// are lent beside it.
+// are lent beside it. The calls themselves, which C and a station make, are lent slices of any length and content: 21 is the answer to those that
+// hold no session. Behind that they write one as a literal: what a constructor made of them would be known by equations, and out of a `Result` not
+// at all.
 #[derive(Drop)]
 pub struct LentSession<'c, 'w, 'r> {
     pub control: &'c mut [u64],
@@ -40,6 +42,7 @@ pub struct LentSession<'c, 'w, 'r> {
 }
 
 impl LentSession<'_, '_, '_> {
+    // How many seats stand, and how many devices.
     pub fn seat_count(&self) -> usize
         ensures { result ≡ seat_count self.now.control.now }
     {
