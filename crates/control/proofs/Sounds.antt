@@ -1,6 +1,7 @@
 -- Soundness as a test and as bounds. Assumes nothing.
 use Rattle.std.proofs.Common.{◌≡◌, ℕ, zero, suc, ◌<◌, ◌≤◌, Bool, true, false, ◌&&◌, eqb, ltb, leb, List, length, refl, sym, ap, ◌∙◌, arith, ltb-true, lt-ltb, eq-eqb, eqb-true, le-leb, leb-true}
 use mathlib.Core.Bool.{false≢true}
+use borrow.Author.Tests.{lt-leb}
 use Rattle.touches.specs.Touches.{touches_limit}
 use Rattle.control.specs.Control.{seats_limit, devices_limit, pending_limit, queue_limit, control_length, seat_count, device_count, queue_head, queue_length, pending_at, held_at, core_at}
 use Rattle.control.specs.Sound.{row_sound, rows_sound, is_sound, Sound}
@@ -37,6 +38,15 @@ pub row-true : (c : List ℕ) (k : ℕ) → pending_at c k ≤ pending_limit →
 unfolding row_sound
 row-true c k p h = join (leb (pending_at c k) pending_limit) (leb (held_at c k) touches_limit) (le-leb (pending_at c k) pending_limit p) (le-leb (held_at c k) touches_limit h)
 
+-- the two ways through the test
+pub row-second : (c : List ℕ) (k : ℕ) → pending_at c k ≤ pending_limit → leb (held_at c k) touches_limit ≡ row_sound c k
+unfolding row_sound
+row-second c k h = rw (le-leb (pending_at c k) pending_limit h)
+
+pub row_first : (c : List ℕ) (k : ℕ) → pending_limit < pending_at c k → leb (pending_at c k) pending_limit ≡ row_sound c k
+unfolding row_sound
+row_first c k h = rw (lt-leb (pending_at c k) pending_limit h)
+
 pub rows_unsound : (c : List ℕ) (n k : ℕ) → k < n → row_sound c k ≡ false → rows_sound c n ≡ false
 unfolding rows_sound
 rows_unsound c zero k l e = absurd (omega arith)
@@ -45,6 +55,13 @@ rows_unsound c (suc n) k l e =
     (λ z. ap (λ (b : Bool). b && row_sound c n) (rows_unsound c n k (omega arith) e))
 
 module _ (c : List ℕ) where
+  -- where all else is within its limits, the rows decide
+  pub rows-decide : length c ≡ control_length → seat_count c ≤ seats_limit → device_count c ≤ devices_limit → queue_head c < queue_limit → queue_length c ≤ queue_limit
+      → rows_sound c (device_count c) ≡ is_sound c
+  unfolding is_sound
+  rows-decide l s d h q =
+      rw (eq-eqb (length c) control_length l, le-leb (seat_count c) seats_limit s, le-leb (device_count c) devices_limit d, lt-ltb (queue_head c) queue_limit h, le-leb (queue_length c) queue_limit q)
+
   pub sound_bounds : is_sound c ≡ true → Sound c
   unfolding is_sound
   sound_bounds e =
@@ -71,6 +88,13 @@ module _ (c : List ℕ) where
       (join _ _ (le-leb (device_count c) devices_limit s.devices)
       (join _ _ (lt-ltb (queue_head c) queue_limit s.head)
       (join _ _ (le-leb (queue_length c) queue_limit s.queued) (rows_all c (device_count c) (λ k l. row-true c k (s.pending k l) (s.held k l)))))))
+
+  pub unsound : (Sound c → ⊥) → is_sound c ≡ false
+  unsound h = go (is_sound c) refl
+    where
+      go : (t : Bool) → is_sound c ≡ t → t ≡ false
+      go true e = absurd (h (sound_bounds e))
+      go false e = refl
 
 pub pending_bound : {c : List ℕ} → Sound c → (k : ℕ) → k < device_count c → (core_at c k).pending ≤ pending_limit
 unfolding core_at

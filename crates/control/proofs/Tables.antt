@@ -1,10 +1,8 @@
 -- Lists that are read off a table, slot by slot. Assumes nothing.
-use Rattle.std.proofs.Common.{◌≡◌, ℕ, zero, suc, ◌+◌, ◌<◌, ◌≤◌, Bool, true, false, List, [], ◌∷◌, ◌++◌, map, length, get_or, set, sym, refl, ap, ◌∙◌, ap₂, arith}
+use Rattle.std.proofs.Common.{◌≡◌, ℕ, zero, suc, ◌+◌, ◌<◌, ◌≤◌, Bool, true, false, List, [], ◌∷◌, ◌++◌, map, length, get_or, set, refl, ap, ◌∙◌, ap₂, arith}
 use mathlib.Core.Logic.{dite}
 use mathlib.Core.Option.{none, some}
-use Rattle.std.specs.Prelude.{Option, Some, None, MatchOption}
 use native.Mathlib.Decide.{dec_lt}
-use Rattle.eiproto.specs.Told.{told}
 use Rattle.control.specs.Table.{tab, cut_at, map_option, first}
 
 pub case_eq : {P : Type 0} (a b : ℕ) → (a ≡ b → P) → ((a ≡ b → ⊥) → P) → P
@@ -78,7 +76,6 @@ module _ {A : Type 0} where
   tab-first-none t zero f h = refl
   tab-first-none t (suc n) f h =
       rw (h 0 (omega arith)) (ap (map_option (λ j. suc j)) (tab-first-none t n (λ j. f (suc j)) (λ j q. h (suc j) (omega arith))))
-  -- `find` over the places of a table is the first of which the test holds
 
 pub tab-map : {A B : Type 0} (h : A → B) (n : ℕ) (f : ℕ → A) → map h (tab n f) ≡ tab n (λ k. h (f k))
 unfolding tab

@@ -1,6 +1,7 @@
 -- The versions by place and by number, and the capabilities that have one. Assumes nothing.
-use Rattle.std.proofs.Common.{◌≡◌, ℕ, suc, ◌+◌, ◌-◌, ◌*◌, ◌%◌, ◌^◌, ◌<◌, Bool, cond, List, get_or, refl, ap, ◌∙◌, add-one, arith, pow_mono, eq-eqb, ne_eqb}
+use Rattle.std.proofs.Common.{◌≡◌, ℕ, suc, ◌+◌, ◌-◌, ◌*◌, ◌%◌, ◌^◌, ◌<◌, Bool, cond, List, get_or, sym, refl, ap, ◌∙◌, add-one, arith, pow_mono, eq-eqb, ne_eqb}
 use mathlib.Core.Option.{none, some}
+use lib.ListN.{get_or-eq_default}
 use Rattle.std.specs.Prelude.{Option, Some, None}
 use Rattle.std.specs.Option.{unwrap_or, is_some as has_value}
 use Rattle.std.proofs.Math.Nat.{mul-add, mul_assoc, pow-suc}
@@ -9,8 +10,9 @@ use Rattle.eiproto.specs.Bits.{mask_from}
 use Rattle.eiproto.specs.Capability.{interface_of_bit}
 use Rattle.eiproto.proofs.Bits.{mask-small}
 use Rattle.model.specs.Decide.{is_some, stated, version, negotiated_capabilities}
+use Rattle.control.specs.Table.{tab}
 use Rattle.control.specs.Control.{version_in, versions_of, connection_of}
-use Rattle.control.proofs.Tables.{tab_at}
+use Rattle.control.proofs.Tables.{tab_at, tab-length}
 
 pub stated_told : (o : Option ℕ) → unwrap_or o 1 ≡ stated (told o)
 unfolding stated
@@ -34,6 +36,16 @@ module _ (c : List ℕ) where
   pub at_some : (p : ℕ) → p < 12 → (get_or c (8 + p) 0 ≡ 0 → ⊥) → get_or (connection_of c).versions p none ≡ some ((get_or c (8 + p) 0 - 1) % 2 ^ 32)
   unfolding version_in
   at_some p h n = at_word p h ∙ rw (ne_eqb (get_or c (8 + p) 0) 0 n)
+
+  pub version_at_lem : (i p : ℕ) → i - 1 ≡ p → get_or (connection_of c).versions p none ≡ version (connection_of c) i
+  unfolding version
+  version_at_lem i p e = ap (λ (x : ℕ). get_or (connection_of c).versions x none) (sym e)
+
+  pub version_past : (i : ℕ) → 12 < i → version (connection_of c) i ≡ none
+  unfolding version connection_of versions_of
+  version_past i h =
+      let n = tab-length 12 (λ i. version_in (get_or c (8 + i) 0)) in
+      get_or-eq_default (tab 12 (λ i. version_in (get_or c (8 + i) 0))) none {n = i - 1} (omega arith)
 
   -- the negotiated capabilities from a bit up, as a mask whose lowest bit is that one
   unfoldable pub negotiated_from : (bit : ℕ) → ℕ

@@ -4,6 +4,8 @@ use mathlib.Core.Path.{◌≡◌, refl, ap, ap₂, sym, ◌∙◌}
 use mathlib.Core.Bool.{Bool, true, false, cond, ◌&&◌, false≢true}
 use mathlib.Core.List.{List, [], ◌∷◌, ◌++◌}
 use native.Mathlib.Nat.{add-zero, mul_assoc, pow-succ', mod-le, mod-eq_of_lt, div-eq_of_lt}
+use mathlib.Core.Logic.{dite}
+use native.Mathlib.Decide.{dec_lt}
 use native.Mathlib.Omega.{arith}
 use borrow.Author.Tests.{eqb-true, eqb-false, eq-eqb, ne_eqb, lt-ltb}
 use lib.Bits.{bit_and, and_step, and_shr, and_le_l, and_self}
@@ -321,6 +323,12 @@ small_from (suc k) p m (suc j) n h l =
 pub bits_small : (n m : ℕ) → m < 2 ^ n → every (λ b. ltb b n) (bits_of m) ≡ true
 unfolding bits_of
 bits_small n m h = small_from 64 0 m n n h (omega arith)
+
+-- the lowest bit of such a mask as well
+pub lowest_below : (n m : ℕ) → 0 < m → m < 2 ^ n → m < 2 ^ 64 → lowest_bit m < n
+lowest_below n m a h l =
+    let f = lowest m a l in
+    dite (dec_lt (lowest_bit m) n) (λ q. q) (λ q. absurd (omega (arith, f.fits, pow_mono {i = n} {j = lowest_bit m} (omega arith))))
 
 pub below_is : (m b : ℕ) → m < 2 ^ 64 → ones (m % 2 ^ b) ≡ bits_below m b
 unfolding bits_below

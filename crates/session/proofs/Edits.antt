@@ -9,7 +9,6 @@ use native.Mathlib.Omega.{arith}
 use borrow.Author.Tests.{lt-leb}
 use lib.Dec.{eqb}
 use lib.ListN.{length}
-use Rattle.std.specs.Prelude.{Result}
 use Rattle.eiproto.specs.Bits.{bits_of}
 use Rattle.requests.specs.Row.{Row, row_at}
 use Rattle.touches.specs.declared.DownTouchIds.{DownTouchIds}

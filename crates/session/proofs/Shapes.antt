@@ -1,4 +1,4 @@
--- What is told of a request of the code, kind by kind: here alone are the 22 kinds gone through. Assumes nothing.
+-- What is told of a request of the code, kind by kind: here and in requests/proofs/Forms alone are the 22 kinds gone through. Assumes nothing.
 use Prim.Native.Nat.{ℕ, ◌+◌}
 use mathlib.Core.Path.{◌≡◌, refl, sym, ap, ◌∙◌}
 use mathlib.Core.Bool.{Bool, true, false, cond}

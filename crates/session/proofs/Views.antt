@@ -78,6 +78,25 @@ whole_intact Lending.rows s w = lent_is s.control s.words s.reals (lent-part s w
 whole_intact Lending.all s w = whole_is s w
 
 -- the tests' ways to answer
+pub lent-not : (c w : List ℕ) (r : List Float) → (Lent c w r → ⊥) → false ≡ is_lent c w r
+lent-not c w r h = go (is_lent c w r) refl
+  where
+    go : (b : Bool) → is_lent c w r ≡ b → false ≡ b
+    go true e = absurd (h (lent_parts c w r e))
+    go false e = refl
+
+pub lent-last : (c w : List ℕ) (r : List Float) → Sound c → length w ≡ words_length → eqb (length r) reals_length ≡ is_lent c w r
+unfolding is_lent
+lent-last c w r ok words = rw (bounds_sound c ok, eq-eqb (length w) words_length words)
+
+pub whole-not : (s : Store) → is_lent s.control s.words s.reals ≡ false → false ≡ is_whole s
+unfolding is_whole
+whole-not s e = rw e
+
+pub whole-last : (s : Store) → is_lent s.control s.words s.reals ≡ true → eqb (length s.texts) texts_length ≡ is_whole s
+unfolding is_whole
+whole-last s e = rw e
+
 -- ---- edits one after another
 
 enact-append : (xs ys : List Edit) (load : Load) (s : Session Load) → enact_all (xs ++ ys) load s ≡ enact_all ys load (enact_all xs load s)
