@@ -1,9 +1,13 @@
 -- Sync as a message is Sync; where it is accepted, the callback's id is kept. Assumes nothing.
 use Rattle.std.specs.Prelude.{Result}
 use Prim.Native.Nat.{ℕ, ◌≤◌, ◌<◌}
-use mathlib.Core.Path.{◌≡◌, refl, sym, ap, ◌∙◌}
+use mathlib.Core.Path.{◌≡◌, refl, sym, ap, subst, ◌∙◌}
 use mathlib.Core.Bool.{Bool, true, false, ◌&&◌, cond, false≢true}
 use mathlib.Core.List.{List, [], ◌∷◌}
+use mathlib.Core.Logic.{◌⊎◌, inl, inr}
+use native.Mathlib.Omega.{arith}
+use types.Run.{OneOf}
+use denote.Enum.Declared.{tag_of}
 use borrow.Author.Tests.{leb-true, leb-false, lt-ltb, le-ltb}
 use lib.Dec.{eqb, leb, ltb}
 use lib.ListN.{length}
@@ -21,11 +25,14 @@ use Rattle.model_steps.proofs.Steps.{step-answer, step-sent, step-sent-short}
 use Rattle.control.specs.Control.{connection_of}
 use Rattle.session.specs.View.{Store, store, session, Whole}
 use Rattle.session.proofs.Views.{view-connection}
+use Rattle.requests.proofs.Arms.{among}
 use Rattle.session.specs.Enact.{Enacted}
 use Rattle.answers.specs.Answer.{outcome_of, error_of, Tells}
 use Rattle.answers.specs.Texts.{TextsAfter}
 use Rattle.answers.specs.Meets.{Handled}
 use Rattle.answers.specs.declared.Error.{Error}
+use Rattle.answers.specs.declared.Outcome.{Outcome}
+use Rattle.answers.specs.contracts.Outcome as outcome
 use Rattle.answers.specs.declared.Answer.{Answer}
 use Rattle.answers.proofs.Meetings.{whole-after, over-handled}
 
@@ -81,6 +88,21 @@ module _ (s : Session Load) (callback version clock room : ℕ) where
           let o = plan.Result.refused_version ei_callback version in
           both-refused o refl (step-answer plainly s o (rw e)) (step-answer message s o (rw (mine, e)))
 
+  -- Sync answers nothing else: it is refused or accepted
+  pub ends : (refuses (step plainly s).outcome ≡ true) ⊎ ((step plainly s).outcome ≡ plan.Result.accepted)
+  unfolding split map_call decide decide_plain handle_sync quiet_all quiet_one refuses refusal carried_out send unchanged
+  ends = by_version (eqb version 1) refl
+    where
+      by_room : (b : Bool) → leb (length (records done)) room ≡ b → eqb version 1 ≡ true
+          → (refuses (step plainly s).outcome ≡ true) ⊎ ((step plainly s).outcome ≡ plan.Result.accepted)
+      by_room true l e = inr (ap (λ (x : Step Load). x.outcome) (step-sent plainly s done [] (rw e) quiet_none (leb-true (length (records done)) room l)))
+      by_room false l e =
+          inl (ap (λ (x : Step Load). refuses x.outcome) (step-sent-short plainly s done [] (rw e) quiet_none (leb-false (length (records done)) room l)))
+
+      by_version : (b : Bool) → eqb version 1 ≡ b → (refuses (step plainly s).outcome ≡ true) ⊎ ((step plainly s).outcome ≡ plan.Result.accepted)
+      by_version true e = by_room (leb (length (records done)) room) refl e
+      by_version false e = inl (ap (λ (x : Step Load). refuses x.outcome) (step-answer plainly s (plan.Result.refused_version ei_callback version) (rw e)))
+
 -- ---- whose id it is
 
 module _ (s : Store) (id : ℕ) where
@@ -101,6 +123,13 @@ module _ (s : Store) (id : ℕ) where
       never false = refl
 
 -- ---- the call
+
+-- the tags of an arm that has no accepted outcome
+pub not-accepted : (o : Outcome) → OneOf (1 ∷ 2 ∷ 3 ∷ 4 ∷ 5 ∷ []) (tag_of outcome.the_type o) → o ≡ Outcome.Accepted → ⊥
+not-accepted o k e = go (subst (λ (x : Outcome). OneOf (1 ∷ 2 ∷ 3 ∷ 4 ∷ 5 ∷ []) (tag_of outcome.the_type x)) e k)
+  where
+    go : OneOf (1 ∷ 2 ∷ 3 ∷ 4 ∷ 5 ∷ []) 0 → ⊥
+    go o = let b = among 1 5 0 o in omega (arith, b.0)
 
 pub whole-made : {s : Store} {c : List ℕ} {edits : List Edit} {load : Load} → Whole s → Enacted s (store c s.words s.reals s.texts) edits load
     → Whole (store c s.words s.reals s.texts)
@@ -135,6 +164,14 @@ module _ (s : Store) (out : List ℕ) (callback version clock : ℕ) (r : Result
     peer_refused e =
         rw (is_refused_lem (ap refuses (sym h.outcome) ∙ e))
         (record { whole = h.whole; view = h.view; outcome = h.outcome; count = h.count; bytes = h.bytes; kept = h.kept; texts = TextsAfter.kept refl })
+
+    -- nothing but a refusal is not accepted
+    pub peer_other : (outcome_of r ≡ plan.Result.accepted → ⊥) → Handled s s out later asked clock r
+    peer_other other = go (ends (session s) callback version clock (length out))
+      where
+        go : (refuses sync.outcome ≡ true) ⊎ (sync.outcome ≡ plan.Result.accepted) → Handled s s out later asked clock r
+        go (inl e) = peer_refused (ap refuses h.outcome ∙ e)
+        go (inr e) = absurd (other (h.outcome ∙ e))
 
     pub peer_made : refuses (outcome_of r) ≡ false → {d : List ℕ} → Whole (store d s.words s.reals s.texts)
         → Enacted s (store d s.words s.reals s.texts) (Edit.peer_object callback ∷ []) Load.None

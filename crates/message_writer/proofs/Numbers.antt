@@ -2,14 +2,15 @@
 use Prim.Native.Nat.{ℕ, zero, suc, ◌+◌, ◌-◌, ◌*◌, ◌/◌, ◌%◌, ◌^◌, ◌≤◌, ◌<◌}
 use mathlib.Core.List.{List, [], ◌∷◌, ◌++◌, append-nil}
 use mathlib.Core.Path.{◌≡◌, refl, sym, ◌∙◌}
-use native.Mathlib.Nat.{mul-suc}
+use native.Mathlib.Nat.{mul-suc, lt_of_lt_of_le}
 use native.Mathlib.Numerals.{add-one}
 use native.Mathlib.Omega.{arith}
 use borrow.Rule.Slice.PartMut.{put_mid}
 use Rattle.std.specs.Int.{w64, from_be_bytes}
 use lib.ListN.{length, get_or, take, drop, replicate, length-drop, length-append, length-replicate}
 use Rattle.std.proofs.lemmas.List.{take-replicate, drop_all}
-use lib.Pow.{mod-pow-add}
+use lib.Arith.{digits_lt}
+use lib.Pow.{pow_mono, pow-add, mod-pow-add}
 use lib.Seq.{take-suc, get_or-drop}
 use Rattle.wire.specs.Bits.{be}
 use Rattle.message_writer.specs.Number.{joined, big_at}
@@ -33,6 +34,15 @@ module _ (l : List ℕ) (at i : ℕ) (h : at + i < length l) where
   big_more =
       let m : i < length (drop at l) = omega (arith, length-drop at l) in
       rw (add-one, take-suc (drop at l) i 0 m, joined_snoc 0 (take i (drop at l)) (get_or (drop at l) i 0), get_or-drop at l i 0)
+
+pub byte_more : (n b i : ℕ) → n < 2 ^ (8 * i) → b < 256 → n * 256 + b < 2 ^ (8 * (i + 1))
+byte_more n b i h g =
+    let e : 2 ^ (8 * (i + 1)) ≡ 2 ^ (8 * i) * 256 = rw (add-one, mul-suc 8 i) (pow-add 2 (8 * i) 8) in
+    rw e (digits_lt h g)
+
+-- up to eight bytes are a u64
+pub fits_below : (n b i : ℕ) → n < 2 ^ (8 * i) → b < 256 → i < 8 → n * 256 + b < 2 ^ 64
+fits_below n b i h g l = lt_of_lt_of_le (byte_more n b i h g) (pow_mono {i = 8 * (i + 1)} {j = 64} (omega arith))
 
 -- ---- the library's number of eight bytes, the most significant first
 
