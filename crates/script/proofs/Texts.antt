@@ -3,10 +3,12 @@ use Prim.Native.Nat.{ℕ, zero, suc, ◌+◌, ◌-◌, ◌*◌, ◌/◌, ◌%◌
 use mathlib.Core.Path.{◌≡◌, refl, sym, ap, ap₂, ◌∙◌}
 use mathlib.Core.Bool.{Bool, true, false, ◌&&◌, false≢true}
 use mathlib.Core.List.{List, [], ◌∷◌}
-use mathlib.Core.Option.{some}
+use mathlib.Core.Option.{none, some}
 use native.Mathlib.Omega.{arith}
-use borrow.Author.Tests.{eq-eqb, ne_eqb}
-use lib.Dec.{ltb, eqb}
+use lib.Dec.{ltb}
+use Rattle.std.proofs.lemmas.Bool.Decides.{nat_tests}
+use Rattle.std.specs.Char.{is_ascii_hexdigit}
+use Rattle.std.specs.Simd.{first_chunks}
 use Rattle.std.specs.List.{list_all}
 use lib.ListN.{length, get_or, take, drop, length-take, length-drop}
 use lib.Seq.{drop-drop, take-nil, get_or-take, get_or-drop}
@@ -21,31 +23,45 @@ use Rattle.script.proofs.Words.{starts-length}
 
 -- ---- whether a word is a text
 
-pairs_all : (l : List ℕ) → pairs l ≡ (eqb (length l % 2) 0 && list_all (λ c. ltb (digit c) 16) l)
+-- the two digits of a pair
+abbrev pub are_digits : List ℕ → Bool
+are_digits p = is_ascii_hexdigit (get_or p 0 0) && is_ascii_hexdigit (get_or p 1 0)
+
+hexadecimal_digit : (c : ℕ) → is_ascii_hexdigit c ≡ ltb (digit c) 16
+unfolding digit
+hexadecimal_digit c = grind (arith, nat_tests)
+
+pub pairs_even : (l : List ℕ) → length l % 2 ≡ 0 → list_all are_digits (first_chunks 2 (length l / 2) l) ≡ pairs l
 unfolding pairs
-pairs_all [] = refl
-pairs_all (c ∷ []) = refl
-pairs_all (c ∷ d ∷ l) =
-    let n : length l % 2 ≡ suc (suc (length l)) % 2 = omega arith in
-    go (ltb (digit c) 16) (ltb (digit d) 16) (eqb (length l % 2) 0) (pairs_all l)
-    ∙ ap (λ (k : ℕ). eqb k 0 && (ltb (digit c) 16 && (ltb (digit d) 16 && list_all (λ c. ltb (digit c) 16) l))) n
+pairs_even [] e = refl
+pairs_even (c ∷ []) e = absurd (omega arith)
+pairs_even (c ∷ d ∷ l) e =
+    let n : suc (suc (length l)) / 2 ≡ suc (length l / 2) = omega arith in
+    ap (λ (k : ℕ). list_all are_digits (first_chunks 2 k (c ∷ d ∷ l))) n
+    ∙ step (is_ascii_hexdigit c) (is_ascii_hexdigit d) (ltb (digit c) 16) (ltb (digit d) 16) (hexadecimal_digit c) (hexadecimal_digit d) (pairs_even l (omega (arith, e)))
   where
-    go : (t u p : Bool) → pairs l ≡ (p && list_all (λ c. ltb (digit c) 16) l)
-        → (t && (u && pairs l)) ≡ (p && (t && (u && list_all (λ c. ltb (digit c) 16) l)))
-    go true true p e = e
-    go true false true e = refl
-    go true false false e = refl
-    go false u true e = refl
-    go false u false e = refl
+    step : (t u t' u' : Bool) → t ≡ t' → u ≡ u' → list_all are_digits (first_chunks 2 (length l / 2) l) ≡ pairs l
+        → ((t && u) && list_all are_digits (first_chunks 2 (length l / 2) l)) ≡ (t' && (u' && pairs l))
+    step true u t' u' a b e = rw (sym a, sym b, e)
+    step false u t' u' a b e = rw (sym a)
 
-module _ (l : List ℕ) where
-  pub pairs_even : length l % 2 ≡ 0 → list_all (λ c. ltb (digit c) 16) l ≡ pairs l
-  pairs_even e = sym (pairs_all l ∙ ap (λ (t : Bool). t && list_all (λ c. ltb (digit c) 16) l) (eq-eqb (length l % 2) 0 e))
+even : (l : List ℕ) → pairs l ≡ true → length l % 2 ≡ 0
+unfolding pairs
+even [] e = refl
+even (c ∷ []) e = absurd (false≢true e)
+even (c ∷ d ∷ l) e = go (ltb (digit c) 16) (ltb (digit d) 16) e (λ f. even l f)
+  where
+    go : (t u : Bool) → t && (u && pairs l) ≡ true → (pairs l ≡ true → length l % 2 ≡ 0) → suc (suc (length l)) % 2 ≡ 0
+    go true true e f = omega (arith, f e)
+    go true false e f = absurd (false≢true e)
+    go false u e f = absurd (false≢true e)
 
-  pub pairs_odd : (length l % 2 ≡ 0 → ⊥) → eqb (length l % 2) 0 ≡ pairs l
-  pairs_odd n =
-      let f : eqb (length l % 2) 0 ≡ false = ne_eqb (length l % 2) 0 n in
-      f ∙ sym (pairs_all l ∙ ap (λ (t : Bool). t && list_all (λ c. ltb (digit c) 16) l) f)
+pub pairs_odd : (l : List ℕ) → (length l % 2 ≡ 0 → ⊥) → false ≡ pairs l
+pairs_odd l n = go (pairs l) refl
+  where
+    go : (t : Bool) → pairs l ≡ t → false ≡ pairs l
+    go true e = absurd (n (even l e))
+    go false e = sym e
 
 module _ (w : List ℕ) where
   pub no_text : starts_with (ascii "t:") w ≡ false → false ≡ is_text w
@@ -114,17 +130,6 @@ drop-take (suc m) zero l = let z : 0 ≡ 0 - suc m = omega arith in ap (λ (k : 
 drop-take (suc m) (suc n) [] = sym (take-nil (suc n - suc m))
 drop-take (suc m) (suc n) (x ∷ l) = let z : n - m ≡ suc n - suc m = omega arith in drop-take m n l ∙ ap (λ (k : ℕ). take k (drop m l)) z
 
-even : (l : List ℕ) → pairs l ≡ true → length l % 2 ≡ 0
-unfolding pairs
-even [] e = refl
-even (c ∷ []) e = absurd (false≢true e)
-even (c ∷ d ∷ l) e = go (ltb (digit c) 16) (ltb (digit d) 16) e (λ f. even l f)
-  where
-    go : (t u : Bool) → t && (u && pairs l) ≡ true → (pairs l ≡ true → length l % 2 ≡ 0) → suc (suc (length l)) % 2 ≡ 0
-    go true true e f = omega (arith, f e)
-    go true false e f = absurd (false≢true e)
-    go false u e f = absurd (false≢true e)
-
 module _ (line : List ℕ) (from end : ℕ) (a : from ≤ end) (b : end ≤ length line) (e : is_text (part from end line) ≡ true) where
   starts : starts_with (ascii "t:") (part from end line) ≡ true
   unfolding is_text
@@ -152,3 +157,6 @@ module _ (line : List ℕ) (from end : ℕ) (a : from ≤ end) (b : end ≤ leng
 
   pub text-given : some (text (text_bytes line (record { start = from + 2; bytes = (end - from - 2) / 2 })) ∷ []) ≡ one (text_of (part from end line))
   text-given = sym (rw (e, text_bytes_lem))
+
+pub text-none : (w : List ℕ) → is_text w ≡ false → none ≡ one (text_of w)
+text-none w e = rw e

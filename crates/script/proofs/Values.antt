@@ -1,11 +1,12 @@
 -- Words read as numbers of a kind. Assumes nothing.
-use Prim.Native.Nat.{ℕ, ◌+◌, ◌-◌, ◌^◌, ◌≤◌, ◌<◌}
+use Prim.Native.Nat.{ℕ, zero, suc, ◌+◌, ◌-◌, ◌^◌, ◌≤◌, ◌<◌}
 use mathlib.Core.Path.{◌≡◌, refl, sym, ap, ap₂, ◌∙◌}
+use mathlib.Core.Logic.{◌⊎◌, inl, inr}
 use mathlib.Core.Bool.{Bool, true, false, cond, ◌&&◌, false≢true}
 use mathlib.Core.List.{List, [], ◌∷◌}
 use mathlib.Core.Option.{Option, none, some, map}
 use native.Mathlib.Omega.{arith}
-use borrow.Author.Tests.{ltb-false, le-leb, lt-leb, leb-true}
+use borrow.Author.Tests.{ltb-true, ltb-false, le-leb, lt-leb, leb-true, ne_eqb}
 use lib.Dec.{leb, ltb}
 use lib.Ieee.{nan, of_bits, binary32}
 use lib.IntN.{pos, neg_ℤ}
@@ -14,7 +15,7 @@ use Rattle.script.specs.declared.verb.Kind.{Kind}
 use Rattle.eiproto.specs.Interface.{ascii, same_bytes}
 use Rattle.script.specs.Words.{starts_with, before}
 use Rattle.script.specs.Number.{digits, number, that, within, fits64}
-use Rattle.script.specs.Script.{Arg, signed, float, no_text, text_part, signed_of, float_of, text_of, both_of, part_of, read_as}
+use Rattle.script.specs.Script.{Arg, signed, float, no_text, text_part, one_of_seven, signed_of, float_of, text_of, both_of, part_of, read_as}
 use Rattle.script.specs.Told.{one}
 use Rattle.script.proofs.Words.{take-before, rest}
 
@@ -23,6 +24,9 @@ use Rattle.script.proofs.Words.{take-before, rest}
 module _ (least most n : ℕ) where
   pub within_yes : least ≤ n → n ≤ most → within least most n ≡ true
   within_yes a b = rw (le-leb least n a, le-leb n most b)
+
+  pub within_low : n < least → within least most n ≡ false
+  within_low a = rw (lt-leb least n a)
 
   pub within_high : most < n → within least most n ≡ false
   within_high a = go (leb least n)
@@ -41,6 +45,13 @@ small-within least most h n e = omega (arith, leb-true n most (last (leb least n
     last : (t : Bool) → (t && leb n most) ≡ true → leb n most ≡ true
     last true e = e
     last false e = absurd (false≢true e)
+
+pub small64 : Small fits64
+small64 n e = go (ltb n (2 ^ 64)) refl e
+  where
+    go : (t : Bool) → ltb n (2 ^ 64) ≡ t → t ≡ true → n < 2 ^ 64
+    go true q e = ltb-true n (2 ^ 64) q
+    go false q e = absurd (false≢true e)
 
 -- ---- what the number of 64 bits, or that there is none, says of a number that passes a test
 
@@ -74,6 +85,56 @@ module _ (g : ℕ → Arg) (f : ℕ → Bool) (s : Small f) (o : Option ℕ) whe
 
     pub given-not : f n ≡ false → none ≡ one (map g (that f o))
     given-not t = sym (rw (is, t))
+
+-- ---- one of the seven bits
+
+pub seven_low : (n : ℕ) → n < 1 → one_of_seven n ≡ false
+seven_low zero h = refl
+seven_low (suc n) h = absurd (omega arith)
+
+pub seven_two : (n : ℕ) → 1 ≤ n → n ≤ 2 → one_of_seven n ≡ true
+seven_two zero h k = absurd (omega arith)
+seven_two (suc zero) h k = refl
+seven_two (suc (suc zero)) h k = refl
+seven_two (suc (suc (suc n))) h k = absurd (omega arith)
+
+abbrev pub Others : ℕ → Type 0
+Others n = (n ≡ 4) ⊎ ((n ≡ 8) ⊎ ((n ≡ 16) ⊎ ((n ≡ 32) ⊎ (n ≡ 64))))
+
+pub seven_others : (n : ℕ) → Others n → one_of_seven n ≡ true
+seven_others n (inl e) = ap one_of_seven e
+seven_others n (inr (inl e)) = ap one_of_seven e
+seven_others n (inr (inr (inl e))) = ap one_of_seven e
+seven_others n (inr (inr (inr (inl e)))) = ap one_of_seven e
+seven_others n (inr (inr (inr (inr e)))) = ap one_of_seven e
+
+pub seven_not : (n : ℕ) → 2 < n → (Others n → ⊥) → one_of_seven n ≡ false
+seven_not n h k =
+    rw (
+      ne_eqb n 1 (λ e. omega arith),
+      ne_eqb n 2 (λ e. omega arith),
+      ne_eqb n 4 (λ e. k (inl e)),
+      ne_eqb n 8 (λ e. k (inr (inl e))),
+      ne_eqb n 16 (λ e. k (inr (inr (inl e)))),
+      ne_eqb n 32 (λ e. k (inr (inr (inr (inl e))))),
+      ne_eqb n 64 (λ e. k (inr (inr (inr (inr e))))),
+    )
+
+pub small_seven : Small one_of_seven
+small_seven n e = go (ltb n (2 ^ 64)) refl
+  where
+    go : (t : Bool) → ltb n (2 ^ 64) ≡ t → n < 2 ^ 64
+    go true q = ltb-true n (2 ^ 64) q
+    go false q =
+        let h = ltb-false n (2 ^ 64) q in
+        absurd (false≢true (sym (seven_not n (omega arith) (λ o. large n h o)) ∙ e))
+      where
+        large : (n : ℕ) → 2 ^ 64 ≤ n → Others n → ⊥
+        large n h (inl e) = omega arith
+        large n h (inr (inl e)) = omega arith
+        large n h (inr (inr (inl e))) = omega arith
+        large n h (inr (inr (inr (inl e)))) = omega arith
+        large n h (inr (inr (inr (inr e)))) = omega arith
 
 -- ---- signed numbers and floats
 

@@ -22,7 +22,9 @@ pub struct Part {
 fn are_pairs(digits: &[u8]) -> bool
     ensures { result ≡ pairs digits.now }
 {
-    digits.len() % 2 == 0 && digits.iter().all(|&c| word::value_of(c) < 16)
+    let (pairs, rest) = digits.as_chunks::<2>();
+    rest.is_empty()
+        && pairs.iter().all(|[high, low]| high.is_ascii_hexdigit() && low.is_ascii_hexdigit())
 }
 
 // Whether a word is `t:` and two digits for each byte.
