@@ -1,14 +1,13 @@
 -- Laws of `be` and `pack`: a field of whole bytes is those bytes, at every width. Assumes nothing.
-use Prim.Native.Nat.{ℕ, zero, suc, ◌+◌, ◌*◌, ◌/◌, ◌%◌, ◌^◌, ◌<◌, ◌≤◌, ◌-◌}
+use Prim.Native.Nat.{ℕ, zero, suc, ◌+◌, ◌*◌, ◌/◌, ◌%◌, ◌^◌, ◌<◌}
 use mathlib.Core.Path.{◌≡◌, refl, sym, ap, ap₂, ◌∙◌}
 use mathlib.Core.List.{List, [], ◌∷◌, ◌++◌, append_assoc, append-nil}
 use native.Mathlib.Nat.{add_assoc, add-suc, add-zero, add-mul, mul_assoc, mul-suc, mod-lt}
 use native.Mathlib.Numerals.{add-one}
 use native.Mathlib.Omega.{arith}
 use lib.Arith.{digits_lt}
-use lib.ListN.{length, take, drop, length-append}
+use lib.ListN.{length, length-append}
 use lib.Pow.{pow_pos, pow-add, split, high, low, mod-pow-add}
-use lib.Seq.{drop_at, take_all}
 use Rattle.std.specs.Int.{byte_at, bytes_high_first}
 use Rattle.wire.specs.Bits.{Field, ◌bits◌, widths, packed, be, pack}
 
@@ -16,6 +15,11 @@ pub length-be : (k n : ℕ) → length (be k n) ≡ k
 unfolding be
 length-be zero n = refl
 length-be (suc k) n = rw (length-append, length-be k (n / 256)) (add-one k)
+
+-- the last of some bytes, before what stands behind them
+pub be-last : (i j v : ℕ) (behind : List ℕ) → i ≡ j + 1 → be i v ++ behind ≡ be j (v / 256) ++ (v % 256 ∷ behind)
+unfolding be
+be-last i j v behind e = rw (e, add-one, append_assoc (be j (v / 256)) (v % 256 ∷ []) behind)
 
 -- a number above suc m bytes, without the last of them; and the last
 module _ (m x y : ℕ) where
@@ -89,9 +93,6 @@ high_first (suc k) n =
     let e : suc k ≡ 1 + k = omega arith in
     ap₂ (λ (b : ℕ) (l : List ℕ). b ∷ l) (byte_at-is k n) (high_first k n) ∙ sym (ap (λ (j : ℕ). be j n) e ∙ drop-be 1 k n)
 
--- the low k of n bytes
-pub low_bytes : (n k x : ℕ) → k ≤ n → take (n - (n - k)) (drop (n - k) (bytes_high_first n x)) ≡ be k x
-low_bytes n k x h =
-    let e : n ≡ (n - k) + k = omega arith in
-    let all : bytes_high_first n x ≡ be (n - k) (x / 2 ^ (8 * k)) ++ be k x = high_first n x ∙ ap (λ (j : ℕ). be j x) e ∙ drop-be (n - k) k x in
-    rw (all, drop_at (be (n - k) (x / 2 ^ (8 * k))) (be k x) (n - k) (length-be _ _)) (take_all (n - (n - k)) (be k x) (omega (arith, length-be k x)))
+-- the low k bytes of a number
+pub low_bytes : (k x : ℕ) → bytes_high_first k (x % 2 ^ (8 * k)) ≡ be k x
+low_bytes k x = high_first k (x % 2 ^ (8 * k)) ∙ be-mod k x

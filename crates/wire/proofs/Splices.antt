@@ -9,7 +9,7 @@ use native.Mathlib.Numerals.{add-one}
 use native.Mathlib.Omega.{arith}
 use borrow.Author.Tests.{le-leb, lt-leb}
 use lib.ListN.{length, get_or, take, drop, set, length-append, length-drop, take-append-drop}
-use lib.Seq.{take-suc, set_at, length-take-le, take-append-le, drop-append-le, drop-drop, take_at, drop_at}
+use lib.Seq.{drop-cons, take-suc, set_at, length-take-le, take-append-le, drop-append-le, drop-drop, take_at, drop_at}
 use borrow.Rule.Slice.PartMut.{put_mid}
 use Rattle.wire.specs.Bits.{splice, fitted}
 use Rattle.wire.specs.Put.{PutWhole, Wrote}
@@ -38,6 +38,13 @@ splice_front out n m b bytes e h =
     let r : n + suc (length bytes) ≡ suc n + length bytes = omega arith in
     rw (e, add-one, take-suc out n 0, r, append_assoc (take n out) (get_or out n 0 ∷ []))
     (set_at (take n out) (get_or out n 0) (bytes ++ drop (suc n + length bytes) out) b n q)
+
+-- the same of a list that is copied from its end on
+pub splice-drop : (out xs : List ℕ) (at i j : ℕ) → i ≡ j + 1 → i ≤ length xs → at + length xs ≤ length out → set (splice out (at + i) (drop i xs)) (at + j) (get_or xs j 0) ≡ splice out (at + j) (drop j xs)
+splice-drop out xs at i j e h fits =
+    let l = length-drop i xs in
+    let q : drop j xs ≡ get_or xs j 0 ∷ drop i xs = rw (e, add-one) (drop-cons xs j 0 (omega arith)) in
+    rw q (splice_front out (at + j) (at + i) (get_or xs j 0) (drop i xs) (omega arith) (omega arith))
 
 -- two runs, one behind the other, are one run
 pub splice-splice : (out : List ℕ) (at : ℕ) (xs ys : List ℕ) → at + (length xs + length ys) ≤ length out → splice (splice out at xs) (at + length xs) ys ≡ splice out at (xs ++ ys)

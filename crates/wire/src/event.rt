@@ -137,7 +137,7 @@ impl From<u64> for Number {
 // An event's record behind the object id: at most three numbers, then a text or none. The kind is a number, since `put_whole` takes any below 32.
 #[derive(Clone, Copy, Debug, PartialEq, Eq)]
 pub struct Fields {
-    pub kind: u8,
+    pub kind: u64,
     pub first: Number,
     pub second: Number,
     pub third: Number,
@@ -150,7 +150,7 @@ impl Fields {
         ensures { result ≡ numbers (kind_number kind) 0 0 0 0 0 0 false }
     {
         Fields {
-            kind: kind as u8,
+            kind: kind as u64,
             first: NO_NUMBER,
             second: NO_NUMBER,
             third: NO_NUMBER,
@@ -294,18 +294,36 @@ pub fn put_text(out: &mut [u8], at: usize, text: &[u8]) -> usize
     requires { at + length text.now ≤ length out.old }
     ensures { Wrote out.old out.new at (length text.now) text.now result }
 {
+    if text.is_empty() {
+        return at;
+    }
     let end = at + text.len();
     out[at..end].copy_from_slice(text);
     end
 }
 
-// A number's low bytes at a place of the buffer, the most significant first.
+// A number's low bytes at a place of the buffer, the most significant first. Four and eight, which most numbers have, are stored at once: a copy of a
+// length that the compiler does not know is a call, and dearer than the loop.
 fn put(out: &mut [u8], at: usize, number: Number) -> usize
     requires { (number.bytes ≤ 16) × (at + number.bytes ≤ length out.old) }
     ensures { Wrote out.old out.new at number.bytes (be number.bytes number.value) result }
 {
-    let bytes = u128::from(number.value).to_be_bytes();
-    put_text(out, at, &bytes[16 - number.bytes..])
+    match number.bytes {
+        4 => put_text(
+            out,
+            at,
+            &((number.value % 0x1_0000_0000) as u32).to_be_bytes(),
+        ),
+        8 => put_text(out, at, &number.value.to_be_bytes()),
+        bytes => {
+            let mut rest = number.value;
+            for i in (0..bytes).rev() {
+                out[at + i] = (rest % 256) as u8;
+                rest /= 256;
+            }
+            at + bytes
+        }
+    }
 }
 
 // A record up to its text. Of its length it has the low 11 bits.
@@ -315,7 +333,7 @@ fn put_start(out: &mut [u8], at: usize, object: u64, f: Fields, total: usize) ->
 {
     let head = Number {
         bytes: 2,
-        value: u64::from(f.kind) * 2048 + (total % 2048) as u64,
+        value: f.kind * 2048 + (total % 2048) as u64,
     };
     let id = put(out, at, head);
     let first = put(out, id, object.into());

@@ -18,7 +18,7 @@ returns c =
     let b : c.into.result.bytes ≡ 8 = ap (λ (n : Number). n.bytes) c.into.ensures in
     let e : 2 + (8 + size f) ≡ 10 + size f = omega arith in
     rw e at
-    (wrote_join (rw c.from.ensures at p.ensures)
+    (wrote_join (p.ensures)
     (wrote_join (rw c.into.ensures at q.ensures)
     (wrote_join r.ensures
     (wrote_join s.ensures c.put.ensures
