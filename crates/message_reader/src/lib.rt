@@ -235,7 +235,7 @@ fn write_record(
         return Err(MessageError::ShortOut);
     }
     let f = Fields {
-        kind,
+        kind: u64::from(kind),
         first: number(s.first, v.first),
         second: number(s.second, v.second),
         third: number(s.third, v.third),

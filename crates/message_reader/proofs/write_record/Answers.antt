@@ -17,10 +17,10 @@ returns-then-out-size c =
 pub put_whole-requires : goal.put_whole-requires
 put_whole-requires c =
     let h = fixed-small c.args.kind c.shape_of-s.ensures c.requires.0 in
-    rw (c.number.ensures, c.number-2.ensures, c.number-3.ensures) (omega arith, h)
+    rw (c.from.ensures, c.number.ensures, c.number-2.ensures, c.number-3.ensures) (omega arith, h)
 
 pub returns : goal.returns
 returns c =
     let a = c.args in
-    let put = rw (c.number.ensures, c.number-2.ensures, c.number-3.ensures, fields_so a.object a.kind a.v a.text.now c.shape_of-s.ensures refl refl refl) at c.put_whole.ensures in
+    let put = rw (c.from.ensures, c.number.ensures, c.number-2.ensures, c.number-3.ensures, fields_so a.object a.kind a.v a.text.now c.shape_of-s.ensures refl refl refl) at c.put_whole.ensures in
     rw c.fixed_size.ensures (record_put a.object a.kind a.v a.text.now c.shape_of-s.ensures (rw c.fixed_size.ensures at c.if-out-size.false) put)
