@@ -72,7 +72,7 @@ module _ (live : LiveTexts) (slot : ℕ) (l : slot < texts_limit) where
   one_more count e = rw (lt-ltb slot texts_limit l) (omega arith)
 
   -- a text in a slot that is marked
-  counted_again : (count mask : ℕ) → count ≡ live.count + 1 → bit slot live.used ≡ true → mask ≡ live.used → Counted live (record { count = count; used = mask }) 1 (λ j. slot)
+  pub counted_again : (count mask : ℕ) → count ≡ live.count + 1 → bit slot live.used ≡ true → mask ≡ live.used → Counted live (record { count = count; used = mask }) 1 (λ j. slot)
   counted_again count mask more e z =
       record {
         count = one_more count more;
@@ -83,7 +83,7 @@ module _ (live : LiveTexts) (slot : ℕ) (l : slot < texts_limit) where
       }
 
   -- a text in a slot that is not
-  counted_new : (count mask : ℕ) → count ≡ live.count + 1 → live.used < 2 ^ texts_limit → bit slot live.used ≡ false → mask ≡ live.used + 2 ^ slot
+  pub counted_new : (count mask : ℕ) → count ≡ live.count + 1 → live.used < 2 ^ texts_limit → bit slot live.used ≡ false → mask ≡ live.used + 2 ^ slot
       → Counted live (record { count = count; used = mask }) 1 (λ j. slot)
   counted_new count mask more h e z =
       let clear : live.used / 2 ^ slot % 2 ≡ 0 = (let n = eqb-false (live.used / 2 ^ slot % 2) 1 e in omega (arith, n)) in
