@@ -26,12 +26,16 @@ const WORD: u32 = 0x2122_2324;
 
 const NEXT: u32 = 0x3132_3334;
 
-// A line: a name, and bytes in hexadecimal.
+const HEX_DIGITS: [u8; 16] = *b"0123456789abcdef";
+
+// A line: a name, and bytes in hexadecimal, each handed over in one write.
 fn show(to: &mut impl Write, name: &[u8], bytes: &[u8]) -> io::Result<()> {
     to.write_all(name)?;
     to.write_all(b":")?;
     for b in bytes {
-        write!(to, " {b:02x}")?;
+        let high = HEX_DIGITS[usize::from(b / 16)];
+        let low = HEX_DIGITS[usize::from(b % 16)];
+        to.write_all(&[b' ', high, low])?;
     }
     to.write_all(b"\n")
 }
