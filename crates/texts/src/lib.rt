@@ -48,11 +48,10 @@ impl LiveTexts {
         let mut live = self;
         for j in 0..n {
             let slot = row::load_slot(words, reals, row + j);
-            // Few requests have a text: so a row that has none takes 6 instructions, where `with_request` alone takes 11.
-            if slot == row::NO_SLOT {
-                continue;
+            // `with_request` tests this too, but that becomes no branch in machine code: a row with no text would take 11 instructions, not 4.
+            if slot != row::NO_SLOT {
+                live = live.with_request(slot);
             }
-            live = live.with_request(slot);
         }
         live
     }

@@ -4,6 +4,7 @@ use Rattle.requests.specs.Row.{row_at}
 use Rattle.texts.specs.declared.LiveTexts.{LiveTexts}
 use Rattle.texts.specs.Texts.{Counted}
 use Rattle.texts.proofs.Marks.{counted_none, counted_past, counted-more}
+use Rattle.texts.proofs.LiveTexts.with_rows.Goals.{then-slot-ne-NO_SLOT, else-slot-ne-NO_SLOT}
 use Rattle.texts.proofs.LiveTexts.with_rows.Goals as goal
 
 -- j rows, and the one behind them, whose slot was read
@@ -19,11 +20,11 @@ pub loop-j-init : goal.loop-j-init
 loop-j-init c =
     let a = c.args in counted_none a.self (λ i. (row_at a.words.now a.reals.now (a.row + i)).slot)
 
--- no text
-pub loop-j-preserved-then-slot-eq-NO_SLOT : goal.loop-j-preserved-then-slot-eq-NO_SLOT
-loop-j-preserved-then-slot-eq-NO_SLOT c =
-    one_more _ _ _ _ _ c.load_slot-slot.ensures c.loop-j.invariant (counted_past c.loop-j.live _ (omega (arith, c.if-slot-eq-NO_SLOT.true)))
-
+-- no text, or one in its slot
 pub loop-j-preserved : goal.loop-j-preserved
 loop-j-preserved c =
-    one_more _ _ _ _ _ c.load_slot-slot.ensures c.loop-j.invariant c.with_request-live.ensures
+    one_more _ _ _ _ _ c.load_slot-slot.ensures c.loop-j.invariant
+    (elim c.if-slot-ne-NO_SLOT.branch [
+      | then-slot-ne-NO_SLOT w ↦ rw w.live-is w.with_request-live.ensures
+      | else-slot-ne-NO_SLOT w ↦ rw w.live-is (counted_past c.loop-j.live _ (omega (arith, w.if-slot-ne-NO_SLOT.false)))
+    ])
