@@ -17,7 +17,7 @@ pub struct Session {
 
 // What a turn is. Keys, Eight and Deep are a press and a release of a key; the last two a frame of so many keys.
 #[derive(Clone, Copy, Debug, PartialEq, Eq)]
-enum Workload {
+pub enum Workload {
     Keys,
     Touches,
     Texts,

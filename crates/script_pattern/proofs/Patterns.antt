@@ -2,6 +2,7 @@
 use Prim.Native.Nat.{ℕ, zero, suc, ◌+◌, ◌<◌, ◌≤◌}
 use mathlib.Core.Path.{◌≡◌, refl, sym, ap, ◌∙◌}
 use mathlib.Core.Bool.{Bool, true, false, cond, ◌&&◌, false≢true}
+use Prim.Native.String.{String}
 use mathlib.Core.List.{List, [], ◌∷◌, ◌++◌, map}
 use native.Mathlib.Nat.{add-zero}
 use native.Mathlib.Numerals.{add-one}
@@ -12,7 +13,7 @@ use lib.Dec.{eqb}
 use lib.ListN.{length, get_or, drop, length-map, get_or-map, drop_of_length-le, get_or-eq_default}
 use lib.Seq.{drop-cons, drop-drop, get_or-drop}
 use Rattle.eiproto.specs.Interface.{ascii, Row, row, table, row_of, interface_name}
-use Rattle.script_pattern.specs.Pattern.{Mark, marks, shows_in, takes_in, shows, takes, patterned, patterns, pattern_at}
+use Rattle.script_pattern.specs.Pattern.{Mark, marks, shows_in, takes_in, shows, takes, patterned, patterns, pattern_count, pattern_at}
 
 -- ---- a byte that is no mark, in the form in which the last arm of a `match` knows it
 
@@ -69,6 +70,10 @@ unfolding interface_name row_of table
 no_interface n h = ap (λ (r : Row). r.name) (get_or-eq_default table (row "" 0) {n = n} (omega arith))
 
 -- ---- the table
+
+pub no_pattern : (n : ℕ) (vs t : List ℕ) → pattern_count ≤ n → patterned (pattern_at n) vs t ≡ []
+unfolding pattern_at patterns patterned ascii
+no_pattern n vs t h = ap (λ (s : String). patterned (ascii s) vs t) (get_or-eq_default patterns "" {n = n} h)
 
 pub both : (a b : Bool) → a && b ≡ true → (a ≡ true) × (b ≡ true)
 both true b e = (refl, e)

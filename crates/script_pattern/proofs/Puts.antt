@@ -25,6 +25,12 @@ sets_out l i (y ∷ ys) h = rw (set_out l i y h) (sets_out l (suc i) ys (omega a
 pub put_length : {line later : List ℕ} {at r : ℕ} {xs : List ℕ} → Put line later at r xs → length later ≡ length line
 put_length {line} {at = at} {xs = xs} p = rw p.stored (length-sets line at xs)
 
+pub put_one : (line : List ℕ) (at b : ℕ) → at < length line → Put line (set line at b) at (at + 1) (b ∷ [])
+put_one line at b h = record { stored = refl; next = omega arith }
+
+pub put_full : (line : List ℕ) (at : ℕ) (xs : List ℕ) → length line ≤ at → Put line line at at xs
+put_full line at xs h = record { stored = sym (sets_out line at xs h); next = omega arith }
+
 -- THE LAW: bytes, and more bytes from the place behind them on
 pub put_then : {line mid later : List ℕ} {at a r : ℕ} {xs ys : List ℕ} → Put line mid at a xs → Put mid later a r ys → Put line later at r (xs ++ ys)
 put_then {line} {mid} {later} {at} {a} {r} {xs} {ys} p q =

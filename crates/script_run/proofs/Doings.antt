@@ -10,13 +10,23 @@ use Rattle.script.specs.Told.{text_in}
 use Rattle.script_calls.specs.Station.{is_lent, lent_bytes}
 use Rattle.script_run.specs.Line.{has_text, is_given, text_first, lent_text, line_text}
 use lib.Seq.{take-paste}
+use Rattle.handshake.specs.View.{request_of, Handled}
+use Rattle.handshake.specs.declared.handshake.EisHandshaker.{EisHandshaker}
+use Rattle.handshake.specs.declared.handshake.HandshakeMessage.{HandshakeMessage}
+use Rattle.handshake.specs.declared.handshake.HandshakeAnswer.{HandshakeAnswer}
 use Rattle.script.specs.declared.line.Line.{Line}
 use Rattle.script.specs.Text.{text_bytes, bytes_of, Copied}
 use Rattle.script.specs.Told.{Parsed}
+use Rattle.script_session.specs.Lent.{InRoom}
 
 -- what a line was read as
 pub read_as : {in_read : Bool} {line : List ℕ} {l m : Line} → l ≡ m → Parsed in_read line l → Parsed in_read line m
 read_as p h = rw p at h
+
+-- the same request, told otherwise
+pub for_message : {said : ℕ} {out exit : List ℕ} {h : EisHandshaker} {m n : HandshakeMessage} {a : HandshakeAnswer} (text : List ℕ) → m ≡ n
+    → InRoom said out exit (λ lent later. Handled h (request_of m text) lent later a) → InRoom said out exit (λ lent later. Handled h (request_of n text) lent later a)
+for_message text p h = rw p at h
 
 -- as many bytes as a list has are all of them
 take-least : (n m : ℕ) (l : List ℕ) → n ≡ min (length l) m → take n l ≡ take m l

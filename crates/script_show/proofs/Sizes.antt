@@ -6,8 +6,8 @@ use mathlib.Core.List.{List, [], ◌∷◌, ◌++◌}
 use mathlib.Core.Logic.{dite}
 use native.Mathlib.Decide.{dec_le}
 use native.Mathlib.Omega.{arith}
-use borrow.Author.Tests.{lt-ltb, le-ltb, eq-eqb, ne_eqb, eqb-true}
-use lib.Dec.{eqb, ltb}
+use borrow.Author.Tests.{lt-ltb, le-ltb, eq-eqb, ne_eqb, eqb-true, leb-true}
+use lib.Dec.{eqb, leb, ltb}
 use lib.ListN.{length, get_or, take, drop}
 use Rattle.eiproto.specs.Interface.{ascii}
 use Rattle.event_messages.specs.Shape.{shape_of, width}
@@ -88,3 +88,17 @@ sizes_are k h =
     let a = both_hold t in
     let b = both_hold a.1 in
     record { first = eqb-true _ _ a.0; second = eqb-true _ _ b.0; third = eqb-true _ _ b.1 }
+
+-- ---- the sizes of numbers are at most 8
+
+abbrev small : List ℕ → Bool
+small [] = true
+small (x ∷ xs) = leb x 8 && small xs
+
+small_at : (l : List ℕ) → small l ≡ true → (i : ℕ) → get_or l i 0 ≤ 8
+small_at [] t i = omega arith
+small_at (x ∷ xs) t zero = leb-true x 8 (both_hold t).0
+small_at (x ∷ xs) t (suc i) = small_at xs (both_hold t).1 i
+
+pub size-most : (i : ℕ) → get_or sizes i 0 ≤ 8
+size-most i = small_at sizes refl i
