@@ -106,13 +106,13 @@ module _ (line : List ℕ) (at : ℕ) where
     slot-bad f ks = rw (words_at line at end h e) (first-none (read_args ks (words_from end line)) (read_as k (part (at + 1) end line)) f)
 
 -- the kinds of a row from a place on
-abbrev from1 : List Kind → List Kind
+abbrev pub from1 : List Kind → List Kind
 from1 ks = present (kind_at 1 ks) ++ (present (kind_at 2 ks) ++ (present (kind_at 3 ks) ++ []))
 
-abbrev from2 : List Kind → List Kind
+abbrev pub from2 : List Kind → List Kind
 from2 ks = present (kind_at 2 ks) ++ (present (kind_at 3 ks) ++ [])
 
-abbrev from3 : List Kind → List Kind
+abbrev pub from3 : List Kind → List Kind
 from3 ks = present (kind_at 3 ks) ++ []
 
 split : (ks : List Kind) → length ks ≤ 4 → ks ≡ present (kind_at 0 ks) ++ from1 ks
@@ -124,25 +124,30 @@ split (a ∷ b ∷ c ∷ d ∷ []) h = refl
 split (a ∷ b ∷ c ∷ d ∷ e ∷ ks) h = absurd (omega arith)
 
 -- a row's slots are filled from the first on
-in_turn_lem : (k : ℕ) (ks : List Kind) → length (present (kind_at (suc k) ks)) ≤ length (present (kind_at k ks))
+pub in_turn_lem : (k : ℕ) (ks : List Kind) → length (present (kind_at (suc k) ks)) ≤ length (present (kind_at k ks))
 in_turn_lem zero [] = omega arith
 in_turn_lem zero (a ∷ []) = omega arith
 in_turn_lem zero (a ∷ b ∷ ks) = omega arith
 in_turn_lem (suc k) [] = omega arith
 in_turn_lem (suc k) (a ∷ ks) = in_turn_lem k ks
 
+pub row-split : (i : ℕ) (r : Bool) → i < 59 → kinds_of r (row_at i) ≡ present (kind_at 0 (kinds_of r (row_at i))) ++ from1 (kinds_of r (row_at i))
+row-split i r h = split (kinds_of r (row_at i)) (row-kinds i h r)
+
+-- where no kind is left
+module _ (line : List ℕ) (at : ℕ) where
+  pub args_end : length line ≤ at → read_args [] (words_from at line) ≡ math.some []
+  unfolding read_args
+  args_end h = rw (words-none line at h)
+
+  pub args_more : at < length line → read_args [] (words_from at line) ≡ math.none
+  unfolding read_args
+  args_more h = rw (words_at line at (at + 1 + length (before 0x20 (drop (at + 1) line))) h refl)
+
 -- the words behind the first, slot by slot: where one stops it, there are no arguments
 module _ (line : List ℕ) (at i : ℕ) (r : Bool) (h : i < 59) where
-  args_end : (u : ℕ) → length line ≤ u → read_args [] (words_from u line) ≡ math.some []
-  unfolding read_args
-  args_end u h = rw (words-none line u h)
-
-  args_more : (u : ℕ) → u < length line → read_args [] (words_from u line) ≡ math.none
-  unfolding read_args
-  args_more u h = rw (words_at line u (u + 1 + length (before 0x20 (drop (u + 1) line))) h refl)
-
   begun : read_args (kinds_of r (row_at i)) (words_from at line) ≡ read_args (present (kind_at 0 (kinds_of r (row_at i))) ++ from1 (kinds_of r (row_at i))) (words_from at line)
-  begun = ap (λ (l : List Kind). read_args l (words_from at line)) (split (kinds_of r (row_at i)) (row-kinds i h r))
+  begun = ap (λ (l : List Kind). read_args l (words_from at line)) (row-split i r h)
 
   none_given : (q : Option Args) → q ≡ None → none ≡ read_args (kinds_of r (row_at i)) (words_from at line) → Given line at i r q
   none_given q n e = subst (Given line at i r) (sym n) (record { reads = e; in_turn = tt })
@@ -186,12 +191,12 @@ module _ (line : List ℕ) (at i : ℕ) (r : Bool) (h : i < 59) where
           pub more_args : u < length line → Given line at i r None
           more_args m =
               none_given None refl
-              (sym (after_d ∙ ap (λ (o : math.Option (List Arg)). three (behind (value_told line d) o)) (args_more u m)))
+              (sym (after_d ∙ ap (λ (o : math.Option (List Arg)). three (behind (value_told line d) o)) (args_more line u m)))
 
           pub all_given : length line ≤ u → Given line at i r (Some (record { a = a; b = b; c = c; d = d }))
           all_given e = record {
             reads =
-                sym (after_d ∙ ap (λ (o : math.Option (List Arg)). three (behind (value_told line d) o)) (args_end u e));
+                sym (after_d ∙ ap (λ (o : math.Option (List Arg)). three (behind (value_told line d) o)) (args_end line u e));
             in_turn = (
               omega (arith, sa.1.0, sb.1.0, in_turn_lem 0 (kinds_of r (row_at i))),
               (omega (arith, sb.1.0, sc.1.0, in_turn_lem 1 (kinds_of r (row_at i))), omega (arith, sc.1.0, sd.1.0, in_turn_lem 2 (kinds_of r (row_at i)))),
