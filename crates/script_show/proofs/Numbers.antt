@@ -1,10 +1,10 @@
 -- Reals, signed amounts and refusals as numbers. Assumes nothing.
 use Prim.Native.Nat.{ℕ, ◌+◌, ◌*◌, ◌≤◌}
 use mathlib.Core.Path.{◌≡◌, refl, sym}
-use mathlib.Core.Bool.{true, false, false≢true}
+use mathlib.Core.Bool.{true, false, not, false≢true}
 use native.Mathlib.Omega.{arith}
 use borrow.Author.Tests.{ltb-true, eq-eqb}
-use lib.Dec.{lit≤}
+use lib.Dec.{T, lit≤}
 use lib.Ieee.{Float, nan, inf, fin, eq, is_nan, up, down}
 use lib.IntN.{ℤ, pos, negsuc, nat_abs}
 use lib.Signed.{lt_z}
@@ -30,6 +30,9 @@ a_nan (inf true) h = sym h
 a_nan (inf false) h = sym h
 a_nan (fin true m e) h = rw (eq-eqb (m * up e * down e) (m * up e * down e) refl) at (sym h)
 a_nan (fin false m e) h = rw (eq-eqb (m * up e * down e) (m * up e * down e) refl) at (sym h)
+
+pub not_nan : (x : Float) → is_nan x ≡ false → T (not (is_nan x))
+not_nan x h = rw h tt
 
 -- ---- an amount below 0, and one that is not
 
