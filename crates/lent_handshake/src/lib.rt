@@ -91,6 +91,7 @@ fn context_word(context: Option<ContextType>) -> u32
     }
 }
 
+#[inline(never)]
 fn load_versions(words: &[u64]) -> [Option<u32>; INTERFACES]
     requires { length words.now ≡ handshake_length }
     ensures { versions_of result ≡ (handshake_in words.now []).versions }
@@ -109,13 +110,11 @@ fn load(words: &[u64], name: &[u8]) -> EisHandshaker
     ensures result_value { view_of result ≡ handshake_in words.now name.now }
     ensures length_value { result.name.length ≡ get_or words.now 0 0 }
 {
-    let mut bytes = [0; NAME_LENGTH_LIMIT];
-    bytes.copy_from_slice(name);
     // A variable: an array that a call gives gets no proof straight in a literal.
     let interfaces = load_versions(words);
-    EisHandshaker {
+    let mut h = EisHandshaker {
         name: Name {
-            bytes,
+            bytes: [0; NAME_LENGTH_LIMIT],
             length: words[NAME_LENGTH] as usize,
             given: words[NAME_GIVEN] == 1,
         },
@@ -123,7 +122,9 @@ fn load(words: &[u64], name: &[u8]) -> EisHandshaker
         interfaces,
         serial: row::low(words[SERIAL]),
         next: words[NEXT],
-    }
+    };
+    h.name.bytes.copy_from_slice(name);
+    h
 }
 
 fn store_versions(words: &mut [u64], versions: [Option<u32>; INTERFACES])
@@ -136,6 +137,7 @@ fn store_versions(words: &mut [u64], versions: [Option<u32>; INTERFACES])
 }
 
 // Of a handshake that is not damaged (as `handshake` asks it, no fact of the type).
+#[inline]
 #[tactic(auto, using(crate::proofs::Words::words_long, crate::proofs::Words::name_long))]
 fn store(words: &mut [u64], name: &mut [u8], h: EisHandshaker)
     requires { (is_lent words.old name.old ≡ true) × (is_sound h ≡ true) }
