@@ -91,6 +91,7 @@ fn context_word(context: Option<ContextType>) -> u32
     }
 }
 
+// A call by itself, so that a call that needs no version, as `client`, does not read them.
 #[inline(never)]
 fn load_versions(words: &[u64]) -> [Option<u32>; INTERFACES]
     requires { length words.now ≡ handshake_length }
@@ -136,7 +137,8 @@ fn store_versions(words: &mut [u64], versions: [Option<u32>; INTERFACES])
     }
 }
 
-// Of a handshake that is not damaged (as `handshake` asks it, no fact of the type).
+// Of a handshake that is not damaged (as `handshake` asks it, no fact of the type). In its callers, so that of a fresh handshake, which is known there,
+// the words are stored at once.
 #[inline]
 #[tactic(auto, using(crate::proofs::Words::words_long, crate::proofs::Words::name_long))]
 fn store(words: &mut [u64], name: &mut [u8], h: EisHandshaker)
