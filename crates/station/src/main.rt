@@ -17,13 +17,13 @@ use std::io::Write;
 // Enough for the events of any call.
 const OUT_LENGTH: usize = 1225;
 
-// The memory of a session, which the calls of the library are lent.
+// The memory of a session, which the calls of the library are lent. Its texts are an array beside it: no text comes to
+// this station, so that the compiler leaves their 8,192 bytes out of its stack.
 #[derive(Drop)]
 struct Session {
     control: [u64; CONTROL_LENGTH],
     words: [u64; WORDS_LENGTH],
     reals: [f32; REALS_LENGTH],
-    texts: [u8; TEXTS_LENGTH],
 }
 
 // Whether a call was accepted. A refusal is told by its number.
@@ -120,6 +120,7 @@ fn resume(to: &mut impl Write, session: &mut Session, device: u64) -> io::Result
 fn receive(
     to: &mut impl Write,
     session: &mut Session,
+    texts: &mut [u8],
     object: u64,
     version: u32,
     sent: Request,
@@ -130,7 +131,7 @@ fn receive(
         &mut session.control,
         &mut session.words,
         &mut session.reals,
-        &mut session.texts,
+        texts,
         object,
         version,
         sent,
@@ -142,24 +143,34 @@ fn receive(
 }
 
 // A seat, which the client binds.
-fn open_seat(to: &mut impl Write, session: &mut Session) -> io::Result<Option<u64>> {
+fn open_seat(
+    to: &mut impl Write,
+    session: &mut Session,
+    texts: &mut [u8],
+) -> io::Result<Option<u64>> {
     let added = add_seat(to, session)?;
     if let Some(seat) = added {
         let bind = Request::Seat(SeatRequest::Bind {
             capabilities: DeviceCapability::KEYBOARD,
         });
-        receive(to, session, seat, 2, bind, 490)?;
+        receive(to, session, texts, seat, 2, bind, 490)?;
     }
     Ok(added)
 }
 
 // A device with a keyboard on the seat. Once the client is ready, it may send.
-fn open_keyboard(to: &mut impl Write, session: &mut Session, seat: u64) -> io::Result<Option<u64>> {
+fn open_keyboard(
+    to: &mut impl Write,
+    session: &mut Session,
+    texts: &mut [u8],
+    seat: u64,
+) -> io::Result<Option<u64>> {
     let added = add_device(to, session, seat)?;
     if let Some(device) = added {
         receive(
             to,
             session,
+            texts,
             device,
             3,
             Request::Device(DeviceRequest::Ready),
@@ -171,7 +182,12 @@ fn open_keyboard(to: &mut impl Write, session: &mut Session, seat: u64) -> io::R
 }
 
 // The clerk presses a key: the key waits for the client's frame, and gets its time.
-fn press(to: &mut impl Write, session: &mut Session, device: u64) -> io::Result<()> {
+fn press(
+    to: &mut impl Write,
+    session: &mut Session,
+    texts: &mut [u8],
+    device: u64,
+) -> io::Result<()> {
     // The ids of a device's interfaces follow its own, by capability bit: this one has a keyboard alone.
     let keyboard = device.wrapping_add(1);
     let start = Request::Device(DeviceRequest::StartEmulating {
@@ -186,9 +202,9 @@ fn press(to: &mut impl Write, session: &mut Session, device: u64) -> io::Result<
         last_serial: 8,
         timestamp: 500,
     });
-    receive(to, session, device, 3, start, 499)?;
-    receive(to, session, keyboard, 1, key, 500)?;
-    receive(to, session, device, 3, frame, 501)?;
+    receive(to, session, texts, device, 3, start, 499)?;
+    receive(to, session, texts, keyboard, 1, key, 500)?;
+    receive(to, session, texts, device, 3, frame, 501)?;
     Ok(())
 }
 
@@ -201,14 +217,14 @@ fn act(to: &mut impl Write, given: EisRequest) -> io::Result<()> {
 }
 
 // All that is queued, oldest first.
-fn take(to: &mut impl Write, session: &mut Session) -> io::Result<()> {
+fn take(to: &mut impl Write, session: &mut Session, texts: &[u8]) -> io::Result<()> {
     let mut text = [0u8; 254];
     for _ in 0..QUEUE_LIMIT {
         let next = request::next_request(
             &mut session.control,
             &session.words,
             &session.reals,
-            &session.texts,
+            texts,
             &mut text,
         );
         let Ok(Some(given)) = next else {
@@ -225,18 +241,18 @@ fn main(rt: HostRuntime) -> io::Result<()> {
         control: [0; CONTROL_LENGTH],
         words: [0; WORDS_LENGTH],
         reals: [0.0; REALS_LENGTH],
-        texts: [0; TEXTS_LENGTH],
     };
+    let mut texts = [0; TEXTS_LENGTH];
     if !begin(&mut out, &mut session)? {
         return out.flush();
     }
-    let Some(seat) = open_seat(&mut out, &mut session)? else {
+    let Some(seat) = open_seat(&mut out, &mut session, &mut texts)? else {
         return out.flush();
     };
-    let Some(device) = open_keyboard(&mut out, &mut session, seat)? else {
+    let Some(device) = open_keyboard(&mut out, &mut session, &mut texts, seat)? else {
         return out.flush();
     };
-    press(&mut out, &mut session, device)?;
-    take(&mut out, &mut session)?;
+    press(&mut out, &mut session, &mut texts, device)?;
+    take(&mut out, &mut session, &texts)?;
     out.flush()
 }
