@@ -17,7 +17,9 @@ use requests::request::EisRequest;
 use requests::row;
 use session::LentSession;
 
-// A client's request on the object of this id and version, at this clock. The text is that of a request that carries one.
+// A client's request on the object of this id and version, at this clock. The text is that of a request that carries one. In place, so that
+// a request is one call, of `handle_on`.
+#[inline(always)]
 pub fn handle_request(
     control: &mut [u64],
     words: &mut [u64],

@@ -12,6 +12,7 @@ ghost use Rattle.reads.specs.Handed.{goes_on, joined, Opens, Takes, HandsOver};
 use answers::{Answer, Error};
 use record::RequestRecord;
 use requests::eis::{HandshakeRequest, InterfaceRequest, Request, TextRequest};
+use session::LentSession;
 
 pub mod record;
 
@@ -90,7 +91,7 @@ fn join(sofar: ReadAnswer, answer: Result<Answer, Error>) -> ReadAnswer
     }
 }
 
-// One record, on a session that is not damaged, behind those that were accepted.
+// One record, on a session that is not damaged, behind those that were accepted. 21's test was made once, before the first record.
 pub fn handle_record(
     control: &mut [u64],
     words: &mut [u64],
@@ -108,10 +109,13 @@ pub fn handle_record(
     let Some(text) = part_of(one, lent) else {
         return join(sofar, Err(Error::BadPart));
     };
-    let answer = converter::request::handle_request(
+    let mut session = LentSession {
         control,
         words,
         reals,
+    };
+    let answer = converter::request::handle_on(
+        &mut session,
         texts,
         one.object,
         one.version,
