@@ -91,17 +91,15 @@ fn context_word(context: Option<ContextType>) -> u32
     }
 }
 
-// A call by itself, so that a call that needs no version, as `client`, does not read them.
+// Into the handshake itself, by a call: handed back, or read in place, twelve versions at once go over the stack.
 #[inline(never)]
-fn load_versions(words: &[u64]) -> [Option<u32>; INTERFACES]
+fn load_versions(words: &[u64], versions: &mut [Option<u32>; INTERFACES])
     requires { length words.now ≡ handshake_length }
-    ensures { versions_of result ≡ (handshake_in words.now []).versions }
+    ensures { versions_of versions.new ≡ (handshake_in words.now []).versions }
 {
-    let mut versions = [None; INTERFACES];
     for i in 0..INTERFACES {
         versions[i] = version_of(words[VERSIONS + i]);
     }
-    versions
 }
 
 // The handshake that the slices hold.
@@ -111,8 +109,6 @@ fn load(words: &[u64], name: &[u8]) -> EisHandshaker
     ensures result_value { view_of result ≡ handshake_in words.now name.now }
     ensures length_value { result.name.length ≡ get_or words.now 0 0 }
 {
-    // A variable: an array that a call gives gets no proof straight in a literal.
-    let interfaces = load_versions(words);
     let mut h = EisHandshaker {
         name: Name {
             bytes: [0; NAME_LENGTH_LIMIT],
@@ -120,11 +116,12 @@ fn load(words: &[u64], name: &[u8]) -> EisHandshaker
             given: words[NAME_GIVEN] == 1,
         },
         context: context_of(words[CONTEXT]),
-        interfaces,
+        interfaces: [None; INTERFACES],
         serial: row::low(words[SERIAL]),
         next: words[NEXT],
     };
     h.name.bytes.copy_from_slice(name);
+    load_versions(words, &mut h.interfaces);
     h
 }
 
@@ -210,7 +207,9 @@ pub fn handle_request(
     answer.into()
 }
 
-// Keeps what an answer gives: the handshake where it is no refusal, and where it is a Finish that succeeded, the session that it begins.
+// Keeps what an answer gives: the handshake where it is no refusal, and where it is a Finish that succeeded, the session that it begins. By a call:
+// what it copies then takes no stack while the request is handled.
+#[inline(never)]
 fn settle(words: &mut [u64], name: &mut [u8], control: &mut [u64], answer: HandshakeAnswer)
     requires { Settleable words.old name.old control.old answer }
     ensures { Settles words name control answer }

@@ -1,7 +1,9 @@
 -- The loop's invariant: the rows made so far are what the words say. Assumes nothing.
-use mathlib.Core.Path.{refl}
+use mathlib.Core.Path.{◌≡◌, refl}
 use native.Mathlib.Omega.{arith}
-use lib.ListN.{length-set}
+use borrow.Author.Rules.{rules}
+use lib.ListN.{length, length-set}
+use Rattle.handshake.proofs.Reports.{length-rows}
 use Rattle.control.specs.Table.{tab}
 use Rattle.lent_handshake.proofs.Words.{load-next, load_all}
 use Rattle.lent_handshake.proofs.load_versions.Goals as goal
@@ -9,7 +11,8 @@ use Rattle.lent_handshake.proofs.load_versions.Goals as goal
 pub loop-i-init : goal.loop-i-init
 unfolding tab
 loop-i-init c =
-    (refl, refl)
+    let n : length c.args.versions.now ≡ 12 = search (rules, length-rows) in
+    (n, refl)
 
 pub loop-i-preserved : goal.loop-i-preserved
 loop-i-preserved c =
