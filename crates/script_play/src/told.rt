@@ -22,7 +22,9 @@ fn show(to: &mut impl Write, took: Took, out: &[u8], explained: bool) -> io::Res
     put(to, &shown, n)
 }
 
-// A byte of a line is at most four in letters.
+// A byte of a line is at most four in letters. A call by itself: inlined, its array would lie on the stack, a quarter of a mebibyte, where no line is
+// shown, too.
+#[inline(never)]
 fn show_call(to: &mut impl Write, line: &[u8]) -> io::Result<()> {
     let mut shown = [0u8; 262147];
     let n = script_show::call_line(&mut shown, line);
