@@ -26,6 +26,7 @@ const WORD: u32 = 0x2122_2324;
 
 const NEXT: u32 = 0x3132_3334;
 
+// A table, since `write!(to, " {b:02x}")` makes two writes of each byte.
 const HEX_DIGITS: [u8; 16] = *b"0123456789abcdef";
 
 // A line: a name, and bytes in hexadecimal, each handed over in one write.
