@@ -79,7 +79,7 @@ module _ (s₀ : Store) (out₀ : List ℕ) (es : List (Entry (Call Input))) (cl
   none_tried e b (told, is) = ap (λ (r : ReadAnswer). r.accepted) told ∙ opened-accepted (is_whole s₀)
 
   -- a read that is not refused is of a session that is not damaged
-  not-damaged : (e : Store) (out : List ℕ) (b : ReadAnswer) → SoFar e out b → b.refusal ≡ None → is_whole s₀ ≡ true
+  pub not-damaged : (e : Store) (out : List ℕ) (b : ReadAnswer) → SoFar e out b → b.refusal ≡ None → is_whole s₀ ≡ true
   not-damaged e out b h n = by_test (is_whole s₀) refl
     where
       by_test : (y : Bool) → is_whole s₀ ≡ y → is_whole s₀ ≡ true

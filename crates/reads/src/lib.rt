@@ -3,11 +3,12 @@
 #![tactic(auto)]
 
 ghost use Rattle.std.specs.Prelude.{◌≡◌, true, map, ◌+◌, ◌<◌, ◌≤◌, ◌^◌, length};
-ghost use Rattle.session.specs.View.{store, is_whole};
+ghost use Rattle.session.specs.View.{store, is_whole, Whole};
+ghost use Rattle.session.specs.Loan.{SameLoan, store_of};
 ghost use Rattle.session.specs.Slices.{given};
 ghost use Rattle.answers.specs.Answer.{count_of};
 ghost use Rattle.reads.specs.Record.{has_text, part_of, entry_of};
-ghost use Rattle.reads.specs.Handed.{goes_on, joined, Opens, Takes, HandsOver};
+ghost use Rattle.reads.specs.Handed.{goes_on, joined, Opens, Taken, Takes, HandsOver};
 
 use answers::{Answer, Error};
 use record::RequestRecord;
@@ -91,7 +92,37 @@ fn join(sofar: ReadAnswer, answer: Result<Answer, Error>) -> ReadAnswer
     }
 }
 
-// One record, on a session that is not damaged, behind those that were accepted. 21's test was made once, before the first record.
+// One record, behind those that were accepted: its request on the lent session, with what is left of `out`.
+fn record_on(
+    session: &mut LentSession<'_, '_, '_>,
+    texts: &mut [u8],
+    one: RequestRecord,
+    lent: &[u8],
+    clock: u64,
+    out: &mut [u8],
+    sofar: ReadAnswer,
+) -> ReadAnswer
+    requires { Whole (store_of session.old texts.old) × ((sofar.count ≤ length out.old) × (sofar.accepted + 1 < 2 ^ 64)) }
+    ensures step { Taken (store_of session.old texts.old) (store_of session.new texts.new) out.old out.new (entry_of lent.now one) clock sofar result }
+    ensures loan { SameLoan session.old session.new }
+{
+    let Some(text) = part_of(one, lent) else {
+        return join(sofar, Err(Error::BadPart));
+    };
+    let answer = converter::request::handle_on(
+        session,
+        texts,
+        one.object,
+        one.version,
+        one.request,
+        text,
+        clock,
+        &mut out[sofar.count..],
+    );
+    join(sofar, answer)
+}
+
+// One record, on a session that is not damaged, behind those that were accepted.
 pub fn handle_record(
     control: &mut [u64],
     words: &mut [u64],
@@ -106,28 +137,15 @@ pub fn handle_record(
     requires { (is_whole (store control.old words.old reals.old texts.old) ≡ true) × ((sofar.count ≤ length out.old) × (sofar.accepted + 1 < 2 ^ 64)) }
     ensures { Takes control words reals texts out (entry_of lent.now one) clock sofar result }
 {
-    let Some(text) = part_of(one, lent) else {
-        return join(sofar, Err(Error::BadPart));
-    };
     let mut session = LentSession {
         control,
         words,
         reals,
     };
-    let answer = converter::request::handle_on(
-        &mut session,
-        texts,
-        one.object,
-        one.version,
-        one.request,
-        text,
-        clock,
-        &mut out[sofar.count..],
-    );
-    join(sofar, answer)
+    record_on(&mut session, texts, one, lent, clock, out, sofar)
 }
 
-// A whole read, on a session's slices.
+// A whole read, on a session's slices. They are lent on once: 21's test is made before the first record.
 pub fn handle_requests(
     control: &mut [u64],
     words: &mut [u64],
@@ -144,8 +162,13 @@ pub fn handle_requests(
     if sofar.refusal.is_some() {
         return sofar;
     }
+    let mut session = LentSession {
+        control,
+        words,
+        reals,
+    };
     for one in records {
-        sofar = handle_record(control, words, reals, texts, *one, lent, clock, out, sofar);
+        sofar = record_on(&mut session, texts, *one, lent, clock, out, sofar);
         if sofar.refusal.is_some() {
             return sofar;
         }
