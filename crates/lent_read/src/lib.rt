@@ -7,6 +7,7 @@ ghost use Rattle.reads.specs.Handed.{HandsOver};
 ghost use Rattle.lent_read.specs.Numbers.{record_count, records_in, are_requests};
 
 use reads::ReadAnswer;
+use session::LentSession;
 
 pub mod numbers;
 pub mod record;
@@ -55,9 +56,14 @@ pub fn handle_requests(
     if sofar.refusal.is_some() {
         return sofar;
     }
+    let mut session = LentSession {
+        control,
+        words,
+        reals,
+    };
     for i in 0..record_count(records, points) {
         let one = record::record_at(records, points, i);
-        sofar = reads::handle_record(control, words, reals, texts, one, lent, clock, out, sofar);
+        sofar = reads::record_on(&mut session, texts, one, lent, clock, out, sofar);
         if sofar.refusal.is_some() {
             return sofar;
         }

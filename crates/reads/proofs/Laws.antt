@@ -7,11 +7,14 @@ use mathlib.Core.List.{List, [], ◌∷◌, map, ◌++◌, append_assoc}
 use native.Mathlib.Omega.{arith}
 use native.Mathlib.Nat.{zero-add, add-zero, add_assoc}
 use native.Mathlib.Numerals.{add-one}
+use lib.Ieee.{Float}
 use lib.ListN.{length, take, drop, get_or, length-map, length-append, take-append-drop, drop_of_length-le, get_or-map}
 use lib.Seq.{drop-cons, drop_at, drop-drop, take-append-add, length-take-le}
 use Rattle.model.specs.Call.{Input, Call}
 use Rattle.model_reads.specs.Read.{Entry}
-use Rattle.session.specs.View.{Store, is_whole, Lending}
+use Rattle.session.specs.declared.LentSession.{LentSession}
+use Rattle.session.specs.View.{Store, store, is_whole, Lending}
+use Rattle.session.specs.Loan.{store_of}
 use Rattle.session.proofs.Views.{whole_is}
 use Rattle.answers.specs.declared.Error.{Error}
 use Rattle.answers.specs.declared.Answer.{Answer}
@@ -217,3 +220,9 @@ module _ (s₀ : Store) (out₀ : List ℕ) (rs : List RequestRecord) (lent : Li
       let here = entry_at lent rs b.accepted x (omega (arith, there, l)) (rw there is) in
       let next = tried_on s₀ out₀ entries clock e f out later b d (h.handled w) none (entry_of lent x) here t in
       (record { damaged = λ y. absurd (false≢true (sym y ∙ w)); handled = λ _. next.0 }, λ n. next.1 n ∙ ap (λ (k : ℕ). k + 1) there)
+
+-- what was lent on holds what the caller's slices hold then
+pub handed-back : {s : Store} {d v t : List ℕ} {p : List Float} {out later : List ℕ} {es : List (Entry (Call Input))} {clock : ℕ} {r : ReadAnswer} (e : LentSession)
+    → d ≡ e.control.now → v ≡ e.words.now → p ≡ e.reals.now
+    → Handed s (store_of e t) out later es clock r → Handed s (store d v p t) out later es clock r
+handed-back e is_control is_words is_reals h = rw (is_control, is_words, is_reals) h

@@ -92,8 +92,9 @@ fn join(sofar: ReadAnswer, answer: Result<Answer, Error>) -> ReadAnswer
     }
 }
 
-// One record, behind those that were accepted: its request on the lent session, with what is left of `out`.
-fn record_on(
+// One record, behind those that were accepted: its request on the lent session, with what is left of `out`. For a caller that lends a session once
+// for all records of a read.
+pub fn record_on(
     session: &mut LentSession<'_, '_, '_>,
     texts: &mut [u8],
     one: RequestRecord,

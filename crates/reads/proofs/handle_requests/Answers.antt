@@ -1,23 +1,12 @@
 -- One record after another, up to the first that is refused, all on the session that is lent on. Assumes nothing.
-use Rattle.std.proofs.Common.{◌≡◌, ℕ, List, Float, sym, ◌∙◌, map, length, arith}
+use Rattle.std.proofs.Common.{◌≡◌, sym, ◌∙◌, map, length, arith}
 use Rattle.std.proofs.lemmas.List.{length-map, get_or_default}
-use Rattle.model.specs.Call.{Input, Call}
-use Rattle.model_reads.specs.Read.{Entry}
-use Rattle.session.specs.declared.LentSession.{LentSession}
-use Rattle.session.specs.View.{Store, store}
+use Rattle.session.specs.View.{store}
 use Rattle.session.specs.Loan.{store_of}
 use Rattle.session.proofs.Views.{whole_parts, lent-part}
-use Rattle.reads.specs.declared.ReadAnswer.{ReadAnswer}
 use Rattle.reads.specs.Record.{entry_of}
-use Rattle.reads.specs.Handed.{Handed}
-use Rattle.reads.proofs.Laws.{goes, begun, not-damaged, ready, again, finished, ended_early}
+use Rattle.reads.proofs.Laws.{goes, begun, not-damaged, ready, again, finished, ended_early, handed-back}
 use Rattle.reads.proofs.handle_requests.Goals as goal
-
--- what was lent on holds what the caller's slices hold then
-handed-back : {s : Store} {d v t : List ℕ} {p : List Float} {out later : List ℕ} {es : List (Entry (Call Input))} {clock : ℕ} {r : ReadAnswer} (e : LentSession)
-    → d ≡ e.control.now → v ≡ e.words.now → p ≡ e.reals.now
-    → Handed s (store_of e t) out later es clock r → Handed s (store d v p t) out later es clock r
-handed-back e is_control is_words is_reals h = rw (is_control, is_words, is_reals) h
 
 pub invariant_of-session : goal.invariant_of-session
 invariant_of-session c =
