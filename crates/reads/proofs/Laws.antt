@@ -13,9 +13,9 @@ use lib.Seq.{drop-cons, drop_at, drop-drop, take-append-add, length-take-le}
 use Rattle.model.specs.Call.{Input, Call}
 use Rattle.model_reads.specs.Read.{Entry}
 use Rattle.session.specs.declared.LentSession.{LentSession}
-use Rattle.session.specs.View.{Store, store, is_whole, Lending}
+use Rattle.session.specs.View.{Store, store, is_whole, Whole, Lending}
 use Rattle.session.specs.Loan.{store_of}
-use Rattle.session.proofs.Views.{whole_is}
+use Rattle.session.proofs.Views.{whole_is, whole_parts}
 use Rattle.answers.specs.declared.Error.{Error}
 use Rattle.answers.specs.declared.Answer.{Answer}
 use Rattle.answers.specs.Meets.{Answered}
@@ -82,12 +82,18 @@ module _ (s₀ : Store) (out₀ : List ℕ) (es : List (Entry (Call Input))) (cl
   none_tried e b (told, is) = ap (λ (r : ReadAnswer). r.accepted) told ∙ opened-accepted (is_whole s₀)
 
   -- a read that is not refused is of a session that is not damaged
-  pub not-damaged : (e : Store) (out : List ℕ) (b : ReadAnswer) → SoFar e out b → b.refusal ≡ None → is_whole s₀ ≡ true
+  not-damaged : (e : Store) (out : List ℕ) (b : ReadAnswer) → SoFar e out b → b.refusal ≡ None → is_whole s₀ ≡ true
   not-damaged e out b h n = by_test (is_whole s₀) refl
     where
       by_test : (y : Bool) → is_whole s₀ ≡ y → is_whole s₀ ≡ true
       by_test true y = y
       by_test false y = absurd (false≢true (ap is_some (sym n ∙ ap (λ (z : ReadAnswer). z.refusal) (h.damaged y).0)))
+
+  -- as it begins it may be lent on
+  pub lendable : (e : Store) (b : ReadAnswer) → (b ≡ opened (is_whole s₀)) × (e ≡ s₀) → refused b ≡ false → Whole e
+  lendable e b told none =
+      let h = begun e b told in
+      whole_parts e (h.handled (not-damaged e out₀ b h (goes b none))).whole
 
   -- one more record may be tried
   pub ready : (e : Store) (out : List ℕ) (b : ReadAnswer) → SoFar e out b → b.refusal ≡ None → b.accepted < length es → length es < 2 ^ 64

@@ -5,20 +5,19 @@ use Rattle.session.specs.View.{store}
 use Rattle.session.specs.Loan.{store_of}
 use Rattle.session.proofs.Views.{whole_parts, lent-part}
 use Rattle.reads.specs.Record.{entry_of}
-use Rattle.reads.proofs.Laws.{goes, begun, not-damaged, ready, again, finished, ended_early, handed-back}
+use Rattle.reads.proofs.Laws.{goes, lendable, ready, again, finished, ended_early, handed-back}
 use Rattle.reads.proofs.handle_requests.Goals as goal
 
 pub invariant_of-session : goal.invariant_of-session
 invariant_of-session c =
     let a = c.args in
     let n = c.begin-sofar.new in
-    let s = store a.control.now a.words.now a.reals.now a.texts.now in
     let e = store n.control n.words n.reals n.texts in
-    let es = map (entry_of a.lent.now) a.records.now in
-    let r = c.begin-sofar.result in
-    let h = begun s a.out.now es a.clock e r c.begin-sofar.ensures in
-    let w = not-damaged s a.out.now es a.clock e a.out.now r h (goes r (sym c.is_some.ensures ∙ c.if-is_some.false)) in
-    record { lent = lent-part e (whole_parts e (h.handled w).whole) }
+    record {
+      lent = lent-part e
+          (lendable (store a.control.now a.words.now a.reals.now a.texts.now) a.out.now (map (entry_of a.lent.now) a.records.now) a.clock
+          e c.begin-sofar.result c.begin-sofar.ensures (sym c.is_some.ensures ∙ c.if-is_some.false));
+    }
 
 pub record_on-sofar-requires : goal.record_on-sofar-requires
 record_on-sofar-requires c =
